@@ -1,0 +1,41 @@
+-- worked examples
+pub mod Examples
+pub mod Bytes
+pub mod Residuals
+pub mod TableBits
+pub mod LeastSpellings
+pub mod HeaderBits
+pub mod Lawful
+pub mod Predictions
+pub mod Codes
+pub mod Refusals
+pub mod Beginnings
+pub mod Tails
+pub mod Spellings
+pub mod Certain
+pub mod Frames
+pub mod WholeFrames
+-- numbers, residuals, intervals
+pub mod Each
+pub mod Numbers
+pub mod Rices
+pub mod Intervals
+-- fields: what is spelled is read, and what is read is spelled
+pub mod Reading
+pub mod Tables
+pub mod Headers
+pub mod Taking
+pub mod TakingMaps
+pub mod TakingTables
+pub mod Found
+pub mod Together
+-- what a spelling means, and that a frame means one sound or offends
+pub mod Probabilities
+pub mod SpelledHeader
+pub mod SpelledBits
+pub mod Spelling
+pub mod Meaning
+pub mod Causal
+pub mod Decoding
+pub mod Unique
+pub mod Understood

@@ -1,0 +1,5 @@
+use Rattle.dst_spec.proofs.Unique.{tail_law as law}
+use Rattle.dst_spec.proofs.laws.tail_law.Goals as goal
+
+pub returns : goal.returns
+returns c = law

@@ -1,0 +1,15 @@
+pub mod Bits
+pub mod Sample
+pub mod Rice
+pub mod Table
+pub mod Map
+pub mod Header
+pub mod Guess
+pub mod Symbols
+pub mod Interval
+pub mod Means
+pub mod Fields
+pub mod Offends
+pub mod Spell
+pub mod Laws
+pub mod Reasons
