@@ -1,0 +1,190 @@
+-- Words and a file have one outcome.
+use Rattle.std.proofs.Common.{◌≡◌, ◌⊎◌, inl, inr, ℕ, zero, suc, ◌+◌, ◌<◌, Bool, true, false, if◌then◌else◌, List, [], ◌∷◌, ◌++◌, length, take, drop, get_or, refl, ap, sym, subst, ◌∙◌, arith, length-append, take_at, take-append-drop, Option, Some, None}
+use Rattle.std.specs.List.{AllByRecursion, enumerate_from}
+use Rattle.std.proofs.lemmas.List.{get_or_at, get_or_default}
+use Rattle.std.proofs.lemmas.List.FromFn.{length-enumerate_from, get_or-enumerate_from}
+use Rattle.std.proofs.Math.Seq.{drop-cons}
+use Rattle.dst_spec.specs.Bits.{AreBytes}
+use Rattle.dst_spec.specs.Sample.{Shape, IsShape}
+use Rattle.dst_spec.specs.declared.faults.FrameFault.{FrameFault}
+use Rattle.dsdiff_spec.specs.Faults.{first_some}
+use Rattle.dsdiff_spec.specs.Form.{Form, shape, size_of_sound}
+use Rattle.dsdiff_spec.specs.Rules.{accepted}
+use Rattle.dsdiff_spec.specs.Decoded.{Plain, Before, frames_of, decoded, decoded_before_frame}
+use Rattle.dsdiff_spec.specs.Words.{Word, Command, decode}
+use Rattle.dsdiff_spec.specs.Rows.{Row, rows, command_of}
+use Rattle.dsdiff_spec.specs.Refusal.{refusal}
+use Rattle.dsdiff_spec.specs.Lines.{decoded_line}
+use Rattle.dsdiff_spec.specs.Outcome.{Answer, done, not_understood, file_refused, frame_refused, Refuses, NoneRefused, IsStopped, IsDone, OfCommand, OfWords}
+use Rattle.dsdiff_spec.specs.Laws.{OneOutcomeLaw}
+use Rattle.dsdiff_spec.specs.declared.faults.FileFault.{FileFault}
+use Rattle.dsdiff_spec.proofs.CodedFiles.{is_decodable, frames_are_bytes}
+use Rattle.dsdiff_spec.proofs.Verdicts.{NotRefused, IsAnswered, frame_is_answered, AreAnswered, NoneOf, StopsAt, verdict, all_taken, one_of_all, one_list, one_stop, one_fault}
+
+-- ---- the run of a command has each frame with its number
+pub none_of_numbered : (c : Command) (form : Form) (n : ℕ) (frames : List (List ℕ)) → NoneRefused c form (enumerate_from n frames) → NoneOf c (shape form) frames
+none_of_numbered c form n [] h = tt
+none_of_numbered c form n (x ∷ xs) h = (h.0, none_of_numbered c form (n + 1) xs h.1)
+
+pub none_numbered : (c : Command) (form : Form) (n : ℕ) (frames : List (List ℕ)) → NoneOf c (shape form) frames → NoneRefused c form (enumerate_from n frames)
+none_numbered c form n [] h = tt
+none_numbered c form n (x ∷ xs) h = (h.0, none_numbered c form (n + 1) xs h.1)
+
+take-numbered : (k n : ℕ) (frames : List (List ℕ)) → take k (enumerate_from n frames) ≡ enumerate_from n (take k frames)
+take-numbered zero n frames = refl
+take-numbered (suc k) n [] = refl
+take-numbered (suc k) n (x ∷ xs) = ap {A = List (ℕ × List ℕ)} (λ rest. (n, x) ∷ rest) (take-numbered k (n + 1) xs)
+
+-- the first frame that is refused, by its number
+pub record IsStoppedAt (workers : ℕ) (file : List ℕ) (form : Form) (o : Answer) : Type 0 where
+  pub k : ℕ
+  pub fault : FrameFault
+  pub stops : StopsAt (decode workers) (shape form) (frames_of file form) k fault
+  pub out : List ℕ
+  pub written : Before file form k out
+  pub answer : o ≡ frame_refused k fault out
+
+number_of_stop : (n : ℕ) (frames : List (List ℕ)) (before : List (ℕ × List ℕ)) (stop : ℕ × List ℕ) (behind : List (ℕ × List ℕ)) → enumerate_from n frames ≡ before ++ stop ∷ behind →
+    (length before < length frames) × (stop.0 ≡ n + length before) × (stop.1 ≡ get_or frames (length before) [])
+number_of_stop n frames before stop behind e =
+    let k = length before in
+    let long : length frames ≡ length before + length (stop ∷ behind) = sym (length-enumerate_from n frames) ∙ ap length e ∙ length-append before (stop ∷ behind) in
+    let within : k < length frames = omega arith in
+    let there : get_or (enumerate_from n frames) k stop ≡ stop = ap (λ l. get_or l k stop) e ∙ get_or_at before stop behind stop k refl in
+    let here : (n + k, get_or frames k stop.1) ≡ stop = sym (get_or-enumerate_from n frames k stop within) ∙ there in
+    (within, sym (ap (λ p. p.0) here), sym (ap (λ p. p.1) here) ∙ get_or_default frames k stop.1 [] within)
+
+pub to_number : (workers : ℕ) (file : List ℕ) (form : Form) (o : Answer) → IsStopped (decode workers) file form o → IsStoppedAt workers file form o
+to_number workers file form o s =
+    let frames = frames_of file form in
+    let k = length s.before in
+    let at = number_of_stop 0 frames s.before s.stop s.behind s.is_run in
+    let number : s.stop.0 ≡ k = omega (arith, at.1) in
+    let front : s.before ≡ enumerate_from 0 (take k frames) = sym (take_at s.before (s.stop ∷ s.behind) k refl) ∙ ap (take k) (sym s.is_run) ∙ take-numbered k 0 frames in
+    record {
+      k = k;
+      fault = s.fault;
+      stops = record {
+        within = at.0;
+        first = none_of_numbered (decode workers) form 0 (take k frames) (subst (NoneRefused (decode workers) form) front s.first);
+        refuses = subst (λ frame. Refuses (decode workers) (shape form) frame s.fault) at.2 s.refuses;
+      };
+      out = s.out;
+      written = subst (λ i. Before file form i s.out) number s.written;
+      answer = s.answer ∙ ap (λ i. frame_refused i s.fault s.out) number;
+    }
+
+pub by_number : (workers : ℕ) (file : List ℕ) (form : Form) (o : Answer) → IsStoppedAt workers file form o → IsStopped (decode workers) file form o
+by_number workers file form o s =
+    let frames = frames_of file form in
+    let k = s.k in
+    let all = enumerate_from 0 frames in
+    let within : k < length all = omega (arith, s.stops.within, length-enumerate_from 0 frames) in
+    let here : get_or all k (0, []) ≡ (k, get_or frames k []) = get_or-enumerate_from 0 frames k (0, []) s.stops.within ∙ ap {B = ℕ × List ℕ} (λ i. (i, get_or frames k [])) (omega arith) in
+    record {
+      before = take k all;
+      stop = (k, get_or frames k []);
+      behind = drop (suc k) all;
+      is_run = sym (take-append-drop k all) ∙ ap (λ l. take k all ++ l) (drop-cons all k (0, []) within ∙ ap (λ p. p ∷ drop (suc k) all) here);
+      fault = s.fault;
+      refuses = s.stops.refuses;
+      first = subst (NoneRefused (decode workers) form) (sym (take-numbered k 0 frames)) (none_numbered (decode workers) form 0 (take k frames) s.stops.first);
+      out = s.out;
+      written = s.written;
+      answer = s.answer;
+    }
+
+-- ---- what is written in front of a frame is one list of bytes, and so is what is written of all frames
+pub one_before : (workers : ℕ) (file : List ℕ) (form : Form) (k : ℕ) (out other : List ℕ) → AreAnswered (decode workers) (shape form) (frames_of file form) →
+    NoneOf (decode workers) (shape form) (take k (frames_of file form)) → Before file form k out → Before file form k other → out ≡ other
+one_before workers file form k out other answered none a b =
+    let frames = take k (frames_of file form) in
+    let same = one_list (decode workers) (shape form) frames a.sounds b.sounds (all_taken (IsAnswered (decode workers) (shape form)) k (frames_of file form) answered) none a.each b.each in
+    a.written ∙ ap (λ sounds. decoded_before_frame sounds file form) same ∙ sym b.written
+
+pub one_plain : (workers : ℕ) (file : List ℕ) (form : Form) (out other : List ℕ) → AreAnswered (decode workers) (shape form) (frames_of file form) →
+    NoneOf (decode workers) (shape form) (frames_of file form) → Plain file form out → Plain file form other → out ≡ other
+one_plain workers file form out other answered none a b =
+    let same = one_list (decode workers) (shape form) (frames_of file form) a.sounds b.sounds answered none a.each b.each in
+    a.written ∙ ap (λ sounds. decoded sounds file form) same ∙ sym b.written
+
+-- ---- of an accepted file
+abbrev pub One : (Answer → Type 0) → Type 0
+One P = (o : Answer) × P o × ((other : Answer) → P other → other ≡ o)
+
+abbrev IsOutcome : ℕ → List ℕ → Form → Answer → Type 0
+IsOutcome workers file form o = IsStopped (decode workers) file form o ⊎ IsDone (decode workers) file form o
+
+same_stop : (workers : ℕ) (file : List ℕ) (form : Form) (a b : Answer) → AreAnswered (decode workers) (shape form) (frames_of file form) →
+    IsStoppedAt workers file form a → IsStoppedAt workers file form b → a ≡ b
+same_stop workers file form a b answered s t =
+    let c = decode workers in
+    let f = shape form in
+    let frames = frames_of file form in
+    let number = one_stop c f frames s.k t.k s.fault t.fault s.stops t.stops in
+    let moved = subst (λ k. StopsAt c f frames k s.fault) number s.stops in
+    let fault = one_fault c f (get_or frames t.k []) s.fault t.fault (one_of_all (IsAnswered c f) frames t.k [] answered t.stops.within) moved.refuses t.stops.refuses in
+    let out = one_before workers file form t.k s.out t.out answered t.stops.first (subst (λ k. Before file form k s.out) number s.written) t.written in
+    s.answer
+    ∙ ap (λ k. frame_refused k s.fault s.out) number
+    ∙ ap (λ fault. frame_refused t.k fault s.out) fault
+    ∙ ap (λ out. frame_refused t.k t.fault out) out
+    ∙ sym t.answer
+
+never_both : (workers : ℕ) (file : List ℕ) (form : Form) (o : Answer) → IsStoppedAt workers file form o → NoneOf (decode workers) (shape form) (frames_of file form) → ⊥
+never_both workers file form o s none = one_of_all (NotRefused (decode workers) (shape form)) (frames_of file form) s.k [] none s.stops.within s.fault s.stops.refuses
+
+one_outcome_of_form : (workers : ℕ) (file : List ℕ) (form : Form) (a b : Answer) → AreAnswered (decode workers) (shape form) (frames_of file form) →
+    IsOutcome workers file form a → IsOutcome workers file form b → a ≡ b
+one_outcome_of_form workers file form a b answered (inl s) (inl t) = same_stop workers file form a b answered (to_number workers file form a s) (to_number workers file form b t)
+one_outcome_of_form workers file form a b answered (inl s) (inr t) = absurd (never_both workers file form a (to_number workers file form a s) (none_of_numbered (decode workers) form 0 (frames_of file form) t.0))
+one_outcome_of_form workers file form a b answered (inr s) (inl t) = absurd (never_both workers file form b (to_number workers file form b t) (none_of_numbered (decode workers) form 0 (frames_of file form) s.0))
+one_outcome_of_form workers file form a b answered (inr s) (inr t) =
+    let none = none_of_numbered (decode workers) form 0 (frames_of file form) s.0 in
+    let out = one_plain workers file form s.1 t.1 answered none s.2 t.2 in
+    s.3 ∙ ap (λ out. done out (decoded_line form.frames (size_of_sound form) ∷ [])) out ∙ sym t.3
+
+some_outcome : (workers : ℕ) (file : List ℕ) (form : Form) → AreAnswered (decode workers) (shape form) (frames_of file form) → (o : Answer) × IsOutcome workers file form o
+some_outcome workers file form answered = elim (verdict (decode workers) (shape form) (frames_of file form) answered) [
+  | inl s ↦
+      let out = decoded_before_frame s.sounds file form in
+      let o = frame_refused s.k s.fault out in
+      (o, inl (by_number workers file form o (record { k = s.k; fault = s.fault; stops = s.stops; out = out; written = record { sounds = s.sounds; each = s.each; written = refl }; answer = refl })))
+  | inr g ↦
+      let out = decoded g.sounds file form in
+      (done out (decoded_line form.frames (size_of_sound form) ∷ []), inr (none_numbered (decode workers) form 0 (frames_of file form) g.none, out, record { sounds = g.sounds; each = g.each; written = refl }, refl))
+]
+
+all_answered : (c : Command) (f : Shape) (frames : List (List ℕ)) → IsShape f → AllByRecursion AreBytes frames → AreAnswered c f frames
+all_answered c f [] shape h = tt
+all_answered c f (x ∷ xs) shape h = (frame_is_answered c f x shape h.0, all_answered c f xs shape h.1)
+
+pub frames_are_answered : (workers : ℕ) (file : List ℕ) → AreBytes file → refusal (decode workers) file ≡ None → AreAnswered (decode workers) (shape (accepted file)) (frames_of file (accepted file))
+frames_are_answered workers file bytes h = all_answered (decode workers) (shape (accepted file)) (frames_of file (accepted file)) (is_decodable workers file h).shape (frames_are_bytes file (accepted file) bytes)
+
+pub decoding_has_one_outcome : (workers : ℕ) (file : List ℕ) → AreBytes file → One (OfCommand (decode workers) file (refusal (decode workers) file))
+decoding_has_one_outcome workers file bytes = go (refusal (decode workers) file) refl
+  where
+    go : (r : Option FileFault) → refusal (decode workers) file ≡ r → One (OfCommand (decode workers) file r)
+    go (Some fault) e = (file_refused fault, refl, λ other o. o)
+    go None e =
+        let answered = frames_are_answered workers file bytes e in
+        let o = some_outcome workers file (accepted file) answered in
+        (o.0, o.1, λ other p. one_outcome_of_form workers file (accepted file) other o.0 answered p o.1)
+
+-- ---- of words
+only_decode : (words : List Word) (c : Command) → command_of words ≡ Some c → c ≡ decode 1
+unfolding command_of
+only_decode [] c e = absurd cc
+only_decode (name ∷ words) c e = go _ e
+  where
+    go : (b : Bool) → first_some (λ (row : Row). if b then Some row.command else None) rows ≡ Some c → c ≡ decode 1
+    go true e = cc
+    go false e = absurd cc
+
+pub one_outcome : OneOutcomeLaw
+one_outcome words file bytes = go (command_of words) refl
+  where
+    go : (r : Option Command) → command_of words ≡ r → One (OfWords r file)
+    go None e = (not_understood, refl, λ other o. o)
+    go (Some c) e = subst (λ c. One (OfCommand c file (refusal c file))) (sym (only_decode words c e)) (decoding_has_one_outcome 1 file bytes)

@@ -1,0 +1,90 @@
+-- The laws of files, as statements.
+use Rattle.std.specs.Prelude.{◌≡◌, ℕ, ◌+◌, ◌-◌, ◌<◌, ◌≤◌, Bool, List, ◌∷◌, ◌++◌, length, take, drop, Some, None}
+use Rattle.std.specs.List.{AllByRecursion}
+use Rattle.dst_spec.specs.Bits.{AreBytes}
+use Rattle.dst_spec.specs.Sample.{Shape}
+use Rattle.dst_spec.specs.Header.{IsParams}
+use Rattle.dsdiff_spec.specs.Rules.{accepted}
+use Rattle.dsdiff_spec.specs.Walk.{index_heads, compare_fault}
+use Rattle.dsdiff_spec.specs.Coded.{Picks, stored_frames, coded}
+use Rattle.dsdiff_spec.specs.Decoded.{Plain, frames_of}
+use Rattle.dsdiff_spec.specs.Cut as cutting
+use Rattle.dsdiff_spec.specs.Dsf.{dsf_fault, dsdiff, ToDsf, bare}
+use Rattle.dsdiff_spec.specs.Words.{Word, Command, encode, decode, cut, frame}
+use Rattle.dsdiff_spec.specs.Rows.{Row, rows, row_command}
+use Rattle.dsdiff_spec.specs.Refusal.{refusal}
+use Rattle.dsdiff_spec.specs.Outcome.{Answer, Outcome}
+
+-- a file that a command accepts
+abbrev pub IsAccepted : Command → List ℕ → Type 0
+IsAccepted c file = AreBytes file × (refusal c file ≡ None)
+
+abbrev pub IsPlainFile : List ℕ → Type 0
+IsPlainFile file = IsAccepted (encode 1 1) file
+
+abbrev pub IsCodedFile : List ℕ → Type 0
+IsCodedFile file = IsAccepted (decode 1) file
+
+-- an encoder tries at most eight parameters for a sound, and each is lawful for its channels
+abbrev pub ArePicks : Picks → Type 0
+ArePicks picks =
+    (sound : List ℕ) (f : Shape) → (length (picks sound f) ≤ 8) × AllByRecursion (IsParams f.channels) (picks sound f)
+
+abbrev pub coded_file : Picks → List ℕ → List ℕ
+coded_file picks file = coded picks file (accepted file)
+
+-- What encoding writes is accepted for decoding, and each frame of it for writing its sound, by the walk and by the
+-- index. Its frames are the stored ones, and its one index is its walk.
+abbrev pub FrameIsAccepted : List ℕ → ℕ → Type 0
+FrameIsAccepted file k = (b : Bool) → IsAccepted (frame k b) file
+
+abbrev pub HasIndexOfWalk : List ℕ → Type 0
+HasIndexOfWalk file = (length (index_heads (accepted file)) ≡ 1) × (compare_fault file (accepted file) ≡ None)
+
+abbrev pub AcceptanceLaw : Type 0
+AcceptanceLaw =
+    (file : List ℕ) (picks : Picks) → IsPlainFile file → ArePicks picks →
+    IsCodedFile (coded_file picks file)
+    × ((k : ℕ) → k < (accepted file).frames → FrameIsAccepted (coded_file picks file) k)
+    × (frames_of (coded_file picks file) (accepted (coded_file picks file)) ≡ stored_frames picks file (accepted file))
+    × HasIndexOfWalk (coded_file picks file)
+
+-- it is decoded to one file, the one that was encoded
+abbrev pub IsDecodedTo : List ℕ → List ℕ → Type 0
+IsDecodedTo file out = Plain file (accepted file) out
+
+abbrev pub RestoringLaw : Type 0
+RestoringLaw =
+    (file : List ℕ) (picks : Picks) → IsPlainFile file → ArePicks picks →
+    IsDecodedTo (coded_file picks file) file
+    × ((other : List ℕ) → IsDecodedTo (coded_file picks file) other → other ≡ file)
+
+-- what cutting writes is accepted for decoding, and its frames are those that were asked for
+abbrev pub cut_file : List ℕ → ℕ → ℕ → List ℕ
+cut_file file first last = cutting.cut file (accepted file) first last
+
+abbrev pub CuttingLaw : Type 0
+CuttingLaw =
+    (file : List ℕ) (first last : ℕ) → first ≤ last → IsAccepted (cut first last) file →
+    IsCodedFile (cut_file file first last)
+    × (frames_of (cut_file file first last) (accepted (cut_file file first last))
+    ≡ take (last + 1 - first) (drop first (frames_of file (accepted file))))
+
+-- what encoding writes of a DSF file is decoded to one DSF file, the same with its sound alone
+abbrev pub DsfLaw : Type 0
+DsfLaw =
+    (f : List ℕ) (picks : Picks) → AreBytes f → dsf_fault f ≡ None → ArePicks picks →
+    ToDsf (coded_file picks (dsdiff f)) (accepted (coded_file picks (dsdiff f))) (bare f)
+    × ((other : List ℕ) → ToDsf (coded_file picks (dsdiff f)) (accepted (coded_file picks (dsdiff f))) other → other ≡ bare f)
+
+-- no words have two rows
+abbrev pub OneRowLaw : Type 0
+OneRowLaw =
+    (words : List Word) (before between behind : List Row) (r s : Row) (c d : Command) →
+    rows ≡ before ++ r ∷ between ++ s ∷ behind → row_command words r ≡ Some c → row_command words s ≡ Some d → ⊥
+
+-- words and a file have one outcome
+abbrev pub OneOutcomeLaw : Type 0
+OneOutcomeLaw =
+    (words : List Word) (file : List ℕ) → AreBytes file →
+    (o : Answer) × Outcome words file o × ((other : Answer) → Outcome words file other → other ≡ o)
