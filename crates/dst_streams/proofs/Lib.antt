@@ -1,0 +1,4 @@
+pub mod Counts
+pub mod Examples
+pub mod Parts
+pub mod Told

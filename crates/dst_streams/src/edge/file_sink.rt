@@ -1,0 +1,99 @@
+// A real file that is made.
+ghost use Rattle.std.specs.Prelude.{◌≡◌, ◌≤◌, None};
+
+use crate::{Failed, Sink};
+use std::fs::File;
+use std::io::{Seek, SeekFrom, Write};
+use std::rt::Files;
+
+/// A file that is made at the first call. It tells no bytes, and has no sure room.
+///
+/// A file that exists already is a failure.
+#[derive(Drop)]
+pub struct FileSink<'p, R: Files> {
+    rt: &'p R,
+    path: &'p str,
+    file: Option<R::File>,
+    appended: u64,
+    faults: u64,
+}
+
+impl<'p, R: Files> FileSink<'p, R> {
+    pub fn new(rt: &'p R, path: &'p str) -> FileSink<'p, R>
+        ensures written { ⟦<FileSink<'p, R> as Sink>⟧.written result ≡ None }
+        ensures appended { ⟦<FileSink<'p, R> as Sink>⟧.appended result ≡ 0 }
+        ensures faults { ⟦<FileSink<'p, R> as Sink>⟧.faults result ≡ 0 }
+        ensures room { ⟦<FileSink<'p, R> as Sink>⟧.room result ≡ None }
+    {
+        FileSink {
+            rt,
+            path,
+            file: None,
+            appended: 0,
+            faults: 0,
+        }
+    }
+}
+
+// Makes the file where it isn't made, and writes the whole piece where `to` says.
+fn write_there<R: Files>(
+    rt: &R,
+    path: &str,
+    file: &mut Option<R::File>,
+    to: SeekFrom,
+    piece: &[u8],
+) -> Option<()> {
+    if file.is_none() {
+        *file = File::create_new(rt, path).ok();
+    }
+    let file = file.as_mut()?;
+    file.seek(to).ok()?;
+    file.write_all(piece).ok()
+}
+
+impl<'p, R: Files> Sink for FileSink<'p, R> {
+    ghost written = { λ _. None };
+
+    ghost appended = { λ s. s.appended };
+
+    ghost faults = { λ s. s.faults };
+
+    ghost room = { λ _. None };
+
+    ghost use Rattle.dst_streams.specs.Laws.{le_of_untold};
+
+    ghost appended_within = { λ s xs told. le_of_untold s.appended xs told };
+
+    fn append(&mut self, piece: &[u8]) -> Result<(), Failed> {
+        if let Some(after) = self.appended.checked_add(piece.len() as u64) {
+            if let Some(()) = write_there(
+                self.rt,
+                self.path,
+                &mut self.file,
+                SeekFrom::End(0),
+                piece,
+            ) {
+                self.appended = after;
+                return Ok(());
+            }
+        }
+        self.faults = self.faults.saturating_add(1);
+        Err(Failed)
+    }
+
+    fn overwrite(&mut self, place: u64, piece: &[u8]) -> Result<(), Failed> {
+        match write_there(
+            self.rt,
+            self.path,
+            &mut self.file,
+            SeekFrom::Start(place),
+            piece,
+        ) {
+            Some(()) => Ok(()),
+            None => {
+                self.faults = self.faults.saturating_add(1);
+                Err(Failed)
+            }
+        }
+    }
+}

@@ -1,0 +1,29 @@
+// What a flow of bytes tells, read from its front.
+ghost use Rattle.std.specs.Prelude.{◌≡◌, ◌<◌, ◌≤◌, ℕ, List, length, take, Option, Some, IfOk};
+ghost use Rattle.std.specs.List.{AllByRecursion};
+ghost use Rattle.dst_streams.specs.Causes.{HasCause};
+ghost use Rattle.dst_streams.specs.Told.{IsZeroAtEnd, after_piece};
+
+use crate::Failed;
+
+/// Bytes that come once, in order, such as those of a pipe.
+///
+/// Its count of faults is a number of 64 bits that stops at `2^64 - 1`.
+pub trait Flow {
+    /// What is left, or None where the flow tells nothing.
+    ghost left: { Self → Option (List ℕ) };
+
+    /// How often the flow has failed.
+    ghost faults: { Self → ℕ };
+
+    /// Moves bytes from the front of what is left into the front of `out`, and answers how many: 0 exactly at the end.
+    fn next(&mut self, out: &mut [u8]) -> Result<usize, Failed>
+        requires room { 0 < length out.old }
+        ensures count { IfOk result (λ n. n ≤ length out.old) }
+        ensures moved { IfOk result (λ n. left self.old ≡ after_piece (take n out.new) (left self.new)) }
+        ensures end { IfOk result (λ n. IsZeroAtEnd (left self.old) n) }
+        ensures cause { HasCause (faults self.old) (faults self.new) result };
+
+    /// What is told is bytes.
+    ghost told_are_bytes: { (s : Self) (xs : List ℕ) → left s ≡ Some xs → AllByRecursion (λ b. b < 256) xs };
+}

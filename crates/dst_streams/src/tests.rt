@@ -1,0 +1,184 @@
+// What no clause says: which calls of a device in memory fail, and what real files and streams do.
+use super::*;
+use std::alloc::Allocator;
+use std::fs;
+use std::io::{self, BufRead, Input, Lines};
+use std::test::Fail;
+
+// A standard input that holds five bytes.
+struct Typed;
+
+impl Input for Typed {
+    type Reader = &'static [u8];
+
+    fn read_line<A: Allocator + Clone>(&self, _buf: &mut String<A>) -> io::Result<usize> {
+        Ok(0)
+    }
+
+    fn lines<A: Allocator>(&self, alloc: A) -> Lines<&'static [u8], A> {
+        self.reader().lines(alloc)
+    }
+
+    fn reader(&self) -> &'static [u8] {
+        b"typed"
+    }
+}
+
+#[test]
+fn a_source_in_memory_gives_its_pieces_and_fails_as_planned(rt: HostRuntime) -> Result<(), Fail> {
+    let bytes = [1u8, 2, 3, 4, 5];
+    let mut source = MemorySource::new(&bytes, &[3, 0], &[0, 3]);
+    let refused = source.size();
+    assert_eq!(rt; refused, Err(Failed));
+    let size = source.size();
+    assert_eq!(rt; size, Ok(5));
+    let steps: [(u64, Result<usize, Failed>, [u8; 4]); 5] = [
+        (1, Ok(3), [2, 3, 4, 0]),
+        (1, Err(Failed), [0, 0, 0, 0]),
+        (4, Ok(1), [5, 0, 0, 0]),
+        (0, Ok(1), [1, 0, 0, 0]),
+        (5, Ok(0), [0, 0, 0, 0]),
+    ];
+    for (place, answer, held) in &steps {
+        let mut out = [0u8; 4];
+        let read = source.read_at(*place, &mut out);
+        assert_eq!(rt; read, *answer, "at {place}");
+        assert_eq!(rt; out.as_slice(), held.as_slice(), "at {place}");
+    }
+    Ok(())
+}
+
+#[test]
+fn an_honest_source_gives_all_that_is_asked(rt: HostRuntime) -> Result<(), Fail> {
+    let bytes = [1u8, 2, 3, 4, 5];
+    let mut source = HonestSource::new(&bytes);
+    let mut out = [0u8; 4];
+    let size = source.size();
+    assert_eq!(rt; size, Ok(5));
+    let read = source.read_at(1, &mut out);
+    assert_eq!(rt; read, Ok(4));
+    assert_eq!(rt; out.as_slice(), [2, 3, 4, 5].as_slice());
+    Ok(())
+}
+
+#[test]
+fn a_sink_in_memory_keeps_half_of_a_refused_piece(rt: HostRuntime) -> Result<(), Fail> {
+    let mut sink = MemorySink::new(rt.alloc(), 6, &[1, 4])?;
+    let steps: [(&[u8], Result<(), Failed>, &[u8]); 4] = [
+        (&[1, 2, 3], Ok(()), &[1, 2, 3]),
+        (&[4, 5, 6], Err(Failed), &[1, 2, 3, 4]),
+        (&[7, 8, 9], Err(Failed), &[1, 2, 3, 4, 7]),
+        (&[8, 8, 9, 9], Err(Failed), &[1, 2, 3, 4, 7, 8]),
+    ];
+    for (piece, answer, held) in &steps {
+        let appended = sink.append(piece);
+        assert_eq!(rt; appended, *answer);
+        assert_eq!(rt; sink.written(), *held);
+    }
+    let refused = sink.overwrite(0, &[]);
+    assert_eq!(rt; refused, Err(Failed));
+    let mut sure = MemorySink::new(rt.alloc(), 3, &[])?;
+    sure.append(&[1, 2, 3])?;
+    sure.overwrite(1, &[9])?;
+    assert_eq!(rt; sure.written(), [1, 9, 3].as_slice());
+    Ok(())
+}
+
+#[test]
+fn a_short_sink_keeps_its_prefix_and_then_fails(rt: HostRuntime) -> Result<(), Fail> {
+    let mut sink = ShortFlowSink::new(4);
+    sink.append(&[1, 2, 3])?;
+    sink.overwrite(0, &[9])?;
+    let cut = sink.append(&[4, 5]);
+    assert_eq!(rt; cut, Err(Failed));
+    assert_eq!(rt; sink.written(), [9, 2, 3, 4].as_slice());
+    let after = (sink.append(&[]), sink.overwrite(1, &[8]));
+    assert_eq!(rt; after, (Err(Failed), Err(Failed)));
+    assert_eq!(rt; sink.written(), [9, 2, 3, 4].as_slice());
+    Ok(())
+}
+
+#[test]
+fn a_flow_in_memory_moves_its_pieces(rt: HostRuntime) -> Result<(), Fail> {
+    let bytes = [1u8, 2, 3, 4, 5, 6];
+    let mut flow = MemoryFlow::new(&bytes, &[2, 0], &[2]);
+    let steps: [(Result<usize, Failed>, [u8; 3]); 6] = [
+        (Ok(2), [1, 2, 0]),
+        (Ok(1), [3, 0, 0]),
+        (Err(Failed), [0, 0, 0]),
+        (Ok(1), [4, 0, 0]),
+        (Ok(2), [5, 6, 0]),
+        (Ok(0), [0, 0, 0]),
+    ];
+    for (answer, held) in &steps {
+        let mut out = [0u8; 3];
+        let moved = flow.next(&mut out);
+        assert_eq!(rt; moved, *answer);
+        assert_eq!(rt; out.as_slice(), held.as_slice());
+    }
+    Ok(())
+}
+
+#[test]
+fn a_file_is_made_where_there_is_none(rt: HostRuntime) -> Result<(), Fail> {
+    let _ = fs::remove_file(&rt, "made.bin");
+    let mut made = FileSink::new(&rt, "made.bin");
+    made.append(b"seven ")?;
+    made.append(b"b")?;
+    made.overwrite(1, b"EV")?;
+    let mut again = FileSink::new(&rt, "made.bin");
+    let refused = again.append(b"x");
+    let held = fs::read(&rt, "made.bin")?;
+    fs::remove_file(&rt, "made.bin")?;
+    assert_eq!(rt; refused, Err(Failed));
+    assert_eq!(rt; held.as_slice(), b"sEVen b".as_slice());
+    Ok(())
+}
+
+#[test]
+fn a_file_is_read_as_it_is(rt: HostRuntime) -> Result<(), Fail> {
+    fs::write(&rt, "read.bin", b"seven b")?;
+    let mut source = FileSource::new(&rt, "read.bin");
+    let size = source.size()?;
+    let mut out = [0u8; 6];
+    let read = source.read_at(2, &mut out)?;
+    let past = source.read_at(7, &mut [0u8; 1])?;
+    fs::remove_file(&rt, "read.bin")?;
+    let mut absent = FileSource::new(&rt, "read.bin");
+    let refused = absent.size();
+    assert_eq!(rt; (size, read, past), (7, 5, 0));
+    assert_eq!(rt; out.as_slice(), b"ven b\0".as_slice());
+    assert_eq!(rt; refused, Err(Failed));
+    Ok(())
+}
+
+#[test]
+fn standard_output_takes_text_and_no_overwriting(rt: HostRuntime) -> Result<(), Fail> {
+    let mut text = TextSink::new(&rt);
+    text.append(b"a line on standard output\n")?;
+    let refused = text.overwrite(0, b"A");
+    assert_eq!(rt; refused, Err(Failed));
+    Ok(())
+}
+
+#[test]
+fn standard_input_that_is_empty_is_at_its_end(rt: HostRuntime) -> Result<(), Fail> {
+    let mut flow = PipeFlow::new(&rt);
+    let mut out = [0u8; 4];
+    let moved = flow.next(&mut out);
+    assert_eq!(rt; moved, Ok(0));
+    Ok(())
+}
+
+#[test]
+fn standard_input_comes_in_order_to_its_end(rt: HostRuntime) -> Result<(), Fail> {
+    let mut flow = PipeFlow::new(&Typed);
+    let steps: [(usize, [u8; 3]); 3] = [(3, *b"typ"), (2, *b"ed\0"), (0, [0; 3])];
+    for (count, held) in &steps {
+        let mut out = [0u8; 3];
+        let moved = flow.next(&mut out);
+        assert_eq!(rt; moved, Ok(*count));
+        assert_eq!(rt; out.as_slice(), held.as_slice());
+    }
+    Ok(())
+}
