@@ -1,0 +1,18 @@
+//! Values of a frame of Direct Stream Transfer (ISO/IEC 14496-3, subpart 10), each made only where its rule holds.
+//!
+//! ```text
+//! let Some(stereo) = Channels::new(2) else { return };
+//! stereo.frame_bytes(); // 9,408: a 75th of a second of two channels at 64 times 44.1 kHz
+//! ```
+#![tactic(auto)]
+
+mod channels;
+mod prob;
+mod tables;
+#[cfg(test)]
+mod tests;
+
+pub use channels::Channels;
+pub use dst_spec::{FrameFault, Reason};
+pub use prob::Prob;
+pub use tables::{FilterTable, ProbTable};

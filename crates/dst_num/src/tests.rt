@@ -1,0 +1,78 @@
+// The tables of channels and rates, of probabilities, and of filters and their entries.
+use super::*;
+use std::test::Fail;
+
+#[test]
+fn channels_give_the_bytes_of_a_frame(rt: HostRuntime) -> Result<(), Fail> {
+    let cases = [
+        (1, 1, Some((1, 1, 4704))),
+        (2, 1, Some((2, 1, 9408))),
+        (6, 4, Some((6, 4, 112_896))),
+        (5, 2, Some((5, 2, 47_040))),
+        (0, 1, None),
+        (7, 1, None),
+        (1, 0, None),
+        (1, 3, None),
+        (1, 8, None),
+    ];
+    for (count, multiple, given) in cases {
+        let told = Channels::at(count, multiple).map(|made| (
+            made.count(),
+            made.multiple(),
+            made.frame_bytes(),
+        ));
+        assert_eq!(rt; told, given, "{count} channels at multiple {multiple}");
+    }
+    assert_eq!(rt; Channels::new(6), Channels::at(6, 1));
+    assert_eq!(rt; Channels::new(7), None);
+    Ok(())
+}
+
+#[test]
+fn probabilities_are_1_to_128(rt: HostRuntime) -> Result<(), Fail> {
+    for (value, given) in [(0, false), (1, true), (128, true), (129, false)] {
+        let told = Prob::new(value).map(|made| made.value());
+        assert_eq!(rt; told, given.then_some(value), "{value}");
+    }
+    Ok(())
+}
+
+#[test]
+fn filters_have_1_to_128_coefficients_of_nine_bits(rt: HostRuntime) -> Result<(), Fail> {
+    let cases: [(&[i16], bool); 6] = [
+        (&[], false),
+        (&[-256, 255], true),
+        (&[0, -257], false),
+        (&[256], false),
+        (&[7; 128], true),
+        (&[7; 129], false),
+    ];
+    for (coefs, given) in cases {
+        match FilterTable::new(coefs) {
+            Some(table) => assert!(rt; given && table.coefs() == coefs, "{coefs:?}"),
+            None => assert!(rt; !given, "{coefs:?}"),
+        }
+    }
+    Ok(())
+}
+
+#[test]
+fn probability_tables_have_1_to_64_entries(rt: HostRuntime) -> Result<(), Fail> {
+    let cases: [(&[u8], bool); 8] = [
+        (&[], false),
+        (&[128], true),
+        (&[64], false),
+        (&[1, 128], true),
+        (&[1, 0], false),
+        (&[129, 1], false),
+        (&[9; 64], true),
+        (&[9; 65], false),
+    ];
+    for (entries, given) in cases {
+        match ProbTable::new(entries) {
+            Some(table) => assert!(rt; given && table.entries() == entries, "{entries:?}"),
+            None => assert!(rt; !given, "{entries:?}"),
+        }
+    }
+    Ok(())
+}
