@@ -1,0 +1,16 @@
+pub mod Accepted
+pub mod Chained
+pub mod Exchange
+pub mod Fields
+pub mod Pieces
+pub mod Refused
+pub mod Views
+pub mod Places
+pub mod TopLevel
+pub mod Stopping
+pub mod Extents
+pub mod Versions
+pub mod Only
+pub mod CodedParts
+pub mod Chain
+pub mod Whole

@@ -1,0 +1,85 @@
+-- What a list holds after a part of it was written.
+use Rattle.std.proofs.Common.{◌≡◌, ℕ, ◌+◌, ◌-◌, ◌<◌, ◌≤◌, List, [], ◌∷◌, ◌++◌, length, take, drop, get_or, flat_map, Option, Some, Result, IsOk, refl, ap, sym, ◌∙◌, arith}
+use Rattle.std.proofs.lemmas.Grind.{flat_map-append}
+use Rattle.std.proofs.lemmas.List.{append-nil, drop_all, drop_at, drop_more, length-append, length-take, take_at, take_more, take-append-drop, take-append-le}
+use Rattle.std.proofs.Math.Seq.{take-add}
+use Rattle.dst_streams.proofs.Told.{and_then-twice}
+use Rattle.dst_streams.specs.Told.{IsCutShort, IsSure, and_then}
+use borrow.Rule.Slice.PartMut.{put_mid}
+
+-- the part behind a front, written to its end
+pub put_behind : (front rest new : List ℕ) (n k : ℕ) → length front ≡ n → length rest ≡ k →
+    put_mid n k (front ++ rest) new ≡ front ++ new
+put_behind front rest new n k is all =
+    let none : drop k rest ≡ [] = drop_all k rest (omega arith) in
+    rw (take_at front rest n is, drop_at front rest n is, none, append-nil new) refl
+
+-- the front of what is read grows by the bytes that are read next
+pub front_more : (out new xs : List ℕ) (place count k : ℕ) → place ≤ length out → count ≤ length new →
+    take place out ≡ take place xs → take count new ≡ take count (drop place xs) →
+    take (place + count) (put_mid place k out new) ≡ take (place + count) xs
+front_more out new xs place count k inside within front more =
+    let long : length (take place out) ≡ place = omega (arith, length-take place out) in
+    take-add place count (put_mid place k out new)
+    ∙ rw (
+      take_at (take place out) (new ++ drop k (drop place out)) place long,
+      drop_at (take place out) (new ++ drop k (drop place out)) place long,
+      take-append-le count new (drop k (drop place out)) within,
+      front,
+      more,
+    ) (sym (take-add place count xs))
+
+-- ---- pieces that are appended one after the other
+-- all pieces, as those before one, that one, and those behind it
+pub pieces_at : {X : Type 0} (f : X → List ℕ) (xs : List X) (i : ℕ) (d : X) → i < length xs →
+    flat_map f xs ≡ flat_map f (take i xs) ++ (f (get_or xs i d) ++ flat_map f (drop (i + 1) xs))
+pieces_at f xs i d h =
+    ap (flat_map f) (sym (take-append-drop i xs))
+    ∙ flat_map-append f (take i xs) (drop i xs)
+    ∙ ap (λ w. flat_map f (take i xs) ++ flat_map f w) (drop_more xs i d h)
+
+pub piece_more : {X : Type 0} (f : X → List ℕ) (xs : List X) (i : ℕ) (d : X) → i < length xs →
+    flat_map f (take (i + 1) xs) ≡ flat_map f (take i xs) ++ f (get_or xs i d)
+piece_more f xs i d h =
+    ap (flat_map f) (take_more xs i d h)
+    ∙ flat_map-append f (take i xs) (get_or xs i d ∷ [])
+    ∙ ap (λ w. flat_map f (take i xs) ++ w) (append-nil (f (get_or xs i d)))
+
+-- a piece behind others that is cut short
+pub cut_piece : (old mid new : Option (List ℕ)) (done piece rest all : List ℕ) → all ≡ done ++ (piece ++ rest) →
+    mid ≡ and_then old done → IsCutShort mid piece new → IsCutShort old all new
+cut_piece old mid new done piece rest all e is cut =
+    let within : cut.kept ≤ length piece = cut.within in
+    let long : length all ≡ length done + (length piece + length rest) =
+    ap length e ∙ omega (arith, length-append done (piece ++ rest), length-append piece rest) in
+    let front : take (length done + cut.kept) all ≡ done ++ take cut.kept piece =
+    ap (take (length done + cut.kept)) e
+    ∙ take-add (length done) cut.kept (done ++ (piece ++ rest))
+    ∙ rw (take_at done (piece ++ rest) (length done) refl, drop_at done (piece ++ rest) (length done) refl, take-append-le cut.kept piece rest within) refl in
+    record {
+      kept = length done + cut.kept;
+      within = omega arith;
+      written =
+          cut.written
+          ∙ ap (λ o. and_then o (take cut.kept piece)) is
+          ∙ and_then-twice old done (take cut.kept piece)
+          ∙ ap (and_then old) (sym front);
+    }
+
+-- the room that is left of what is sure falls piece by piece
+pub room_more : {T E : Type 0} (old mid new : Option ℕ) (done len : ℕ) (r : Result T E) →
+    ((room : ℕ) → old ≡ Some room → done ≤ room → mid ≡ Some (room - done)) → IsSure mid new len r →
+    (room : ℕ) → old ≡ Some room → done + len ≤ room → new ≡ Some (room - (done + len))
+room_more old mid new done len r sure next room is fits =
+    let before : done ≤ room = omega arith in
+    let now : len ≤ room - done = omega arith in
+    let left : room - done - len ≡ room - (done + len) = omega arith in
+    next.lowered (room - done) (sure room is before) now ∙ ap Some left
+
+pub room_taken : {T E : Type 0} (old mid new : Option ℕ) (done len all : ℕ) (r : Result T E) → done + len ≤ all →
+    ((room : ℕ) → old ≡ Some room → done ≤ room → mid ≡ Some (room - done)) → IsSure mid new len r →
+    (room : ℕ) → old ≡ Some room → all ≤ room → IsOk r
+room_taken old mid new done len all r part sure next room is fits =
+    let before : done ≤ room = omega arith in
+    let now : len ≤ room - done = omega arith in
+    next.taken (room - done) (sure room is before) now

@@ -1,0 +1,194 @@
+-- Which parts of a body of `KEPT` are refused.
+use Rattle.std.proofs.Common.{◌≡◌, ◌⊎◌, ℕ, ◌+◌, ◌-◌, ◌*◌, ◌/◌, ◌%◌, ◌<◌, ◌≤◌, min, Bool, true, false, List, [], length, take, drop, get_or, refl, sym, ap, ◌∙◌, arith, MatchBool, inl, inr}
+use Rattle.std.specs.Prelude.{not, ◌||◌, ◌&&◌, ◌==◌, if◌then◌else◌, nat_eq}
+use Rattle.std.proofs.lemmas.Bool.{and_from, and_left, and_right, cases_lt, eq-eqb, eqb-true, le-ltb, lt-ltb, ltb-false, ne_eqb, not-false, or_from, or_left, or_parts, or_right}
+use Rattle.std.proofs.lemmas.List.{length-drop, take_all}
+use Rattle.std.proofs.lemmas.Nat.{div-add-mod', div-mul-add}
+use Rattle.dsdiff_spec.specs.Bytes.{between, bytes_at, number_at, ◌is◌, ◌below◌, ◌above◌}
+use Rattle.dsdiff_spec.specs.Form.{Kept, frames_for}
+use Rattle.dsdiff_spec.specs.Kept.{kept_version, kept_bytes, kept_of, bad_version_2, is_bad_kept, is_one_chunk, outside}
+use Rattle.dsdiff_chunks.specs.Parts.{is_bad_cmpr, is_bad_sound, is_bad_version}
+
+pub answered : (r t bad : Bool) → r ≡ t → bad ≡ not t → MatchBool r (bad ≡ false) (bad ≡ true)
+answered true true bad e p = p
+answered false false bad e p = p
+answered true false bad e p = absurd cc
+answered false true bad e p = absurd cc
+
+-- ---- `CMPR`
+pub small_cmpr : (w : List ℕ) → number_at w 4 8 < 4 → is_bad_cmpr w ≡ true
+small_cmpr w lt = or_left _ _ (or_right (not (is_one_chunk "CMPR" w)) (number_at w 4 8 below 4) (lt-ltb (number_at w 4 8) 4 lt))
+
+pub uneven_cmpr : (w : List ℕ) → (length w ≡ 12 + number_at w 4 8 + number_at w 4 8 % 2 → ⊥) → is_bad_cmpr w ≡ true
+uneven_cmpr w ne =
+    or_left _ _ (or_left (not (is_one_chunk "CMPR" w)) (number_at w 4 8 below 4)
+    (ap not (and_right (not (length w below 12) && bytes_at w 0 4 is "CMPR") (length w == 12 + number_at w 4 8 + number_at w 4 8 % 2) (ne_eqb _ _ ne))))
+
+pub whole_cmpr : (w : List ℕ) → 16 ≤ length w → bytes_at w 0 4 is "CMPR" ≡ true → 4 ≤ number_at w 4 8 →
+    length w ≡ 12 + number_at w 4 8 + number_at w 4 8 % 2 → is_bad_cmpr w ≡ not (bytes_at w 12 4 is "DSD ")
+whole_cmpr w long id large e =
+    let one : is_one_chunk "CMPR" w ≡ true =
+    and_from (not (length w below 12) && bytes_at w 0 4 is "CMPR") (length w == 12 + number_at w 4 8 + number_at w 4 8 % 2)
+    (and_from (not (length w below 12)) (bytes_at w 0 4 is "CMPR") (ap not (le-ltb (length w) 12 (omega arith))) id)
+    (eq-eqb _ _ e) in
+    ap (λ b. not b || number_at w 4 8 below 4 || not (bytes_at w 12 4 is "DSD ")) one
+    ∙ ap (λ b. b || not (bytes_at w 12 4 is "DSD ")) (le-ltb (number_at w 4 8) 4 large)
+
+-- ---- fields of version 2
+abbrev at_version : ℕ → List ℕ → Kept
+at_version v body =
+    if v == 1 then record {
+      version = 1;
+      sound = number_at body 1 8;
+      pad = 0;
+      cmpr = drop 9 body;
+      tail = [];
+    }
+    else record {
+      version = v;
+      sound = number_at body 1 8;
+      pad = get_or body 9 0;
+      cmpr = between body 14 (length body - kept_bytes body);
+      tail = drop (length body - kept_bytes body) body;
+    }
+
+abbrev pub kept_by : List ℕ → ℕ → List ℕ → List ℕ → Kept
+kept_by body sound cmpr tail = record { version = 2; sound = sound; pad = get_or body 9 0; cmpr = cmpr; tail = tail }
+
+abbrev pub second : List ℕ → Kept
+second body = record {
+  version = 2;
+  sound = number_at body 1 8;
+  pad = get_or body 9 0;
+  cmpr = between body 14 (length body - kept_bytes body);
+  tail = drop (length body - kept_bytes body) body;
+}
+
+pub second_is : (body : List ℕ) → kept_version body ≡ 2 → kept_of body ≡ second body
+second_is body e = ap (λ v. at_version v body) e
+
+abbrev pub bad_second : ℕ → ℕ → ℕ → ℕ → Bool
+bad_second len kept sound pad =
+    outside 30 131086 len || kept above 65536 || len above 65550 + kept || (sound % 2 == 0 && not (pad == 0))
+
+pub bad_second_is : (body : List ℕ) → kept_version body ≡ 2 →
+    bad_version_2 body ≡ bad_second (length body) (kept_bytes body) (number_at body 1 8) (get_or body 9 0)
+bad_second_is body e =
+    ap (λ k. outside 30 131086 (length body) || kept_bytes body above 65536 || length body above 65550 + kept_bytes body || (k.sound % 2 == 0 && not (k.pad == 0))) (second_is body e)
+
+pub long_tail : (len kept sound pad : ℕ) → 65536 < kept → bad_second len kept sound pad ≡ true
+long_tail len kept sound pad lt = or_left _ _ (or_left _ _ (or_right (outside 30 131086 len) (kept above 65536) (lt-ltb 65536 kept lt)))
+
+pub long_cmpr : (len kept sound pad : ℕ) → 65550 + kept < len → bad_second len kept sound pad ≡ true
+long_cmpr len kept sound pad lt = or_left _ _ (or_right (outside 30 131086 len || kept above 65536) (len above 65550 + kept) (lt-ltb (65550 + kept) len lt))
+
+pub needless_pad : (len kept sound pad : ℕ) → sound % 2 ≡ 0 → (pad ≡ 0 → ⊥) → bad_second len kept sound pad ≡ true
+needless_pad len kept sound pad even ne =
+    or_right (outside 30 131086 len || kept above 65536 || len above 65550 + kept) (sound % 2 == 0 && not (pad == 0))
+    (and_from (sound % 2 == 0) (not (pad == 0)) (eq-eqb (sound % 2) 0 even) (ap not (ne_eqb pad 0 ne)))
+
+pub lawful_second : (len kept sound pad : ℕ) → 30 ≤ len → len ≤ 131086 → kept ≤ 65536 → len ≤ 65550 + kept →
+    (sound % 2 == 0 && not (pad == 0)) ≡ false → bad_second len kept sound pad ≡ false
+lawful_second len kept sound pad least most tail cmpr padded =
+    or_from _ _ (or_from _ _ (or_from _ _ (or_from _ _ (le-ltb len 30 least) (le-ltb 131086 len most)) (le-ltb 65536 kept tail)) (le-ltb (65550 + kept) len cmpr)) padded
+
+-- `CMPR` of a body that is too short for one is empty
+pub cmpr_part : (body : List ℕ) (end : ℕ) → take (end - min end 14) (drop (min end 14) body) ≡ between body 14 end
+cmpr_part body end = elim (cases_lt end 14) [
+  | inl short ↦
+      let a : end - min end 14 ≡ 0 = omega arith in
+      let b : end - 14 ≡ 0 = omega arith in
+      ap (λ k. take k (drop (min end 14) body)) a ∙ sym (ap (λ k. take k (drop 14 body)) b)
+  | inr long ↦ let a : min end 14 ≡ 14 = omega arith in ap (λ k. take (end - k) (drop k body)) a
+]
+
+pub no_needless_pad : (sound pad : ℕ) → ((sound % 2 ≡ 0) × (pad ≡ 0)) ⊎ (sound % 2 ≡ 0 → ⊥) → (sound % 2 == 0 && not (pad == 0)) ≡ false
+no_needless_pad sound pad (inl both) = and_right (sound % 2 == 0) (not (pad == 0)) (ap not (eq-eqb pad 0 both.1))
+no_needless_pad sound pad (inr odd) = and_left (sound % 2 == 0) (not (pad == 0)) (ne_eqb (sound % 2) 0 odd)
+
+same_second : (body : List ℕ) (sound s : ℕ) (cmpr w tail t : List ℕ) → sound ≡ s → cmpr ≡ w → tail ≡ t →
+    kept_by body sound cmpr tail ≡ kept_by body s w t
+same_second body sound s cmpr w tail t p q r = rw (p, q, r) refl
+
+pub parts_are : (body : List ℕ) (sound kept end low : ℕ) → kept_version body ≡ 2 → sound ≡ number_at body 1 8 → kept ≡ kept_bytes body →
+    end ≡ length body - kept → low ≡ min end 14 →
+    kept_by body sound (take (end - low) (drop low body)) (take (length body - end) (drop end body)) ≡ kept_of body
+parts_are body sound kept end low v s k e m =
+    let at : end ≡ length body - kept_bytes body = e ∙ ap (λ n. length body - n) k in
+    same_second body sound (number_at body 1 8) (take (end - low) (drop low body)) (between body 14 (length body - kept_bytes body))
+    (take (length body - end) (drop end body)) (drop (length body - kept_bytes body) body)
+    s
+    (ap (λ n. take (end - n) (drop n body)) m ∙ cmpr_part body end ∙ ap (between body 14) at)
+    (take_all (length body - end) (drop end body) (omega (arith, length-drop end body)) ∙ ap (λ n. drop n body) at)
+    ∙ sym (second_is body v)
+
+-- ---- the sound
+ceil_is : (x y : ℕ) → 0 < y → x / y + min 1 (x % y) ≡ (x + y - 1) / y
+ceil_is x y pos = elim (cases_lt 0 (x % y)) [
+  | inl more ↦
+      let one : min 1 (x % y) ≡ 1 = omega arith in
+      let whole : x + y - 1 ≡ (x / y + 1) * y + (x % y - 1) = omega (arith, div-add-mod' x y) in
+      let less : x % y - 1 < y = omega arith in
+      ap (λ n. x / y + n) one ∙ sym (ap (λ n. n / y) whole ∙ div-mul-add (x / y + 1) y (x % y - 1) less)
+  | inr none ↦
+      let zero : x / y + min 1 (x % y) ≡ x / y = omega arith in
+      let whole : x + y - 1 ≡ x / y * y + (y - 1) = omega (arith, div-add-mod' x y) in
+      let less : y - 1 < y = omega arith in
+      zero ∙ sym (ap (λ n. n / y) whole ∙ div-mul-add (x / y) y (y - 1) less)
+]
+
+pub sound_said : (channels frame_bytes told sound f r t : ℕ) → sound % channels ≡ 0 → f ≡ frame_bytes → 0 < f → r ≡ sound / f + min 1 (sound % f) → t ≡ told →
+    MatchBool (nat_eq r t) (is_bad_sound channels frame_bytes told sound ≡ false) (is_bad_sound channels frame_bytes told sound ≡ true)
+sound_said channels frame_bytes told sound f r t even same pos ceil from =
+    let frames : r ≡ frames_for frame_bytes sound = ceil ∙ ceil_is sound f pos ∙ ap (λ n. (sound + n - 1) / n) same in
+    answered (nat_eq r t) (frames_for frame_bytes sound == told) (is_bad_sound channels frame_bytes told sound)
+    (ap (λ n. nat_eq n t) frames ∙ ap (nat_eq (frames_for frame_bytes sound)) from)
+    (ap (λ b. not b || not (frames_for frame_bytes sound == told)) (eq-eqb (sound % channels) 0 even))
+
+-- ---- all parts
+regroup : (v a b c d e : Bool) → (v || a || b || c || d || e) ≡ (v || (a || b || c) || (d || e))
+regroup true a b c d e = refl
+regroup false true b c d e = refl
+regroup false false true c d e = refl
+regroup false false false true d e = refl
+regroup false false false false d e = refl
+
+pub kept_said : (channels frame_bytes told : ℕ) (body : List ℕ) (kept : Kept) → kept ≡ kept_of body →
+    is_bad_kept channels frame_bytes told body ≡ (is_bad_version body || is_bad_cmpr kept.cmpr || is_bad_sound channels frame_bytes told kept.sound)
+kept_said channels frame_bytes told body kept e =
+    regroup (is_bad_version body) (not (is_one_chunk "CMPR" (kept_of body).cmpr)) (number_at (kept_of body).cmpr 4 8 below 4) (not (bytes_at (kept_of body).cmpr 12 4 is "DSD "))
+    (not ((kept_of body).sound % channels == 0)) (not (frames_for frame_bytes (kept_of body).sound == told))
+    ∙ ap (λ k. is_bad_version body || is_bad_cmpr k.cmpr || is_bad_sound channels frame_bytes told k.sound) (sym e)
+
+pub first_refused : (channels frame_bytes told : ℕ) (body : List ℕ) → is_bad_version body ≡ true → is_bad_kept channels frame_bytes told body ≡ true
+first_refused channels frame_bytes told body e =
+    kept_said channels frame_bytes told body (kept_of body) refl
+    ∙ ap (λ b. b || is_bad_cmpr (kept_of body).cmpr || is_bad_sound channels frame_bytes told (kept_of body).sound) e
+
+pub one_refused : (v a b : Bool) → (a ≡ true) ⊎ (b ≡ true) → (v || a || b) ≡ true
+one_refused v a b (inl e) = or_left (v || a) b (or_right v a e)
+one_refused v a b (inr e) = or_right (v || a) b e
+
+pub none_refused : (v a b : Bool) → v ≡ false → a ≡ false → b ≡ false → (v || a || b) ≡ false
+none_refused v a b p q r = or_from (v || a) b (or_from v a p q) r
+
+pub record IsPlainCmpr (w : List ℕ) : Type 0 where
+  pub one : is_one_chunk "CMPR" w ≡ true
+  pub long : 4 ≤ number_at w 4 8
+  pub type : bytes_at w 12 4 is "DSD " ≡ true
+
+pub is_plain_cmpr : (w : List ℕ) → is_bad_cmpr w ≡ false → IsPlainCmpr w
+is_plain_cmpr w e =
+    let last = or_parts _ _ e in
+    let front = or_parts _ _ last.0 in
+    record {
+      one = not-false (is_one_chunk "CMPR" w) front.0;
+      long = ltb-false (number_at w 4 8) 4 front.1;
+      type = not-false (bytes_at w 12 4 is "DSD ") last.1;
+    }
+
+pub sound_whole : (channels frame_bytes told sound : ℕ) → is_bad_sound channels frame_bytes told sound ≡ false → sound % channels ≡ 0
+sound_whole channels frame_bytes told sound e = eqb-true (sound % channels) 0 (not-false (sound % channels == 0) (or_parts _ _ e).0)
+
+pub sound_frames : (channels frame_bytes told sound : ℕ) → is_bad_sound channels frame_bytes told sound ≡ false → frames_for frame_bytes sound ≡ told
+sound_frames channels frame_bytes told sound e = eqb-true (frames_for frame_bytes sound) told (not-false (frames_for frame_bytes sound == told) (or_parts _ _ e).1)

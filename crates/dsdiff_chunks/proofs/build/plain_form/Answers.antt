@@ -1,0 +1,105 @@
+-- The rules on a plain form speak of its parts, and where none fails the form is as they tell.
+use Rattle.std.proofs.Common.{◌≡◌, ℕ, ◌+◌, ◌%◌, ◌≤◌, List, [], length, map, get_or, true, Ok, refl, sym, ap, ◌∙◌, subst, arith}
+use Rattle.std.specs.Prelude.{◌==◌, if◌then◌else◌}
+use Rattle.std.specs.List.{Contains}
+use Rattle.std.proofs.lemmas.List.Elements.{All-contains}
+use Rattle.dst_spec.specs.Sample.{sound_bytes}
+use Rattle.dsdiff_spec.specs.Bytes.{◌is◌}
+use Rattle.dsdiff_spec.specs.Chunks.{Head, fits, body_end}
+use Rattle.dsdiff_spec.specs.Form.{plain, coded, frames_for}
+use Rattle.dsdiff_spec.specs.Parts.{channel_count, multiple}
+use Rattle.dsdiff_spec.specs.Rules.{local_fault, form_fault, kind_fault, form_of_kind}
+use Rattle.dsdiff_chunks.specs.Lawful.{TileTo}
+use Rattle.dsdiff_chunks.specs.Opening.{may_lack_pad, is_sound}
+use Rattle.dsdiff_chunks.specs.Prepared.{heads_of}
+use Rattle.dsdiff_chunks.specs.Seen.{head_seen, kind_seen}
+use Rattle.dsdiff_chunks.proofs.Chain.{form_is_accepted}
+use Rattle.dsdiff_chunks.proofs.Only.{passed_is_there}
+use Rattle.dsdiff_chunks.proofs.Stopping.{Stops-in}
+use Rattle.dsdiff_chunks.proofs.Whole.{same_form, multiple_back, shape_back, channels_of, rules_at_0, is_plain_id, next_fits, plain_by_parts, plain_frames, tail_by_parts}
+use Rattle.dsdiff_chunks.proofs.build.plain_form.Goals as goal
+
+pub read_plain-requires-clause-padded : goal.read_plain-requires-clause-padded
+read_plain-requires-clause-padded g c =
+    let p = c.args.parts in
+    let sound = head_seen p.sound.head in
+    let parts = c.requires.parts in
+    let id = is_plain_id (sound.id is "DSD ") (sym (ap kind_seen c.requires.kind) ∙ parts.sound.kind_is) in
+    let there = passed_is_there is_sound (heads_of p) sound [] parts.sound.found in
+    next_fits p.chunks.end sound (All-contains (λ h. fits may_lack_pad p.chunks.end h ≡ true) (heads_of p) sound parts.chunks.whole there) id
+
+pub returns-in-Err-clause-stops : goal.returns-in-Err-clause-stops
+returns-in-Err-clause-stops g c =
+    let p = c.args.parts in
+    let parts = c.requires.parts in
+    Stops-in _ form_fault (g.S.Source.bytes c.args.source.now) (g.S.Source.bytes c.args.source.now) (g.S.Source.faults c.args.source.now) (g.S.Source.faults c.args.source.now) _
+    c.in-Err.fault refl (omega arith)
+    (λ xs f told e.
+    let has = parts.told xs told in
+    let kind_is = ap (λ (h : Head). if h.id is "DSD " then plain else coded) has.sound ∙ sym parts.sound.kind_is ∙ ap kind_seen c.requires.kind in
+    has.left ∙ ap (λ k. kind_fault k xs) kind_is
+    ∙ plain_by_parts xs p.prop.body.items (heads_of p) (head_seen p.prop_head) (head_seen p.sound.head) p.prop.fields.channels p.chunks.size p.chunks.end
+    has.long has.ends has.chunks has.prop_is has.body has.sound parts.shape
+    ∙ e)
+    c.in-Err.ensures.stops
+
+pub returns-clause-form : goal.returns-clause-form
+returns-clause-form g c xs told =
+    let p = c.args.parts in
+    let parts = c.requires.parts in
+    let has = parts.told xs told in
+    let shape = p.prop.fields.channels in
+    let found = c.in-Ok.ensures in
+    let kind_is = ap (λ (h : Head). if h.id is "DSD " then plain else coded) has.sound ∙ sym parts.sound.kind_is ∙ ap kind_seen c.requires.kind in
+    let none = has.left ∙ ap (λ k. kind_fault k xs) kind_is
+    ∙ plain_by_parts xs p.prop.body.items (heads_of p) (head_seen p.prop_head) (head_seen p.sound.head) shape p.chunks.size p.chunks.end
+    has.long has.ends has.chunks has.prop_is has.body has.sound parts.shape
+    ∙ found.accepted in
+    form_is_accepted xs none
+    ∙ ap Ok
+    (ap (λ k. form_of_kind k xs) kind_is
+    ∙ same_form (form_of_kind plain xs) _ refl (channels_of xs p.prop.body.items shape has.body parts.shape)
+    (ap multiple has.body ∙ sym (multiple_back shape (channel_count p.prop.body.items) (multiple p.prop.body.items) parts.shape))
+    has.ends
+    (has.chunks ∙ sym (ap (map head_seen) c.from_vec.ensures))
+    (has.body ∙ sym c.from_vec-2.ensures)
+    has.sound
+    (plain_frames xs p.prop.body.items (head_seen p.sound.head) shape has.body has.sound parts.shape ∙ sym found.frames)
+    refl
+    (ap (λ (h : Head). if h.size % 2 == 1 then get_or xs (body_end h) 0 else 0) has.sound ∙ sym (found.pad xs told))
+    (tail_by_parts xs p.chunks.size p.chunks.end has.long has.ends ∙ sym (found.tail xs told) ∙ sym c.from_vec-3.ensures))
+
+pub returns-clause-lawful : goal.returns-clause-lawful
+returns-clause-lawful g c =
+    let p = c.args.parts in
+    let parts = c.requires.parts in
+    let sound = head_seen p.sound.head in
+    let shape = p.prop.fields.channels in
+    let found = c.in-Ok.ensures in
+    let heads : heads_of p ≡ map head_seen c.from_vec.result = sym (ap (map head_seen) c.from_vec.ensures) in
+    let body : p.prop.body.items ≡ c.from_vec-2.result = sym c.from_vec-2.ensures in
+    let tail : c.in-Ok.plain.tail.items ≡ c.from_vec-3.result = sym c.from_vec-3.ensures in
+    let there = passed_is_there is_sound (heads_of p) sound [] parts.sound.found in
+    let back = shape_back shape (channel_count p.prop.body.items) (multiple p.prop.body.items) parts.shape in
+    let id = is_plain_id (sound.id is "DSD ") (sym (ap kind_seen c.requires.kind) ∙ parts.sound.kind_is) in
+    record {
+      end = parts.chunks.most;
+      few = subst (λ (hs : List Head). length hs ≤ 1024) heads parts.chunks.few;
+      chunks = subst (λ (hs : List Head). TileTo p.chunks.end 16 hs) heads parts.chunks.tiled;
+      sound = subst (λ (hs : List Head). Contains hs sound) heads there;
+      prop = record {
+        most = subst (λ (b : List ℕ). length b ≤ 65536) body parts.most;
+        rules = ap (λ b. local_fault 0 b) (sym body) ∙ rules_at_0 (p.prop_head.place + 12) p.prop.body.items parts.rules;
+      };
+      channels = ap (λ s. s.channels) parts.shape ∙ ap channel_count body;
+      multiple = multiple_back shape (channel_count p.prop.body.items) (multiple p.prop.body.items) parts.shape ∙ ap multiple body;
+      frames = found.few;
+      of_kind = record {
+        even = found.even;
+        frames = found.frames ∙ sym (ap (λ s. frames_for (sound_bytes s) sound.size) back);
+        kept = refl;
+        padded = next_fits p.chunks.end sound (All-contains (λ h. fits may_lack_pad p.chunks.end h ≡ true) (heads_of p) sound parts.chunks.whole there) id;
+        pad = found.pad_even;
+        tail = subst (λ (b : List ℕ). length b ≤ 65536) tail found.tail_most;
+      };
+    }

@@ -1,0 +1,121 @@
+-- Each step is asked where the steps before it found no fault.
+use Rattle.std.proofs.Common.{◌+◌, List, map, refl, sym, ap, ◌∙◌, subst, arith}
+use Rattle.dsdiff_spec.specs.Parts.{compression}
+use Rattle.dsdiff_spec.specs.Rules.{opening_fault, local_fault, form_fault}
+use Rattle.dsdiff_chunks.specs.declared.form.ChunkHead.{ChunkHead}
+use Rattle.dsdiff_chunks.specs.Seen.{head_seen, kind_seen}
+use Rattle.dsdiff_chunks.specs.Steps.{IsTheSound}
+use Rattle.dsdiff_chunks.proofs.Chain.{at_opening, at_version, at_props, the_prop, the_body, at_prop, past_prop, at_sound, past_sound, the_sound}
+use Rattle.dsdiff_chunks.proofs.Stopping.{Stops-in}
+use Rattle.dsdiff_chunks.proofs.build.read_parts.Goals as goal
+
+pub returns-in-Err-clause-stops : goal.returns-in-Err-clause-stops
+returns-in-Err-clause-stops g c =
+    Stops-in opening_fault form_fault (g.S.Source.bytes c.args.source.now) (g.S.Source.bytes c.args.source.now) (g.S.Source.faults c.args.source.now) (g.S.Source.faults c.args.source.now) _
+    c.in-Err.fault refl (omega arith) (λ xs f told e. at_opening xs f e) c.in-Err.ensures.stops
+
+pub returns-in-Err-check_version-clause-stops : goal.returns-in-Err-check_version-clause-stops
+returns-in-Err-check_version-clause-stops g c =
+    let heads = map head_seen c.as_slice-heads.result.now in
+    Stops-in _ form_fault (g.S.Source.bytes c.args.source.now) (g.S.Source.bytes c.read_chunks.new.source) (g.S.Source.faults c.args.source.now) (g.S.Source.faults c.read_chunks.new.source) _
+    c.in-Err-check_version.fault c.in-Ok.ensures.bytes c.in-Ok.ensures.later
+    (λ xs f told e.
+    let opened = c.in-Ok.ensures.chunks.told xs (c.in-Ok.ensures.bytes ∙ told) in
+    let top = opened.chunks ∙ sym (ap (map head_seen) c.as_slice-heads.ensures.value) in
+    at_version xs heads f opened.rules top e)
+    c.in-Err-check_version.ensures.stops
+
+pub returns-in-Err-find_prop-clause-stops : goal.returns-in-Err-find_prop-clause-stops
+returns-in-Err-find_prop-clause-stops g c xs told =
+    let heads = map head_seen c.as_slice-heads.result.now in
+    let there = c.in-Ok.ensures.bytes ∙ told in
+    let opened = c.in-Ok.ensures.chunks.told xs there in
+    let top = opened.chunks ∙ sym (ap (map head_seen) c.as_slice-heads.ensures.value) in
+    at_props xs heads c.in-Err-find_prop.fault opened.rules top (c.in-Ok-check_version.ensures.accepted xs there) c.in-Err-find_prop.ensures.refused
+
+pub returns-in-Err-read_body_of_prop-clause-stops : goal.returns-in-Err-read_body_of_prop-clause-stops
+returns-in-Err-read_body_of_prop-clause-stops g c =
+    let heads = map head_seen c.as_slice-heads.result.now in
+    let version = c.in-Ok-check_version.ensures.source in
+    Stops-in _ form_fault (g.S.Source.bytes c.args.source.now) (g.S.Source.bytes c.check_version.new.source) (g.S.Source.faults c.args.source.now) (g.S.Source.faults c.check_version.new.source) _
+    c.in-Err-read_body_of_prop.fault (version.same_bytes ∙ c.in-Ok.ensures.bytes) (omega (arith, version.later, c.in-Ok.ensures.later))
+    (λ xs f told e.
+    let there = c.in-Ok.ensures.bytes ∙ told in
+    let opened = c.in-Ok.ensures.chunks.told xs there in
+    let top = opened.chunks ∙ sym (ap (map head_seen) c.as_slice-heads.ensures.value) in
+    at_prop xs heads (head_seen c.in-Ok-find_prop.head) f opened.rules top (c.in-Ok-check_version.ensures.accepted xs there)
+    c.in-Ok-find_prop.ensures.found c.in-Ok-find_prop.ensures.most e)
+    c.in-Err-read_body_of_prop.ensures.stops
+
+pub returns-in-Err-find_sound-clause-size_stays : goal.returns-in-Err-find_sound-clause-size_stays
+returns-in-Err-find_sound-clause-size_stays g c n known =
+    c.in-Ok-read_body_of_prop.ensures.source.same_size ∙ c.in-Ok-check_version.ensures.source.same_size ∙ c.in-Ok.ensures.size_stays n known
+
+pub returns-clause-size_stays : goal.returns-clause-size_stays
+returns-clause-size_stays g c n known =
+    c.in-Ok-read_body_of_prop.ensures.source.same_size ∙ c.in-Ok-check_version.ensures.source.same_size ∙ c.in-Ok.ensures.size_stays n known
+
+pub returns-in-Err-find_sound-clause-stops : goal.returns-in-Err-find_sound-clause-stops
+returns-in-Err-find_sound-clause-stops g c xs told =
+    let heads = map head_seen c.as_slice-heads.result.now in
+    let head = head_seen c.in-Ok-find_prop.head in
+    let found = c.in-Ok-find_prop.ensures.found in
+    let there = c.in-Ok.ensures.bytes ∙ told in
+    let opened = c.in-Ok.ensures.chunks.told xs there in
+    let top = opened.chunks ∙ sym (ap (map head_seen) c.as_slice-heads.ensures.value) in
+    let version = c.in-Ok-check_version.ensures.accepted xs there in
+    let prop = c.in-Ok-read_body_of_prop.ensures in
+    let body = prop.read xs (c.in-Ok-check_version.ensures.source.same_bytes ∙ there) in
+    let left = past_prop xs heads head opened.rules top version found c.in-Ok-find_prop.ensures.most (sym (ap (local_fault (head.place + 12)) body) ∙ prop.rules) in
+    at_sound xs heads head.place _ c.in-Err-find_sound.fault left top
+    (ap (λ h. h.place) (the_prop xs heads head top found))
+    (ap compression (the_body xs heads head top found ∙ sym body) ∙ sym prop.type_is)
+    c.in-Err-find_sound.ensures.refused
+
+pub returns-clause-parts : goal.returns-clause-parts
+returns-clause-parts g c =
+    let chunks = c.in-Ok.ensures.chunks in
+    let heads = map head_seen c.as_slice-heads.result.now in
+    let slice = c.as_slice-heads.ensures.value in
+    let head = head_seen c.in-Ok-find_prop.head in
+    let found = c.in-Ok-find_prop.ensures.found in
+    let prop = c.in-Ok-read_body_of_prop.ensures in
+    let version = c.in-Ok-check_version.ensures in
+    let sound = c.in-Ok-find_sound.ensures in
+    record {
+      chunks = record {
+        known_size = prop.source.same_size ∙ version.source.same_size ∙ chunks.known_size;
+        least = chunks.least;
+        most = chunks.most;
+        within = chunks.within;
+        few = chunks.few;
+        tiled = chunks.tiled;
+        whole = chunks.whole;
+        told = λ xs told. chunks.told xs (sym (prop.source.same_bytes ∙ version.source.same_bytes) ∙ told);
+      };
+      most = omega (arith, prop.long, c.in-Ok-find_prop.ensures.most);
+      long = prop.long;
+      rules = prop.rules;
+      shape = prop.shape;
+      sound = subst
+          (λ (hs : List ChunkHead). IsTheSound (map head_seen hs) head.place c.in-Ok-read_body_of_prop.prop.fields.compression (kind_seen c.in-Ok-find_sound.sound.kind) (head_seen c.in-Ok-find_sound.sound.head))
+          slice sound.sound;
+      told = λ xs told.
+          let there = sym (prop.source.same_bytes ∙ version.source.same_bytes) ∙ told in
+          let opened = chunks.told xs there in
+          let top = opened.chunks ∙ sym (ap (map head_seen) slice) in
+          let body = prop.read xs (version.source.same_bytes ∙ there) in
+          let left = past_prop xs heads head opened.rules top (version.accepted xs there) found c.in-Ok-find_prop.ensures.most (sym (ap (local_fault (head.place + 12)) body) ∙ prop.rules) in
+          record {
+            left = past_sound xs heads head.place c.in-Ok-read_body_of_prop.prop.fields.compression left top
+                (ap (λ h. h.place) (the_prop xs heads head top found))
+                (ap compression (the_body xs heads head top found ∙ sym body) ∙ sym prop.type_is)
+                sound.accepted;
+            long = opened.long;
+            ends = opened.ends;
+            chunks = opened.chunks;
+            prop_is = the_prop xs heads head top found;
+            body = the_body xs heads head top found ∙ sym body;
+            sound = the_sound xs heads (head_seen c.in-Ok-find_sound.sound.head) top sound.sound.found;
+          };
+    }

@@ -1,0 +1,175 @@
+// From the parts of a form to the form.
+ghost use Rattle.std.specs.Prelude.{◌≡◌, ℕ, ◌+◌, ◌≤◌, List, Some, Ok, IfOk, IfErr};
+ghost use Rattle.dsdiff_spec.specs.Form.{shape};
+ghost use Rattle.dsdiff_spec.specs.Rules.{form, form_fault};
+ghost use Rattle.dsdiff_chunks.specs.Lawful.{IsLawful};
+ghost use Rattle.dsdiff_chunks.specs.Opening.{Reads, Stops};
+ghost use Rattle.dsdiff_chunks.specs.Prepared.{AreParts};
+ghost use Rattle.dsdiff_chunks.specs.Seen.{form_seen};
+
+use crate::coded::{read_any_kept, read_frte};
+use crate::common::{Prop, Sound, check_version, find_prop, find_sound, read_body_of_prop};
+use crate::form::{ChunkHead, Form, Kind};
+use crate::lists::{Heads, Octets};
+use crate::open::OpenFault;
+use crate::plain::{PlainParts, read_plain};
+use crate::top::{Chunks, read_chunks};
+use dst_streams::Source;
+use std::alloc::Global;
+
+/// The parts of a form of either kind.
+#[derive(Drop)]
+pub struct Parts {
+    pub chunks: Chunks,
+    pub prop_head: ChunkHead,
+    pub prop: Prop,
+    pub sound: Sound,
+}
+
+/// Reads the parts of a form, by the rules on all forms.
+pub fn read_parts<S: Source>(alloc: Global, source: &mut S) -> Result<Parts, OpenFault>
+    ensures bytes { S.bytes source.new ≡ S.bytes source.old }
+    ensures size_stays { (n : ℕ) → S.known source.old ≡ Some n → S.known source.new ≡ Some n }
+    ensures later { S.faults source.old ≤ S.faults source.new }
+    ensures given { S.given source.new ≤ S.given source.old + 77841 }
+    ensures parts { IfOk result (λ p. AreParts (S.bytes source.new) (S.known source.new) p) }
+    ensures stops { IfErr result (Stops form_fault (S.bytes source.old) (S.faults source.old) (S.faults source.new)) }
+{
+    let chunks = match read_chunks(alloc, source) {
+        Ok(chunks) => chunks,
+        Err(fault) => return Err(fault),
+    };
+    let heads = chunks.heads.as_slice();
+    match check_version(source, heads, chunks.end) {
+        Ok(()) => {}
+        Err(fault) => return Err(fault),
+    }
+    let prop_head = match find_prop(heads, chunks.end) {
+        Ok(head) => head,
+        Err(fault) => return Err(OpenFault::File(fault)),
+    };
+    let prop = match read_body_of_prop(alloc, source, prop_head) {
+        Ok(prop) => prop,
+        Err(fault) => return Err(fault),
+    };
+    let sound = match find_sound(heads, prop_head.place, prop.fields.compression) {
+        Ok(sound) => sound,
+        Err(fault) => return Err(OpenFault::File(fault)),
+    };
+    Ok(Parts {
+        chunks,
+        prop_head,
+        prop,
+        sound,
+    })
+}
+
+/// A plain form, of its parts.
+pub fn plain_form<S: Source>(alloc: Global, source: &mut S, parts: Parts) -> Result<Form, OpenFault>
+    requires parts { AreParts (S.bytes source.old) (S.known source.old) parts }
+    requires kind { parts.sound.kind ≡ Kind.Plain }
+    ensures source { Reads S.bytes S.known S.faults S.given source.old source.new 131104 }
+    ensures end { IfOk result (λ f. f.end ≡ parts.chunks.end) }
+    ensures form { IfOk result (λ f. (xs : List ℕ) → S.bytes source.old ≡ Some xs → form xs ≡ Ok (form_seen f)) }
+    ensures lawful { IfOk result (λ f. IsLawful (form_seen f)) }
+    ensures shape { IfOk result (λ f. shape (form_seen f) ≡ f.channels) }
+    ensures stops { IfErr result (Stops form_fault (S.bytes source.old) (S.faults source.old) (S.faults source.new)) }
+{
+    let Parts {
+        chunks,
+        prop_head,
+        prop,
+        sound,
+    } = parts;
+    let channels = prop.fields.channels;
+    let PlainParts { frames, pad, tail } = match read_plain(
+        alloc,
+        source,
+        &chunks,
+        prop_head.size,
+        sound.head,
+        channels,
+    ) {
+        Ok(plain) => plain,
+        Err(fault) => return Err(fault),
+    };
+    let Chunks { end, heads, .. } = chunks;
+    let Prop { body, .. } = prop;
+    Ok(Form {
+        kind: Kind::Plain,
+        channels,
+        end,
+        chunks: Heads::from_vec(heads),
+        prop: Octets::from_vec(body),
+        sound: sound.head,
+        frames,
+        kept: None,
+        pad,
+        tail: Octets::from_vec(tail),
+    })
+}
+
+/// A coded form, of its parts.
+pub fn coded_form<S: Source>(alloc: Global, source: &mut S, parts: Parts) -> Result<Form, OpenFault>
+    requires parts { AreParts (S.bytes source.old) (S.known source.old) parts }
+    requires kind { parts.sound.kind ≡ Kind.Coded }
+    ensures source { Reads S.bytes S.known S.faults S.given source.old source.new 131104 }
+    ensures end { IfOk result (λ f. f.end ≡ parts.chunks.end) }
+    ensures form { IfOk result (λ f. (xs : List ℕ) → S.bytes source.old ≡ Some xs → form xs ≡ Ok (form_seen f)) }
+    ensures lawful { IfOk result (λ f. IsLawful (form_seen f)) }
+    ensures shape { IfOk result (λ f. shape (form_seen f) ≡ f.channels) }
+    ensures stops { IfErr result (Stops form_fault (S.bytes source.old) (S.faults source.old) (S.faults source.new)) }
+{
+    let Parts {
+        chunks,
+        prop_head: _,
+        prop,
+        sound,
+    } = parts;
+    let channels = prop.fields.channels;
+    let frames = match read_frte(source, sound.head) {
+        Ok(frames) => frames,
+        Err(fault) => return Err(fault),
+    };
+    let kept = match read_any_kept(
+        alloc,
+        source,
+        chunks.heads.as_slice(),
+        chunks.end,
+        channels,
+        frames,
+    ) {
+        Ok(kept) => kept,
+        Err(fault) => return Err(fault),
+    };
+    let Chunks { end, heads, .. } = chunks;
+    let Prop { body, .. } = prop;
+    Ok(Form {
+        kind: Kind::Coded,
+        channels,
+        end,
+        chunks: Heads::from_vec(heads),
+        prop: Octets::from_vec(body),
+        sound: sound.head,
+        frames,
+        kept,
+        pad: 0,
+        tail: Octets::from_vec(Vec::new(alloc)),
+    })
+}
+
+/// The form, of its parts.
+pub fn form_of<S: Source>(alloc: Global, source: &mut S, parts: Parts) -> Result<Form, OpenFault>
+    requires { AreParts (S.bytes source.old) (S.known source.old) parts }
+    ensures source { Reads S.bytes S.known S.faults S.given source.old source.new 131104 }
+    ensures end { IfOk result (λ f. f.end ≡ parts.chunks.end) }
+    ensures form { IfOk result (λ f. (xs : List ℕ) → S.bytes source.old ≡ Some xs → form xs ≡ Ok (form_seen f)) }
+    ensures lawful { IfOk result (λ f. IsLawful (form_seen f)) }
+    ensures shape { IfOk result (λ f. shape (form_seen f) ≡ f.channels) }
+    ensures stops { IfErr result (Stops form_fault (S.bytes source.old) (S.faults source.old) (S.faults source.new)) }
+{
+    match parts.sound.kind {
+        Kind::Plain => plain_form(alloc, source, parts),
+        Kind::Coded => coded_form(alloc, source, parts),
+    }
+}
