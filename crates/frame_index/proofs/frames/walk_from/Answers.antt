@@ -1,0 +1,130 @@
+-- The loop keeps what was found up to its place.
+use Rattle.std.proofs.Common.{◌≡◌, ◌+◌, ◌%◌, ◌<◌, ◌≤◌, Err, refl, sym, ap, ◌∙◌, arith}
+use Rattle.dsdiff_spec.specs.Chunks.{body_end, next_place}
+use Rattle.dsdiff_chunks.specs.Seen.{form_seen, head_seen}
+use Rattle.frame_index.proofs.Passing.{sound_within, sound_least, walk_begins, walk_goes_on, same_error, same_fault, stops_at_limit, stops_at_misfit, stops_at_bad_frame, stops_at_other_count, walk_is, walk_fits}
+use Rattle.frame_index.proofs.frames.walk_from.Goals as goal
+
+pub overflow_add-end : goal.overflow_add-end
+overflow_add-end g c =
+    let within = sound_within (form_seen c.args.form.now) c.requires.lawful in omega (arith, within, c.requires.lawful.end)
+
+pub overflow_add-end-2 : goal.overflow_add-end-2
+overflow_add-end-2 g c =
+    let within = sound_within (form_seen c.args.form.now) c.requires.lawful in omega (arith, within, c.requires.lawful.end)
+
+pub overflow_add-place : goal.overflow_add-place
+overflow_add-place g c =
+    let within = sound_within (form_seen c.args.form.now) c.requires.lawful in omega (arith, within, c.requires.lawful.end)
+
+pub overflow_add-place-2 : goal.overflow_add-place-2
+overflow_add-place-2 g c =
+    let within = sound_within (form_seen c.args.form.now) c.requires.lawful in omega (arith, within, c.requires.lawful.end)
+
+pub loop-place-init : goal.loop-place-init
+loop-place-init g c =
+    let form = form_seen c.args.form.now in
+    let least = sound_least form c.requires.lawful c.requires.coded in
+    record {
+      bytes = refl;
+      known = refl;
+      faults = omega arith;
+      given = omega arith;
+      few = omega arith;
+      behind = omega arith;
+      before = omega (arith, least);
+      walked = walk_begins form (g.S.Source.bytes c.args.source.now) c.args.entries c.requires.none;
+    }
+
+pub returns-then-passed-eq-MOST_CHUNKS-clause-fault : goal.returns-then-passed-eq-MOST_CHUNKS-clause-fault
+returns-then-passed-eq-MOST_CHUNKS-clause-fault g c fault e xs told =
+    let form = form_seen c.args.form.now in
+    let w = c.loop-place.invariant.walked in
+    stops_at_limit form (g.S.Source.bytes c.args.source.now) c.loop-place.passed c.loop-place.place c.loop-place.frames c.loop-place.entries xs w told
+    c.if-passed-eq-MOST_CHUNKS.true c.loop-place-test.true
+    ∙ ap Err (same_fault _ _ e)
+
+pub read_head-requires-clause-size : goal.read_head-requires-clause-size
+read_head-requires-clause-size g c =
+    let within = sound_within (form_seen c.args.form.now) c.requires.lawful in
+    (c.requires.size.0, c.loop-place.invariant.known ∙ c.requires.size.1, omega (arith, within, c.requires.size.2))
+
+pub returns-in-Err-clause-fault : goal.returns-in-Err-clause-fault
+returns-in-Err-clause-fault g c fault e xs told =
+    let form = form_seen c.args.form.now in
+    let w = c.loop-place.invariant.walked in
+    let few : c.loop-place.passed < 4000000 = omega (arith, c.loop-place.invariant.few, c.if-passed-eq-MOST_CHUNKS.false) in
+    stops_at_misfit form (g.S.Source.bytes c.args.source.now) c.loop-place.passed c.loop-place.place c.loop-place.frames c.loop-place.entries xs w told
+    few c.loop-place-test.true (c.in-Err.ensures.passes fault (ap Err (same_error _ _ e)) xs (c.loop-place.invariant.bytes ∙ told))
+    ∙ ap Err (sym (c.in-Err.ensures.overrun fault (ap Err (same_error _ _ e))))
+
+pub pass_chunk-requires-clause-within : goal.pass_chunk-requires-clause-within
+pass_chunk-requires-clause-within g c =
+    let within = sound_within (form_seen c.args.form.now) c.requires.lawful in
+    omega (arith, within, c.requires.lawful.end, c.in-Ok.ensures.place, c.in-Ok.ensures.within)
+
+pub returns-in-Err-pass_chunk-clause-fault : goal.returns-in-Err-pass_chunk-clause-fault
+returns-in-Err-pass_chunk-clause-fault g c fault e xs told =
+    let form = form_seen c.args.form.now in
+    let w = c.loop-place.invariant.walked in
+    let few : c.loop-place.passed < 4000000 = omega (arith, c.loop-place.invariant.few, c.if-passed-eq-MOST_CHUNKS.false) in
+    let within : body_end (head_seen c.in-Ok.head) ≤ body_end form.sound = omega (arith, c.in-Ok.ensures.place, c.in-Ok.ensures.within) in
+    stops_at_bad_frame form (g.S.Source.bytes c.args.source.now) c.loop-place.passed c.loop-place.place c.loop-place.frames c.loop-place.entries xs
+    (head_seen c.in-Ok.head) fault w told few c.loop-place-test.true (c.in-Ok.ensures.head xs (c.loop-place.invariant.bytes ∙ told)) within
+    (c.in-Err-pass_chunk.ensures.frame fault (ap Err (same_error _ _ e))) (c.in-Err-pass_chunk.ensures.fault fault (ap Err (same_error _ _ e)))
+
+pub overflow_add-place-in-loop-place : goal.overflow_add-place-in-loop-place
+overflow_add-place-in-loop-place g c =
+    let within = sound_within (form_seen c.args.form.now) c.requires.lawful in
+    omega (arith, within, c.requires.lawful.end, c.in-Ok.ensures.within)
+
+pub overflow_add-place-in-loop-place-2 : goal.overflow_add-place-in-loop-place-2
+overflow_add-place-in-loop-place-2 g c =
+    let within = sound_within (form_seen c.args.form.now) c.requires.lawful in
+    omega (arith, within, c.requires.lawful.end, c.in-Ok.ensures.within)
+
+pub overflow_add-place-in-loop-place-3 : goal.overflow_add-place-in-loop-place-3
+overflow_add-place-in-loop-place-3 g c =
+    let within = sound_within (form_seen c.args.form.now) c.requires.lawful in
+    omega (arith, within, c.requires.lawful.end, c.in-Ok.ensures.within)
+
+pub loop-place-preserved : goal.loop-place-preserved
+loop-place-preserved g c =
+    let form = form_seen c.args.form.now in
+    let place = c.loop-place.place in
+    let head = c.in-Ok.head in
+    let few : c.loop-place.passed < 4000000 = omega (arith, c.loop-place.invariant.few, c.if-passed-eq-MOST_CHUNKS.false) in
+    let within : body_end (head_seen head) ≤ body_end form.sound = omega (arith, c.in-Ok.ensures.place, c.in-Ok.ensures.within) in
+    let next : next_place (head_seen head) ≡ place + (12 + head.size + head.size % 2) = omega (arith, c.in-Ok.ensures.place) in
+    record {
+      bytes = c.in-Ok.ensures.bytes ∙ c.loop-place.invariant.bytes;
+      known = c.in-Ok.ensures.size_stays ∙ c.loop-place.invariant.known;
+      faults = omega (arith, c.in-Ok.ensures.later, c.loop-place.invariant.faults);
+      given = omega (arith, c.in-Ok.ensures.given, c.loop-place.invariant.given);
+      few = omega (arith, few);
+      behind = omega (arith, c.loop-place.invariant.behind);
+      before = omega (arith, c.in-Ok.ensures.within);
+      walked =
+          walk_goes_on form (g.S.Source.bytes c.args.source.now) c.loop-place.passed place _ c.loop-place.frames _ c.loop-place.entries _ (head_seen head)
+          c.loop-place.invariant.walked few c.loop-place-test.true c.loop-place.invariant.behind c.in-Ok.ensures.place within next
+          (λ xs told. c.in-Ok.ensures.head xs (c.loop-place.invariant.bytes ∙ told))
+          c.in-Ok-pass_chunk.ensures.count c.in-Ok-pass_chunk.ensures.kept c.in-Ok-pass_chunk.ensures.faultless;
+    }
+
+pub returns-then-frames-form-clause-fault : goal.returns-then-frames-form-clause-fault
+returns-then-frames-form-clause-fault g c fault e xs told =
+    let form = form_seen c.args.form.now in
+    let w = c.loop-place.invariant.walked in
+    stops_at_other_count form (g.S.Source.bytes c.args.source.now) c.loop-place.passed c.loop-place.place c.loop-place.frames c.loop-place.entries xs w told
+    c.loop-place-test.false c.if-frames-form.true
+    ∙ ap Err (same_fault _ _ e)
+
+pub returns-clause-index : goal.returns-clause-index
+returns-clause-index g c xs told =
+    walk_is (form_seen c.args.form.now) (g.S.Source.bytes c.args.source.now) c.loop-place.passed c.loop-place.place c.loop-place.frames c.loop-place.entries xs
+    c.loop-place.invariant.walked told c.loop-place-test.false c.if-frames-form.false
+
+pub returns-clause-fits : goal.returns-clause-fits
+returns-clause-fits g c =
+    walk_fits (form_seen c.args.form.now) (g.S.Source.bytes c.args.source.now) c.loop-place.passed c.loop-place.place c.loop-place.frames c.loop-place.entries
+    c.loop-place.invariant.walked c.if-frames-form.false

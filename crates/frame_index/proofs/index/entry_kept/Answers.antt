@@ -1,0 +1,15 @@
+use Rattle.std.proofs.Common.{◌≡◌, ◌-◌, ◌*◌, ap, ◌∙◌, refl, length, take, drop}
+use Rattle.byteorder.specs.Endian.{big_number}
+use Rattle.frame_index.proofs.Entries.{offset_behind, size_behind, from_place_is}
+use Rattle.frame_index.proofs.index.entry_kept.Goals as goal
+
+pub returns : goal.returns
+returns c =
+    let bytes = c.args.bytes.now in
+    let at = 12 * c.args.k in
+    let there = from_place_is bytes at in
+    let o : c.in-Some.offset ≡ big_number 8 (take (length bytes - at) (drop at bytes)) = c.in-Some.ensures.offset in
+    let s : c.in-Some.size ≡ big_number 4 (drop 8 (take (length bytes - at) (drop at bytes))) = c.in-Some.ensures.length in
+    let offset = o ∙ ap (λ w. big_number 8 w) there ∙ offset_behind bytes at 8 in
+    let size = s ∙ ap (λ w. big_number 4 (drop 8 w)) there ∙ size_behind bytes at 4 8 in
+    rw (offset, size) refl

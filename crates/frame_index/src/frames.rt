@@ -1,0 +1,178 @@
+// The walk of a coded form: where its frames stand.
+ghost use Rattle.std.specs.Prelude.{◌≡◌, ◌+◌, ◌*◌, ◌^◌, ◌<◌, ◌≤◌, ℕ, List, [], length, take, true, false, Some, None, Option, IfNone, IfOk, OnOk, Err, Ok};
+ghost use Rattle.dst_streams.specs.Causes.{Rose};
+ghost use Rattle.dsdiff_spec.specs.Bytes.{number_at, ◌is◌};
+ghost use Rattle.dsdiff_spec.specs.Chunks.{head_at, fits};
+ghost use Rattle.dsdiff_spec.specs.Form.{coded};
+ghost use Rattle.dsdiff_spec.specs.Walk as walks;
+ghost use Rattle.dsdiff_chunks.specs.Seen.{form_seen, head_seen};
+ghost use Rattle.dsdiff_chunks.specs.Lawful.{IsLawful};
+ghost use Rattle.frame_index.specs.Finding.{found_with};
+ghost use Rattle.frame_index.specs.Fitting.{IsIndexOf};
+
+use crate::index::Index;
+use byteorder::{BigEndian, ByteOrder};
+use dsdiff_chunks::{ChunkHead, FileFault, Form, OpenFault, read_range};
+use dst_streams::Source;
+use std::alloc::Global;
+
+/// Most chunks that `DST ` may have behind `FRTE`, and most frames.
+const MOST_CHUNKS: u32 = 4_000_000;
+
+const MOST_FRAMES: u32 = 1_000_000;
+
+/// Walks the chunks of `DST ` behind `FRTE` (DSDIFF 1.5), of which each `DSTF` is the next frame. No body is read.
+///
+/// The first fault is told. At a chunk, in this order: `TooManyChunks`, where 4,000,000 others stand before it; `Overrun`,
+/// where its head or its body passes the end of `DST ` (the last pad byte may be missing); `FrameTooLong`, where it is a
+/// frame of more than `2 * (f + 1)` bytes, f being the bytes of a frame's sound; `TooManyFrames`, where 1,000,000 frames
+/// stand before this one. Behind the last chunk: `CountDiffers`, where `FRTE` tells another number of frames.
+pub fn walk<S: Source>(alloc: Global, source: &mut S, form: &Form) -> Result<Index, OpenFault>
+    requires coded { (form_seen form.now).kind ≡ coded }
+    requires lawful { IsLawful (form_seen form.now) }
+    requires size { (n : ℕ) × (S.known source.old ≡ Some n) × (form.now.end ≤ n) }
+    ensures bytes { S.bytes source.new ≡ S.bytes source.old }
+    ensures size_stays { S.known source.new ≡ S.known source.old }
+    ensures index { IfOk result (λ i. (xs : List ℕ) → S.bytes source.old ≡ Some xs → walks.walk xs (form_seen form.now) ≡ Ok i) }
+    ensures fits { IfOk result (λ i. IsIndexOf (form_seen form.now) i) }
+    ensures fault { (fault : FileFault) → result ≡ Err (OpenFault.File fault) → (xs : List ℕ) → S.bytes source.old ≡ Some xs → walks.walk xs (form_seen form.now) ≡ Err fault }
+    ensures read { result ≡ Err OpenFault.Read → Rose (S.faults source.old) (S.faults source.new) }
+    ensures later { S.faults source.old ≤ S.faults source.new }
+    ensures given { S.given source.new ≤ S.given source.old + 48000000 }
+{
+    match Index::with_room(alloc, form.frames) {
+        Ok(index) => walk_from(source, form, index),
+        Err(_) => Err(OpenFault::Memory),
+    }
+}
+
+// The head of the chunk at a place before the end of `DST `.
+fn read_head<S: Source>(source: &mut S, place: u64, end: u64) -> Result<ChunkHead, OpenFault>
+    requires before { place < end }
+    requires size { (n : ℕ) × (S.known source.old ≡ Some n) × (end ≤ n) }
+    ensures bytes { S.bytes source.new ≡ S.bytes source.old }
+    ensures size_stays { S.known source.new ≡ S.known source.old }
+    ensures later { S.faults source.old ≤ S.faults source.new }
+    ensures given { S.given source.new ≤ S.given source.old + 12 }
+    ensures place { IfOk result (λ h. h.place ≡ place) }
+    ensures within { IfOk result (λ h. place + 12 + h.size ≤ end) }
+    ensures head { IfOk result (λ h. (xs : List ℕ) → S.bytes source.old ≡ Some xs → head_at xs place ≡ head_seen h) }
+    ensures overrun { (fault : FileFault) → result ≡ Err (OpenFault.File fault) → fault ≡ FileFault.Overrun place }
+    ensures passes { (fault : FileFault) → result ≡ Err (OpenFault.File fault) → (xs : List ℕ) → S.bytes source.old ≡ Some xs → fits (λ id. true) end (head_at xs place) ≡ false }
+    ensures read { result ≡ Err OpenFault.Read → Rose (S.faults source.old) (S.faults source.new) }
+{
+    if end - place < 12 {
+        return Err(OpenFault::File(FileFault::Overrun { place }));
+    }
+    let mut bytes = [0; 12];
+    let Ok(()) = read_range(source, place, &mut bytes) else {
+        return Err(OpenFault::Read);
+    };
+    let head = head_of(place, &bytes);
+    if head.size > end - place - 12 {
+        return Err(OpenFault::File(FileFault::Overrun { place }));
+    }
+    Ok(head)
+}
+
+// The head of the chunk at a place, from its bytes.
+fn head_of(place: u64, bytes: &[u8; 12]) -> ChunkHead
+    ensures { head_seen result ≡ record { id = take 4 bytes.now; place = place; size = number_at bytes.now 4 8 } }
+{
+    let mut id = [0; 4];
+    id.copy_from_slice(&bytes[..4]);
+    let size = BigEndian::read_u64(&bytes[4..]);
+    ChunkHead { id, place, size }
+}
+
+// Walks the chunks, and keeps the entries of as many frames as are told.
+fn walk_from<S: Source>(source: &mut S, form: &Form, entries: Index) -> Result<Index, OpenFault>
+    requires none { entries ≡ [] }
+    requires coded { (form_seen form.now).kind ≡ coded }
+    requires lawful { IsLawful (form_seen form.now) }
+    requires size { (n : ℕ) × (S.known source.old ≡ Some n) × (form.now.end ≤ n) }
+    ensures bytes { S.bytes source.new ≡ S.bytes source.old }
+    ensures size_stays { S.known source.new ≡ S.known source.old }
+    ensures later { S.faults source.old ≤ S.faults source.new }
+    ensures given { S.given source.new ≤ S.given source.old + 48000000 }
+    ensures index { IfOk result (λ i. (xs : List ℕ) → S.bytes source.old ≡ Some xs → walks.walk xs (form_seen form.now) ≡ Ok i) }
+    ensures fits { IfOk result (λ i. IsIndexOf (form_seen form.now) i) }
+    ensures fault { (fault : FileFault) → result ≡ Err (OpenFault.File fault) → (xs : List ℕ) → S.bytes source.old ≡ Some xs → walks.walk xs (form_seen form.now) ≡ Err fault }
+    ensures read { result ≡ Err OpenFault.Read → Rose (S.faults source.old) (S.faults source.new) }
+{
+    let mut entries = entries;
+    let end = form.sound.place + 12 + form.sound.size;
+    let mut place = form.sound.place + 12 + 18;
+    let mut passed = 0;
+    let mut frames = 0;
+    while place < end {
+        if passed == MOST_CHUNKS {
+            return Err(OpenFault::File(FileFault::TooManyChunks));
+        }
+        let head = match read_head(source, place, end) {
+            Ok(head) => head,
+            Err(fault) => return Err(fault),
+        };
+        frames = match pass_chunk(form, head, frames, &mut entries) {
+            Ok(count) => count,
+            Err(fault) => return Err(fault),
+        };
+        passed += 1;
+        place += 12 + head.size + head.size % 2;
+    }
+    if frames != form.frames {
+        return Err(OpenFault::File(FileFault::CountDiffers {
+            told: form.frames,
+            found: frames,
+        }));
+    }
+    Ok(entries)
+}
+
+// Passes the chunk behind so many frames: a frame is kept where no more than the told ones are found. How many frames
+// were found then.
+fn pass_chunk(
+    form: &Form,
+    head: ChunkHead,
+    frames: u32,
+    entries: &mut Index,
+) -> Result<u32, OpenFault>
+    requires few { length entries.old ≤ frames }
+    requires within { head.place + 12 + head.size < 2 ^ 64 }
+    ensures count { IfOk result (λ n. (found : List walks.Entry) → length found ≡ frames → length (found_with (head_seen head) found) ≡ n) }
+    ensures kept { OnOk result ((found : List walks.Entry) → length found ≡ frames → entries.old ≡ take form.now.frames found → entries.new ≡ take form.now.frames (found_with (head_seen head) found)) }
+    ensures faultless { OnOk result (((head_seen head).id is "DSTF") ≡ true → walks.frame_fault (form_seen form.now) (frames, head_seen head) ≡ None) }
+    ensures frame { (fault : FileFault) → result ≡ Err (OpenFault.File fault) → ((head_seen head).id is "DSTF") ≡ true }
+    ensures fault { (fault : FileFault) → result ≡ Err (OpenFault.File fault) → walks.frame_fault (form_seen form.now) (frames, head_seen head) ≡ Some fault }
+    ensures unread { result ≡ Err OpenFault.Read → ⊥ }
+{
+    if head.id != *b"DSTF" {
+        return Ok(frames);
+    }
+    if let Some(fault) = frame_fault(form, head, frames) {
+        return Err(OpenFault::File(fault));
+    }
+    if frames < form.frames && entries.push(head.place + 12, head.size as u32).is_err() {
+        return Err(OpenFault::Memory);
+    }
+    Ok(frames + 1)
+}
+
+// The fault of a frame behind so many others.
+fn frame_fault(form: &Form, head: ChunkHead, frames: u32) -> Option<FileFault>
+    ensures fault { result ≡ walks.frame_fault (form_seen form.now) (frames, head_seen head) }
+    ensures short { IfNone result (head.size < 2 ^ 32) }
+    ensures few { IfNone result (frames < MOST_FRAMES) }
+{
+    let longest = 2 * (form.channels.frame_bytes() as u64 + 1);
+    if head.size > longest {
+        return Some(FileFault::FrameTooLong {
+            frame: frames,
+            length: head.size,
+        });
+    }
+    if frames >= MOST_FRAMES {
+        return Some(FileFault::TooManyFrames);
+    }
+    None
+}

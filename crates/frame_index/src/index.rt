@@ -1,0 +1,100 @@
+// Entries of an index.
+ghost use Rattle.std.specs.Prelude.{◌≡◌, ◌+◌, ◌*◌, ◌<◌, ◌≤◌, ◌++◌, ◌∷◌, [], length, IfOk, OnOk, OnErr};
+ghost use Rattle.byteorder.specs.Endian.{big_bytes};
+ghost use Rattle.dsdiff_spec.specs.Walk.{entry};
+ghost use Rattle.frame_index.specs.Entries.{entry_at, entry_seen};
+
+use byteorder::{BigEndian, ByteOrder};
+use chunk_view::entry_of;
+use std::alloc::{AllocError, Global};
+use std::marker::Model;
+
+/// Where a frame stands: the place of the first byte of its body in the file, and the size of its body in bytes.
+#[derive(Clone, Copy, Debug, PartialEq, Eq)]
+pub struct Entry {
+    pub offset: u64,
+    pub size: u32,
+}
+
+/// The frames of a form in order, as contracts see it a list of entries. Each entry is kept in the twelve bytes that it
+/// has in a chunk `DSTI`.
+#[derive(Drop)]
+pub struct Index {
+    bytes: Vec<u8>,
+    frames: u32,
+}
+
+impl Model for Index {
+    ghost use Rattle.std.specs.Prelude.{List};
+    ghost use Rattle.dsdiff_spec.specs.Walk.{Entry};
+
+    ghost Value = { List Entry };
+
+    ghost use Rattle.std.specs.Prelude.{◌≡◌, ◌*◌, ◌≤◌, length};
+    ghost use Rattle.frame_index.specs.Entries.{entries_in};
+
+    ghost view = { λ i. entries_in i.bytes.items };
+
+    ghost invariant = { λ i. (length i.bytes.items ≡ 12 * i.frames) × (i.frames ≤ 1000000) };
+}
+
+impl Index {
+    // No frame, and room for so many.
+    pub(crate) fn with_room(alloc: Global, frames: u32) -> Result<Index, AllocError>
+        ensures { IfOk result (λ i. i ≡ []) }
+    {
+        Ok(Index {
+            bytes: Vec::with_capacity(alloc, 12 * frames as usize)?,
+            frames: 0,
+        })
+    }
+
+    // One frame more, which isn't kept where memory is refused.
+    pub(crate) fn push(&mut self, offset: u64, size: u32) -> Result<(), AllocError>
+        requires { length self.old < 1000000 }
+        ensures { OnOk result (self.new ≡ self.old ++ record { offset = offset; size = size } ∷ []) }
+    {
+        push_bytes(&mut self.bytes, offset, size)?;
+        self.frames += 1;
+        Ok(())
+    }
+
+    /// How many frames there are.
+    pub fn length(&self) -> u32
+        ensures length { result ≡ length self.now }
+        ensures most { result ≤ 1000000 }
+    {
+        self.frames
+    }
+
+    /// Where frame k stands, frames being counted from 0.
+    pub fn entry(&self, k: u32) -> Entry
+        requires { k < length self.now }
+        ensures { entry_seen result ≡ entry self.now k }
+    {
+        entry_kept(&self.bytes, k as usize)
+    }
+}
+
+// Entry k of bytes that are entries.
+fn entry_kept(bytes: &[u8], k: usize) -> Entry
+    requires { 12 * k + 12 ≤ length bytes.now }
+    ensures { entry_seen result ≡ entry_at bytes.now k }
+{
+    let at = 12 * k;
+    match entry_of(&bytes[at..]) {
+        Some((offset, size)) => Entry { offset, size },
+        None => unreachable!(),
+    }
+}
+
+// The twelve bytes of an entry at the end of others.
+fn push_bytes(bytes: &mut Vec<u8>, offset: u64, size: u32) -> Result<(), AllocError>
+    ensures pushed { OnOk result (bytes.new.items ≡ bytes.old.items ++ big_bytes 8 offset ++ big_bytes 4 size) }
+    ensures kept { OnErr result (bytes.new.items ≡ bytes.old.items) }
+{
+    let mut entry = [0; 12];
+    BigEndian::write_u64(&mut entry, offset);
+    BigEndian::write_u32(&mut entry[8..], size);
+    bytes.extend_from_slice(&entry)
+}
