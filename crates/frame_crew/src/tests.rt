@@ -1,0 +1,222 @@
+// Which jobs are worked at once, and one answer for every number of workers.
+ghost use Rattle.std.specs.Prelude.{◌≡◌, ◌+◌, ◌-◌, ◌%◌, ◌^◌, ◌<◌, ◌≤◌};
+
+use super::*;
+use std::sync::atomic::{AtomicBool, AtomicU64, Ordering};
+use std::test::Fail;
+use std::thread::Threads;
+
+#[derive(Clone, Copy)]
+struct Number {
+    value: u32,
+}
+
+impl Slot for Number {
+    ghost shape = { λ _. 0 };
+}
+
+#[derive(Drop)]
+struct AddOne;
+
+impl FrameWork for AddOne {
+    type Job = Number;
+
+    ghost shape = { λ _. 0 };
+
+    ghost done = { λ _ before after. after.value ≡ (before.value + 1) % 2 ^ 32 };
+
+    fn work(&self, job: &mut Number) {
+        job.value = job.value.wrapping_add(1);
+    }
+}
+
+// Holds the first job until the second has passed.
+#[derive(Drop)]
+struct Holding {
+    second: AtomicBool,
+    ran_out: AtomicBool,
+    passes: AtomicU64,
+}
+
+impl Gate for Holding {
+    fn pass(&self, place: usize) {
+        self.passes.fetch_add(1, Ordering::SeqCst);
+        if place == 1 {
+            self.second.store(true, Ordering::SeqCst);
+            return;
+        }
+        for _ in 0..100_000_000u64 {
+            if self.second.load(Ordering::SeqCst) {
+                return;
+            }
+        }
+        self.ran_out.store(true, Ordering::SeqCst);
+    }
+}
+
+#[test]
+fn two_jobs_are_worked_at_once(rt: HostRuntime) -> Result<(), Fail> {
+    let gate = Holding {
+        second: AtomicBool::new(false),
+        ran_out: AtomicBool::new(false),
+        passes: AtomicU64::new(0),
+    };
+    let mut jobs = [Number { value: 1 }, Number { value: 2 }];
+    run_batch(&rt, &AddOne, &gate, &mut jobs, 2);
+    assert!(rt; !gate.ran_out.load(Ordering::SeqCst));
+    assert_eq!(rt; gate.passes.load(Ordering::SeqCst), 2);
+    assert_eq!(rt; jobs[0].value, 2);
+    assert_eq!(rt; jobs[1].value, 3);
+    Ok(())
+}
+
+// The numbers below `end`, up to a fault, and how often the end was told.
+#[derive(Drop)]
+struct Numbers<'a> {
+    next: u32,
+    end: u32,
+    fails_at: u32,
+    ends: &'a AtomicU64,
+}
+
+impl Feed<Number> for Numbers<'_> {
+    type Fault = u32;
+
+    ghost shape = { λ _. 0 };
+
+    ghost gives = { λ s job t. (job.value ≡ s.next) × (t.next ≡ s.next + 1) };
+
+    ghost ended = { λ s. s.end ≤ s.next };
+
+    ghost failed = { λ s fault t. (fault ≡ s.next) × (t ≡ s) };
+
+    ghost bound = { λ s. s.end - s.next };
+
+    fn fill(&mut self, job: &mut Number) -> Result<bool, u32> {
+        if self.next >= self.end {
+            self.ends.fetch_add(1, Ordering::SeqCst);
+            return Ok(false);
+        }
+        if self.next == self.fails_at {
+            return Err(self.next);
+        }
+        job.value = self.next;
+        self.next += 1;
+        Ok(true)
+    }
+}
+
+// Counts the jobs, up to a fault, and compares each with its place.
+#[derive(Drop)]
+struct InOrder {
+    count: u32,
+    is_in_order: bool,
+    fails_at: u32,
+}
+
+impl Drain<Number> for InOrder {
+    type Fault = u32;
+
+    ghost shape = { λ _. 0 };
+
+    ghost takes = { λ s _ t. t.count ≡ (s.count + 1) % 2 ^ 32 };
+
+    ghost failed = { λ s _ fault t. (fault ≡ s.count) × (t ≡ s) };
+
+    fn drain(&mut self, job: &mut Number) -> Result<(), u32> {
+        if self.count == self.fails_at {
+            return Err(self.count);
+        }
+        if job.value != self.count.wrapping_add(1) {
+            self.is_in_order = false;
+        }
+        self.count = self.count.wrapping_add(1);
+        job.value = 0;
+        Ok(())
+    }
+}
+
+const NEVER: u32 = u32::MAX;
+
+// What one run answers, how many jobs were drained, whether each stood at its place, and how often the end was told.
+#[derive(Debug, Drop, PartialEq, Eq)]
+struct Outcome {
+    answer: Result<u32, (&'static str, u32)>,
+    drained: u32,
+    is_in_order: bool,
+    ends: u64,
+}
+
+fn run_numbers<R: Threads + Sync>(
+    rt: &R,
+    end: u32,
+    feed_fails_at: u32,
+    drain_fails_at: u32,
+    workers: u32,
+) -> Outcome
+    requires { (0 < workers) × (workers ≤ 16) }
+{
+    let ends = AtomicU64::new(0);
+    let mut feed = Numbers {
+        next: 0,
+        end,
+        fails_at: feed_fails_at,
+        ends: &ends,
+    };
+    let mut drain = InOrder {
+        count: 0,
+        is_in_order: true,
+        fails_at: drain_fails_at,
+    };
+    let mut jobs = [Number { value: 0 }; 32];
+    let answer = match run_ordered(
+        rt, &AddOne, &mut feed, &mut drain, &OpenGate, &mut jobs, workers,
+    ) {
+        Ok(count) => Ok(count),
+        Err(RunFault::Feed(place)) => Err(("feed", place)),
+        Err(RunFault::Drain(place)) => Err(("drain", place)),
+    };
+    Outcome {
+        answer,
+        drained: drain.count,
+        is_in_order: drain.is_in_order,
+        ends: ends.load(Ordering::SeqCst),
+    }
+}
+
+#[test]
+fn every_number_of_workers_gives_one_answer(rt: HostRuntime) -> Result<(), Fail> {
+    // Numbers, where the feed and the drain fail, the answer, how many jobs were drained, how often the end was told.
+    let rows = [
+        (0, NEVER, NEVER, Ok(0), 0, 1),
+        (1, NEVER, NEVER, Ok(1), 1, 1),
+        (31, NEVER, NEVER, Ok(31), 31, 1),
+        (32, NEVER, NEVER, Ok(32), 32, 1),
+        (33, NEVER, NEVER, Ok(33), 33, 1),
+        (100, NEVER, NEVER, Ok(100), 100, 1),
+        (1, 0, NEVER, Err(("feed", 0)), 0, 0),
+        (100, 31, NEVER, Err(("feed", 31)), 31, 0),
+        (100, 32, NEVER, Err(("feed", 32)), 32, 0),
+        (100, 40, NEVER, Err(("feed", 40)), 40, 0),
+        (1, NEVER, 0, Err(("drain", 0)), 0, 1),
+        (33, NEVER, 32, Err(("drain", 32)), 32, 1),
+        (100, NEVER, 31, Err(("drain", 31)), 31, 0),
+        (100, NEVER, 50, Err(("drain", 50)), 50, 0),
+        (100, 40, 39, Err(("drain", 39)), 39, 0),
+        (100, 40, 40, Err(("feed", 40)), 40, 0),
+        (100, 40, 7, Err(("drain", 7)), 7, 0),
+    ];
+    for (end, feed_fails_at, drain_fails_at, answer, drained, ends) in &rows {
+        let wanted = Outcome {
+            answer: *answer,
+            drained: *drained,
+            is_in_order: true,
+            ends: *ends,
+        };
+        for workers in 1..17u32 {
+            let given = run_numbers(&rt, *end, *feed_fails_at, *drain_fails_at, workers);
+            assert_eq!(rt; given, wanted, "{end} numbers, {workers} workers");
+        }
+    }
+    Ok(())
+}
