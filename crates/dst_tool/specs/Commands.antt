@@ -1,0 +1,9 @@
+-- What the definitions say of one command and a file, in the words of the calls.
+use Rattle.std.specs.Prelude.{ℕ, List}
+use Rattle.dsdiff_spec.specs.Words.{Command}
+use Rattle.dsdiff_spec.specs.Refusal.{refusal}
+use Rattle.dsdiff_spec.specs.Outcome.{Answer, OfCommand}
+
+-- the outcome of a command on a file
+abbrev pub OutcomeOf : Command → List ℕ → Answer → Type 0
+OutcomeOf c file o = OfCommand c file (refusal c file) o

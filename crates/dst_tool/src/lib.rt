@@ -1,0 +1,31 @@
+//! The commands of the coder, and the call that reads words and runs them.
+//!
+//! [`dst_run`] does all that the program does: it reads the words, runs their command over a source and a sink, reports
+//! lines of text, and answers the status. [`decode_file`] is the command alone.
+//!
+//! ```text
+//! let mut source = FileSource::new(&rt, "in.dff");
+//! let mut sink = FileSink::new(&rt, "out.dff");
+//! let mut report = TextSink::new(&rt);
+//! let status = dst_run(alloc, &words, &mut source, &mut sink, &mut report); // `decode in.dff out.dff`
+//! ```
+//!
+//! Whatever a status is, its clause says what sink and report hold: behind a done command the one output that the file
+//! means, behind a failed device a prefix of it, behind refused words, a refused file or want of memory nothing.
+#![tactic(auto)]
+
+mod chunks;
+mod decode;
+mod faults;
+mod frames;
+mod opening;
+mod run;
+mod sizes;
+
+pub use decode::decode_file;
+pub use dst_words::{Command, read_words};
+pub use faults::{Summary, ToolFault};
+pub use run::dst_run;
+
+#[cfg(test)]
+mod tests;

@@ -1,0 +1,112 @@
+// The top call: words in, a status out.
+ghost use Rattle.std.specs.Prelude.{◌≡◌, ◌⊎◌, ◌+◌, ◌<◌, ◌≤◌, ℕ, List, [], ◌∷◌, length, map, Option, Some, None, Err};
+ghost use Rattle.std.specs.String.{string_bytes};
+ghost use Rattle.dst_spec.specs.declared.faults.FrameFault.{FrameFault};
+ghost use Rattle.dst_streams.specs.Causes.{Rose};
+ghost use Rattle.dst_streams.specs.Told.{IsCutShort, and_then};
+ghost use Rattle.dsdiff_spec.specs.declared.faults.FileFault.{FileFault};
+ghost use Rattle.dsdiff_spec.specs.Lines as reports;
+ghost use Rattle.dsdiff_spec.specs.Rows.{command_of};
+ghost use Rattle.dsdiff_spec.specs.Outcome.{Answer, Outcome, frame_refused};
+ghost use Rattle.dst_tool.specs.Answers.{status_of, line_of};
+ghost use Rattle.dst_tool.specs.Runs.{DidNotRise, Ends, EndsAs, Reports, IsRefused, NoFrameIsRefused};
+
+use crate::decode::decode_file;
+use crate::faults::{Summary, ToolFault};
+use dst_streams::{Sink, Source};
+use dst_words::{Command, lines, read_words};
+use std::alloc::Global;
+
+/// Runs the command of these words: reads `source`, writes `sink`, and reports lines of text to `report`. It answers the
+/// status: 0 done, 1 words not understood, 2 read fault, 3 write fault, 4 memory, 5 file refused, 6 frame refused, 7
+/// report fault.
+pub fn dst_run<S: Source, K: Sink, R: Sink>(
+    alloc: Global,
+    words: &[String],
+    source: &mut S,
+    sink: &mut K,
+    report: &mut R,
+) -> u8
+    // Where the source tells its bytes and no count of faults rose, the status, what is written and the report are those
+    // of the one outcome, or the status is 4.
+    ensures headline { (file : List ℕ) → S.bytes source.old ≡ Some file →
+        DidNotRise (S.faults source.old) (S.faults source.new) → DidNotRise (K.faults sink.old) (K.faults sink.new) → DidNotRise (R.faults report.old) (R.faults report.new) →
+        (result ≡ 4) ⊎ ((lines : List reports.Line) × EndsAs (map string_bytes words.now) file result lines (K.written sink.old) (K.written sink.new)
+        × (R.written report.new ≡ and_then (R.written report.old) (reports.report lines))) }
+    // Lawful words, a file that is accepted, none of its frames refused, and no count that rose: it is done, or memory
+    // was refused.
+    ensures complete { (file : List ℕ) → S.bytes source.old ≡ Some file → NoFrameIsRefused (map string_bytes words.now) file →
+        DidNotRise (S.faults source.old) (S.faults source.new) → DidNotRise (K.faults sink.old) (K.faults sink.new) → DidNotRise (R.faults report.old) (R.faults report.new) →
+        (result ≡ 0) ⊎ (result ≡ 4) }
+    // What sink and report hold behind each status; 7 comes where the lines of another one failed.
+    ensures ends { (file : List ℕ) → S.bytes source.old ≡ Some file →
+        (status : ℕ) × (lines : List reports.Line) × Ends (map string_bytes words.now) file status lines (K.written sink.old) (K.written sink.new)
+        × Reports status lines result (R.written report.old) (R.written report.new) }
+    // Words are refused by themselves, and touch nothing.
+    ensures words { command_of (map string_bytes words.now) ≡ None → (result ≡ 1) ⊎ (result ≡ 7) }
+    ensures only_words { result ≡ 1 → command_of (map string_bytes words.now) ≡ None }
+    ensures untouched { command_of (map string_bytes words.now) ≡ None → (source.new ≡ source.old) × (sink.new ≡ sink.old) }
+    // Devices fail by their own cause.
+    ensures read { result ≡ 2 → Rose (S.faults source.old) (S.faults source.new) }
+    ensures write { result ≡ 3 → Rose (K.faults sink.old) (K.faults sink.new) }
+    ensures reported { result ≡ 7 → Rose (R.faults report.old) (R.faults report.new) }
+    // A sink that is sure to take the outcome's bytes doesn't fail; nor does a report that is sure to take its lines and
+    // the line on memory, which has 7 bytes, where no other device failed.
+    ensures sure_sink { (file : List ℕ) → S.bytes source.old ≡ Some file → (o : Answer) → Outcome (map string_bytes words.now) file o →
+        (room : ℕ) → K.room sink.old ≡ Some room → length o.out ≤ room → result ≡ 3 → ⊥ }
+    ensures sure_report { (file : List ℕ) → S.bytes source.old ≡ Some file → (o : Answer) → Outcome (map string_bytes words.now) file o →
+        DidNotRise (S.faults source.old) (S.faults source.new) → DidNotRise (K.faults sink.old) (K.faults sink.new) →
+        (room : ℕ) → R.room report.old ≡ Some room → 7 ≤ room → length (reports.report o.lines) ≤ room → result ≡ 7 → ⊥ }
+    // Want of memory and a refused file come before the first call on the sink.
+    ensures memory { result ≡ 4 → sink.new ≡ sink.old }
+    ensures file { result ≡ 5 → sink.new ≡ sink.old }
+    // A file is refused by the fault that is reported, and so is a frame, behind what is written.
+    ensures refused { result ≡ 5 → (file : List ℕ) → S.bytes source.old ≡ Some file →
+        (fault : FileFault) × IsRefused (map string_bytes words.now) file fault
+        × (R.written report.new ≡ and_then (R.written report.old) (reports.report (reports.file_line fault ∷ []))) }
+    ensures frame { result ≡ 6 → (file : List ℕ) → S.bytes source.old ≡ Some file →
+        (k : ℕ) × (fault : FrameFault) × (out : List ℕ) × Outcome (map string_bytes words.now) file (frame_refused k fault out)
+        × (K.written sink.new ≡ and_then (K.written sink.old) out)
+        × (R.written report.new ≡ and_then (R.written report.old) (reports.report (reports.frame_fault_line k fault ∷ []))) }
+    ensures status { result ≤ 7 }
+{
+    match read_words(words) {
+        None => report_line(report, 1, lines::words_not_understood()),
+        Some(Command::Decode { .. }) => {
+            let (status, line) = told(decode_file(alloc, source, sink));
+            report_line(report, status, line)
+        }
+    }
+}
+
+// The status and the line of what a command answered.
+fn told(answer: Result<Summary, ToolFault>) -> (u8, lines::Line)
+    requires { answer ≡ Err ToolFault.Report → ⊥ }
+    ensures status { result.0 ≡ status_of answer }
+    ensures line { result.1.bytes ≡ reports.report (line_of answer ∷ []) }
+{
+    match answer {
+        Ok(done) => (0, lines::decoded(done.frames, done.bytes)),
+        Err(ToolFault::Read) => (2, lines::read_fault()),
+        Err(ToolFault::Write) => (3, lines::write_fault()),
+        Err(ToolFault::Memory) => (4, lines::memory()),
+        Err(ToolFault::File(fault)) => (5, lines::file_refused(fault)),
+        Err(ToolFault::Frame { frame, fault }) => (6, lines::frame_refused(frame, fault)),
+        Err(ToolFault::Report) => unreachable!(),
+    }
+}
+
+// Reports a line; the status is its own, or 7 where the report failed.
+fn report_line<R: Sink>(report: &mut R, status: u8, line: lines::Line) -> u8
+    requires { status < 7 }
+    ensures reported { (result ≡ status) ⊎ (result ≡ 7) }
+    ensures whole { result ≡ status → R.written report.new ≡ and_then (R.written report.old) line.bytes }
+    ensures cut_short { result ≡ 7 → IsCutShort (R.written report.old) line.bytes (R.written report.new) }
+    ensures cause { result ≡ 7 → Rose (R.faults report.old) (R.faults report.new) }
+    ensures sure { result ≡ 7 → (room : ℕ) → R.room report.old ≡ Some room → length line.bytes ≤ room → ⊥ }
+{
+    match report.append(line.as_bytes()) {
+        Ok(()) => status,
+        Err(_) => 7,
+    }
+}
