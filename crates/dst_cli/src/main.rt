@@ -1,0 +1,47 @@
+//! The program `dst_cli`: decodes Direct Stream Transfer in DSDIFF files.
+//!
+//! ```text
+//! dst_cli decode IN OUT
+//! ```
+//!
+//! It gives words 1 and 2 behind the command to the devices of the top call, and ends with the call's status. Where memory
+//! for the words is refused it prints nothing and ends with status 4; where the system refuses the words for another cause,
+//! with status 8.
+#![tactic(auto)]
+
+use dst_streams::{FileSink, FileSource, TextSink};
+use dst_tool::dst_run;
+use std::env;
+use std::io::ErrorKind;
+use std::process::ExitCode;
+
+const MEMORY: u8 = 4;
+
+const NO_WORDS: u8 = 8;
+
+fn main(rt: HostRuntime) -> ExitCode {
+    let mut words = Vec::new(rt.alloc());
+    match env::args(&rt) {
+        Err(e) => {
+            let status = if e.kind() == ErrorKind::OutOfMemory {
+                MEMORY
+            } else {
+                NO_WORDS
+            };
+            return ExitCode::from(status);
+        }
+        Ok(args) => {
+            for word in args.skip(1) {
+                if words.push(word).is_err() {
+                    return ExitCode::from(MEMORY);
+                }
+            }
+        }
+    }
+    let from = words.get(1).map_or("", |word| word.as_str());
+    let to = words.get(2).map_or("", |word| word.as_str());
+    let mut source = FileSource::new(&rt, from);
+    let mut sink = FileSink::new(&rt, to);
+    let mut report = TextSink::new(&rt);
+    ExitCode::from(dst_run(rt.alloc(), &words, &mut source, &mut sink, &mut report))
+}
