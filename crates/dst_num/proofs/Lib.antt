@@ -1,1 +1,2 @@
+pub mod MapRules
 pub mod TableRules

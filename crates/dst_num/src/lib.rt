@@ -3,10 +3,14 @@
 //! ```text
 //! let Some(stereo) = Channels::new(2) else { return };
 //! stereo.frame_bytes(); // 9,408: a 75th of a second of two channels at 64 times 44.1 kHz
+//! let Some(filter) = FilterTable::new(&[128, -3]) else { return };
+//! filter.coefs(); // 128 for the latest sample, -3 for the one before
 //! ```
 #![tactic(auto)]
 
 mod channels;
+mod map;
+mod params;
 mod prob;
 mod tables;
 #[cfg(test)]
@@ -14,5 +18,7 @@ mod tests;
 
 pub use channels::Channels;
 pub use dst_spec::{FrameFault, Reason};
+pub use map::Map;
+pub use params::Params;
 pub use prob::Prob;
 pub use tables::{FilterTable, ProbTable};

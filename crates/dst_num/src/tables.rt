@@ -1,5 +1,5 @@
 // Filter coefficients and probability tables.
-ghost use Rattle.std.specs.Prelude.{◌≡◌, pos, map, IfNone, IfSome};
+ghost use Rattle.std.specs.Prelude.{◌≡◌, [], ◌∷◌, pos, map, IfNone, IfSome};
 ghost use Rattle.dst_spec.specs.Table.{filter_kind, prob_kind, IsTable};
 
 use arrayvec::ArrayVec;
@@ -52,6 +52,17 @@ impl FilterTable {
     }
 }
 
+/// One coefficient, which is 0.
+impl Default for FilterTable {
+    ghost is_default = { λ t. t ≡ pos 0 ∷ [] };
+
+    fn default() -> Self {
+        let mut coefs = ArrayVec::new();
+        coefs.push(0);
+        FilterTable { coefs }
+    }
+}
+
 /// Probabilities by the size of the prediction, the smallest first, in 256ths: 1 to 64 entries from 1 to 128. Where there
 /// is one alone, it is 128.
 #[derive(Drop, Debug)]
@@ -100,5 +111,16 @@ impl ProbTable {
         ensures table { IsTable prob_kind (map pos self.now) }
     {
         self.entries.as_slice()
+    }
+}
+
+/// One entry, which is 128.
+impl Default for ProbTable {
+    ghost is_default = { λ t. t ≡ 128 ∷ [] };
+
+    fn default() -> Self {
+        let mut entries = ArrayVec::new();
+        entries.push(128);
+        ProbTable { entries }
     }
 }

@@ -1,5 +1,6 @@
 // The tables of channels and rates, of probabilities, and of filters and their entries.
 use super::*;
+use arrayvec::ArrayVec;
 use std::test::Fail;
 
 #[test]
@@ -74,5 +75,49 @@ fn probability_tables_have_1_to_64_entries(rt: HostRuntime) -> Result<(), Fail> 
             None => assert!(rt; !given, "{entries:?}"),
         }
     }
+    Ok(())
+}
+
+#[test]
+fn maps_number_tables_in_order_of_first_use(rt: HostRuntime) -> Result<(), Fail> {
+    let cases: [(&[u8], Option<usize>); 7] = [
+        (&[], None),
+        (&[0], Some(1)),
+        (&[1], None),
+        (&[0, 1, 0, 2], Some(3)),
+        (&[0, 2], None),
+        (&[0, 1, 2, 3, 4, 5], Some(6)),
+        (&[0; 7], None),
+    ];
+    for (elements, count) in cases {
+        match Map::new(elements) {
+            Some(map) => {
+                assert_eq!(rt; Some(map.count()), count, "{elements:?}");
+                assert_eq!(rt; map.elements(), elements);
+            }
+            None => assert_eq!(rt; None, count, "{elements:?}"),
+        }
+    }
+    Ok(())
+}
+
+#[test]
+fn parameters_have_a_table_for_each_number(rt: HostRuntime) -> Result<(), Fail> {
+    for (numbers, given) in [([0, 0], true), ([0, 1], false)] {
+        let filter_map = Map::new(&numbers).ok_or("filters")?;
+        let prob_map = Map::new(&[0, 0]).ok_or("probabilities")?;
+        let mut half = ArrayVec::new();
+        half.push(false);
+        half.push(true);
+        let mut filters = ArrayVec::new();
+        filters.push(FilterTable::default());
+        let mut probs = ArrayVec::new();
+        probs.push(ProbTable::default());
+        let made = Params::new(filter_map, prob_map, half, filters, probs);
+        assert_eq!(rt; made.is_some(), given, "{numbers:?}");
+    }
+    let one_channel = Params::default();
+    assert_eq!(rt; one_channel.filter_map.elements(), [0].as_slice());
+    assert_eq!(rt; one_channel.half.as_slice(), [false].as_slice());
     Ok(())
 }

@@ -1,0 +1,103 @@
+// The parameters of a coded frame.
+ghost use Rattle.std.specs.Prelude.{◌≡◌, [], ◌∷◌, pos, map, false, length, All, IfNone, IfSome};
+ghost use Rattle.dst_spec.specs.Table.{filter_kind, prob_kind, IsTable};
+ghost use Rattle.dst_spec.specs.Header.{IsParams};
+ghost use Rattle.dst_num.specs.Map.{params_of};
+
+use crate::{FilterTable, Map, ProbTable};
+use arrayvec::ArrayVec;
+use std::marker::Model;
+
+/// What a coded frame tells before its arithmetic code: which filter and which probability table each channel has, for
+/// each channel whether its first symbols have probability 128, and the tables.
+#[derive(Drop, Debug)]
+pub struct Params {
+    pub filter_map: Map,
+    pub prob_map: Map,
+    pub half: ArrayVec<bool, 6>,
+    pub filters: ArrayVec<FilterTable, 6>,
+    pub probs: ArrayVec<ProbTable, 6>,
+}
+
+impl Model for Params {
+    ghost use Rattle.std.specs.Prelude.{length};
+    ghost use Rattle.dst_spec.specs.Header.{Params as Parameters, IsParams};
+    ghost use Rattle.dst_num.specs.Map.{params_of};
+
+    ghost Value = { Parameters };
+
+    ghost view = { λ p. params_of p.filter_map p.prob_map p.half.items p.filters.items p.probs.items };
+
+    ghost invariant = { λ p. IsParams (length p.half.items) (params_of p.filter_map p.prob_map p.half.items p.filters.items p.probs.items) };
+}
+
+impl Params {
+    /// There are none unless both maps and `half` are of one length, and each map numbers as many tables as are given.
+    pub fn new(
+        filter_map: Map,
+        prob_map: Map,
+        half: ArrayVec<bool, 6>,
+        filters: ArrayVec<FilterTable, 6>,
+        probs: ArrayVec<ProbTable, 6>,
+    ) -> Option<Params>
+        ensures none { IfNone result (IsParams (length half.items) (params_of filter_map prob_map half.items filters.items probs.items) → ⊥) }
+        ensures params { IfSome result (λ p. p ≡ params_of filter_map prob_map half.items filters.items probs.items) }
+        ensures lawful { IfSome result (λ p. IsParams (length p.half) p) }
+    {
+        let channels = half.len();
+        if filter_map.elements().len() != channels || prob_map.elements().len() != channels {
+            return None;
+        }
+        if filters.len() != filter_map.count() || probs.len() != prob_map.count() {
+            return None;
+        }
+        check_filters(filters.as_slice());
+        check_probs(probs.as_slice());
+        Some(Params {
+            filter_map,
+            prob_map,
+            half,
+            filters,
+            probs,
+        })
+    }
+}
+
+// Every filter keeps its rule.
+fn check_filters(filters: &[FilterTable])
+    ensures { All (IsTable filter_kind) filters.now }
+{
+    for filter in filters {
+        let _ = filter.coefs();
+    }
+}
+
+// Every probability table keeps its rule.
+fn check_probs(probs: &[ProbTable])
+    ensures { All (λ entries. IsTable prob_kind (map pos entries)) probs.now }
+{
+    for table in probs {
+        let _ = table.entries();
+    }
+}
+
+/// One channel with one filter of coefficient 0, one probability table of 128, and half bit 0.
+impl Default for Params {
+    ghost is_default = { λ p. p ≡ params_of (0 ∷ []) (0 ∷ []) (false ∷ []) ((pos 0 ∷ []) ∷ []) ((128 ∷ []) ∷ []) };
+
+    fn default() -> Self {
+        let mut half = ArrayVec::new();
+        half.push(false);
+        let mut filters = ArrayVec::new();
+        filters.push(FilterTable::default());
+        let mut probs = ArrayVec::new();
+        probs.push(ProbTable::default());
+        Params {
+            filter_map: Map::default(),
+            prob_map: Map::default(),
+            half,
+            filters,
+            probs,
+        }
+    }
+}
