@@ -1,0 +1,4 @@
+pub mod Windows
+pub mod BitLists
+pub mod ByteLists
+pub mod Buffers

@@ -1,0 +1,94 @@
+// Readers and writers at their edges.
+use super::*;
+use std::test::Fail;
+
+#[test]
+fn numbers_are_put_behind_each_other(rt: HostRuntime) -> Result<(), Fail> {
+    let mut writer = BitWriter::new(rt.alloc(), 3)?;
+    assert!(rt; writer.put(0, 0));
+    assert!(rt; writer.put(5, 3));
+    assert!(rt; writer.put(9, 4));
+    assert!(rt; writer.put(0x1ab, 9));
+    assert!(rt; !writer.put(1, 9));
+    assert!(rt; writer.put(3, 2));
+    assert_eq!(rt; (writer.length(), writer.room()), (18, 6));
+    writer.finish();
+    assert_eq!(rt; (writer.length(), writer.room()), (24, 0));
+    // 101 1001 110101011 11 000000
+    assert_eq!(rt; writer.bytes(), [0xb3, 0xab, 0xc0].as_slice());
+    Ok(())
+}
+
+#[test]
+fn numbers_are_read_behind_each_other(rt: HostRuntime) -> Result<(), Fail> {
+    let mut reader = BitReader::new(&[0xb3, 0xab, 0xc0]);
+    assert_eq!(rt; reader.read(3), Some(5));
+    assert_eq!(rt; reader.read_signed(4), Some(-7));
+    assert_eq!(rt; (reader.place(), reader.left()), (7, 17));
+    assert_eq!(rt; reader.read(18), None);
+    assert_eq!(rt; reader.read_signed(18), None);
+    assert_eq!(rt; (reader.place(), reader.left()), (7, 17));
+    assert_eq!(rt; (reader.rest().first, reader.rest().bytes.len()), (7, 3));
+    assert_eq!(rt; reader.read_or_zero(32), 0xd5e0_0000);
+    assert_eq!(rt; (reader.place(), reader.left()), (39, 0));
+    Ok(())
+}
+
+#[test]
+fn no_bit_fits_in_no_bytes(rt: HostRuntime) -> Result<(), Fail> {
+    let mut writer = BitWriter::new(rt.alloc(), 0)?;
+    assert!(rt; !writer.put(1, 1));
+    assert_eq!(rt; (writer.length(), writer.room()), (0, 0));
+    assert_eq!(rt; writer.bytes(), [].as_slice());
+    Ok(())
+}
+
+#[test]
+fn words_are_read_at_every_place(rt: HostRuntime) -> Result<(), Fail> {
+    let bytes = [0x01, 0x23, 0x45, 0x67, 0x89, 0xab, 0xcd, 0xef, 0xff];
+    let cases: [(u32, u32, Option<u32>, Option<i32>); 10] = [
+        (0, 32, Some(0x0123_4567), Some(0x0123_4567)),
+        (4, 32, Some(0x1234_5678), Some(0x1234_5678)),
+        (7, 32, Some(0x91a2_b3c4), Some(-0x6e5d_4c3c)),
+        (37, 32, Some(0x3579_bdff), Some(0x3579_bdff)),
+        (40, 32, Some(0xabcd_efff), Some(-0x5432_1001)),
+        (41, 32, None, None),
+        (63, 9, Some(0x1ff), Some(-1)),
+        (64, 1, Some(1), Some(-1)),
+        (72, 1, None, None),
+        (90, 1, None, None),
+    ];
+    for (place, n, unsigned, signed) in cases {
+        assert!(rt; n >= 1);
+        assert!(rt; n <= 32);
+        let slice = BitSlice {
+            bytes: &bytes,
+            first: u64::from(place),
+        };
+        assert_eq!(rt;
+            BitReader::over(slice).read(n),
+            unsigned,
+            "{n} bits at {place}"
+        );
+        assert_eq!(rt;
+            BitReader::over(slice).read_signed(n),
+            signed,
+            "{n} bits at {place}"
+        );
+        let padded = BitReader::over(slice).read_or_zero(n);
+        assert_eq!(rt; unsigned.unwrap_or(padded), padded, "{n} bits at {place}");
+    }
+    Ok(())
+}
+
+#[test]
+fn cleared_writers_begin_anew(rt: HostRuntime) -> Result<(), Fail> {
+    let mut writer = BitWriter::new(rt.alloc(), 2)?;
+    assert!(rt; writer.put(0x7ff, 11));
+    writer.clear();
+    assert_eq!(rt; (writer.length(), writer.room()), (0, 16));
+    assert!(rt; writer.put(0x8001, 16));
+    writer.finish();
+    assert_eq!(rt; writer.bytes(), [0x80, 0x01].as_slice());
+    Ok(())
+}
