@@ -1,0 +1,13 @@
+use Rattle.std.proofs.Common.{pos, refl}
+use Rattle.dst_spec.specs.Sample.{sample}
+use Rattle.byte_predictor.proofs.Before.{before_a_frame, before_next, predicted}
+use Rattle.byte_predictor.proofs.laws.samples_before.Goals as goal
+
+pub returns-clause-frame : goal.returns-clause-frame
+returns-clause-frame c = before_a_frame
+
+pub returns-clause-next : goal.returns-clause-next
+returns-clause-next c = λ f sound ch t samples before. before_next f sound ch t (sample f sound ch (pos t)) samples refl before
+
+pub returns-clause-predicts : goal.returns-clause-predicts
+returns-clause-predicts c = predicted

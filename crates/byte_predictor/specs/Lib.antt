@@ -1,0 +1,5 @@
+pub mod Samples
+pub mod Parts
+pub mod Upward
+pub mod RowSums
+pub mod SumsAhead

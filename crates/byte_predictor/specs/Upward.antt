@@ -1,0 +1,23 @@
+-- What coefficients add upward, in natural numbers: a signed sum is twice that less the coefficients' sizes.
+use Rattle.std.specs.Prelude.{ℕ, ◌+◌, ℤ, pos, negsuc, nat_abs, List, [], ◌∷◌, ◌++◌, drop, replicate}
+use Rattle.dst_spec.specs.Guess.{signed}
+
+-- a number above 0, and 0 for others
+abbrev pub above_zero : ℤ → ℕ
+above_zero (pos n) = n
+above_zero (negsuc n) = 0
+
+-- the sum of the coefficients' sizes where `signed_sum` takes them positive, the first with the newest sample
+unfoldable pub upward_sum : List ℤ → List ℕ → ℕ
+upward_sum [] samples = 0
+upward_sum (a ∷ coefs) [] = 0
+upward_sum (a ∷ coefs) (bit ∷ samples) = above_zero (signed bit a) + upward_sum coefs samples
+
+-- the sum of the coefficients' sizes
+unfoldable pub size_sum : List ℤ → ℕ
+size_sum [] = 0
+size_sum (a ∷ coefs) = nat_abs a + size_sum coefs
+
+-- the coefficients without the first eight, at their places
+unfoldable pub far : List ℤ → List ℤ
+far coefs = replicate 8 (pos 0) ++ drop 8 coefs

@@ -1,0 +1,96 @@
+// The sums ahead of a channel.
+ghost use Rattle.std.specs.Prelude.{◌≡◌, ℕ, ◌+◌, ◌/◌, ◌%◌, ◌^◌, ◌<◌, ◌≤◌, ℤ, List, ◌∷◌, length, get_or, take, replicate};
+ghost use Rattle.dst_spec.specs.Header.{bit_of};
+ghost use Rattle.byte_predictor.specs.Samples.{rising_bits, samples_of};
+ghost use Rattle.byte_predictor.specs.Upward.{upward_sum};
+ghost use Rattle.byte_predictor.specs.SumsAhead.{IsAhead};
+
+use crate::row_filter::RowFilter;
+
+/// What the samples of a channel add to the predictions of those that follow, and the newest eight samples.
+#[derive(Drop)]
+pub struct Ahead {
+    lanes: [u16; 136],
+    newest: u8,
+}
+
+impl Ahead {
+    /// After the samples before a frame.
+    pub fn fresh(rows: &RowFilter) -> Ahead
+        ensures { IsAhead rows.now 0 (samples_of (replicate 16 0xaa)) result }
+    {
+        let mut lanes = [0; 136];
+        let row = &rows.rows[0xaa];
+        for turn in 0..16usize {
+            add_row(&mut lanes, row);
+        }
+        Ahead {
+            lanes,
+            newest: 0xaa,
+        }
+    }
+
+    /// Takes a sample of the eight between two calls of `take_byte`.
+    #[inline(always)]
+    pub fn push(&mut self, sample: bool)
+        ensures { (coefs : List ℤ) (place : ℕ) (samples : List ℕ) → place < 8 → IsAhead coefs place samples self.old
+            → IsAhead coefs (place + 1) (bit_of sample ∷ samples) self.new }
+    {
+        let bit = u8::from(sample);
+        self.newest = self.newest % 128 * 2 + bit;
+    }
+
+    /// Adds the newest eight samples to the sums, once all eight are there.
+    #[inline(always)]
+    pub fn take_byte(&mut self, rows: &RowFilter)
+        ensures { (samples : List ℕ) → IsAhead rows.now 8 samples self.old → IsAhead rows.now 0 samples self.new }
+    {
+        let row = &rows.rows[self.newest as usize];
+        add_row(&mut self.lanes, row);
+    }
+
+    /// What the coefficients add upward to the next sample's prediction, `place` samples after the last whole byte.
+    #[inline(always)]
+    pub fn upward(&self, rows: &RowFilter, place: usize) -> u16
+        requires { place ≤ 8 }
+        ensures { (samples : List ℕ) → IsAhead rows.now place samples self.now → result ≡ upward_sum rows.now samples }
+    {
+        self.lanes[place].wrapping_add(rows.near[self.newest as usize])
+    }
+
+    /// The same for the sample after a next one, which may still be unknown: both answers can be looked up early.
+    #[inline(always)]
+    pub fn upward_after(&self, rows: &RowFilter, place: usize, sample: bool) -> u16
+        requires { place < 8 }
+        ensures { (samples : List ℕ) → IsAhead rows.now place samples self.now
+            → result ≡ upward_sum rows.now (bit_of sample ∷ samples) }
+    {
+        let bit = u8::from(sample);
+        let newest = self.newest % 128 * 2 + bit;
+        self.lanes[place + 1].wrapping_add(rows.near[newest as usize])
+    }
+
+    /// The newest eight samples, the newest in the least significant bit.
+    #[inline(always)]
+    pub fn newest(&self) -> u8
+        ensures eight { (coefs : List ℤ) (place : ℕ) (samples : List ℕ) → IsAhead coefs place samples self.now
+            → rising_bits 8 result ≡ take 8 samples }
+        ensures each { (coefs : List ℤ) (place : ℕ) (samples : List ℕ) → IsAhead coefs place samples self.now
+            → (k : ℕ) → k < 8 → result / 2 ^ k % 2 ≡ get_or samples k 0 }
+    {
+        self.newest
+    }
+}
+
+// Moves the lanes on by eight samples, and adds what these add.
+#[inline(always)]
+fn add_row(lanes: &mut [u16; 136], row: &[u16; 128])
+    ensures long { length lanes.new ≡ 136 }
+    ensures added { (lane : ℕ) → lane < 128 → get_or lanes.new lane 0 ≡ (get_or lanes.old (lane + 8) 0 + get_or row.now lane 0) % 65536 }
+    ensures last { (lane : ℕ) → 128 ≤ lane → get_or lanes.new lane 0 ≡ get_or lanes.old lane 0 }
+{
+    for lane in 0..128 {
+        let sum = lanes[lane + 8].wrapping_add(row[lane]);
+        lanes[lane] = sum;
+    }
+}

@@ -1,0 +1,15 @@
+// Laws of the samples before a place. The function does nothing: its clauses are what is proved.
+ghost use Rattle.std.specs.Prelude.{◌≡◌, ℕ, ◌+◌, ◌≤◌, ◌∷◌, ℤ, pos, List, length, replicate};
+ghost use Rattle.dst_spec.specs.Sample.{Shape, sample};
+ghost use Rattle.dst_spec.specs.Guess.{sum_before};
+ghost use Rattle.byte_predictor.specs.Samples.{IsBefore, samples_of, signed_sum};
+
+/// What stands before a frame, what stands before the next sample, and that a filter's sum over such samples is the
+/// prediction.
+pub fn samples_before()
+    ensures frame { (f : Shape) (sound : List ℕ) (c : ℕ) → IsBefore f sound c 0 (samples_of (replicate 16 0xaa)) }
+    ensures next { (f : Shape) (sound : List ℕ) (c t : ℕ) (samples : List ℕ) → IsBefore f sound c t samples
+        → IsBefore f sound c (t + 1) (sample f sound c (pos t) ∷ samples) }
+    ensures predicts { (f : Shape) (sound : List ℕ) (c t : ℕ) (samples : List ℕ) (coefs : List ℤ) → length coefs ≤ 128
+        → IsBefore f sound c t samples → signed_sum coefs samples ≡ sum_before f sound c coefs (pos t) }
+{}
