@@ -3,3 +3,4 @@ pub mod Sums
 pub mod Before
 pub mod Upward
 pub mod Lanes
+pub mod Ones

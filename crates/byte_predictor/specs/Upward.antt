@@ -1,5 +1,5 @@
 -- What coefficients add upward, in natural numbers: a signed sum is twice that less the coefficients' sizes.
-use Rattle.std.specs.Prelude.{ℕ, ◌+◌, ℤ, pos, negsuc, nat_abs, List, [], ◌∷◌, ◌++◌, drop, replicate}
+use Rattle.std.specs.Prelude.{ℕ, ◌+◌, ◌==◌, if◌then◌else◌, ℤ, pos, negsuc, ◌+ℤ◌, ◌-ℤ◌, ◌*ℤ◌, nat_abs, List, [], ◌∷◌, ◌++◌, drop, replicate}
 use Rattle.dst_spec.specs.Guess.{signed}
 
 -- a number above 0, and 0 for others
@@ -21,3 +21,18 @@ size_sum (a ∷ coefs) = nat_abs a + size_sum coefs
 -- the coefficients without the first eight, at their places
 unfoldable pub far : List ℤ → List ℤ
 far coefs = replicate 8 (pos 0) ++ drop 8 coefs
+
+-- the sum of the coefficients whose sample is 1, the first with the newest sample
+unfoldable pub ones_sum : List ℤ → List ℕ → ℤ
+ones_sum [] samples = pos 0
+ones_sum (a ∷ coefs) [] = pos 0
+ones_sum (a ∷ coefs) (bit ∷ samples) = (if bit == 1 then a else pos 0) +ℤ ones_sum coefs samples
+
+-- the sum of the coefficients
+unfoldable pub whole_sum : List ℤ → ℤ
+whole_sum [] = pos 0
+whole_sum (a ∷ coefs) = a +ℤ whole_sum coefs
+
+-- twice the coefficients whose sample is 1, less all
+abbrev pub twice_ones : List ℤ → List ℕ → ℤ
+twice_ones coefs samples = pos 2 *ℤ ones_sum coefs samples -ℤ whole_sum coefs

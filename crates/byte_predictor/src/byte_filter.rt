@@ -4,6 +4,7 @@ ghost use Rattle.dst_spec.specs.Table.{filter_kind, IsTable};
 ghost use Rattle.dst_spec.specs.Sample.{Shape};
 ghost use Rattle.dst_spec.specs.Guess.{sum_before};
 ghost use Rattle.byte_predictor.specs.Samples.{IsBefore, rising_bits, signed_sum};
+ghost use Rattle.byte_predictor.specs.Upward.{twice_ones};
 ghost use Rattle.byte_predictor.specs.Parts.{part_sum};
 
 use crate::history::History;
@@ -62,6 +63,7 @@ impl ByteFilter {
 #[inline(always)]
 pub fn predict(filter: &ByteFilter, history: &History) -> i32
     ensures plain { result ≡ signed_sum filter.now history.now }
+    ensures ones { result ≡ twice_ones filter.now history.now }
     ensures before { (f : Shape) (sound : List ℕ) (c t : ℕ) → IsBefore f sound c t history.now
         → result ≡ sum_before f sound c filter.now (pos t) }
 {

@@ -1,8 +1,9 @@
-// Laws of the samples before a place. The function does nothing: its clauses are what is proved.
-ghost use Rattle.std.specs.Prelude.{◌≡◌, ℕ, ◌+◌, ◌≤◌, ◌∷◌, ℤ, pos, List, length, replicate};
+// Laws of the samples before a place, and of sums over them. The functions do nothing: their clauses are what is proved.
+ghost use Rattle.std.specs.Prelude.{◌≡◌, ℕ, ◌+◌, ◌*◌, ◌≤◌, ◌∷◌, ℤ, pos, ◌-ℤ◌, List, length, replicate};
 ghost use Rattle.dst_spec.specs.Sample.{Shape, sample};
 ghost use Rattle.dst_spec.specs.Guess.{sum_before};
 ghost use Rattle.byte_predictor.specs.Samples.{IsBefore, samples_of, signed_sum};
+ghost use Rattle.byte_predictor.specs.Upward.{upward_sum, size_sum, twice_ones};
 
 /// What stands before a frame, what stands before the next sample, and that a filter's sum over such samples is the
 /// prediction.
@@ -12,4 +13,13 @@ pub fn samples_before()
         → IsBefore f sound c (t + 1) (sample f sound c (pos t) ∷ samples) }
     ensures predicts { (f : Shape) (sound : List ℕ) (c t : ℕ) (samples : List ℕ) (coefs : List ℤ) → length coefs ≤ 128
         → IsBefore f sound c t samples → signed_sum coefs samples ≡ sum_before f sound c coefs (pos t) }
+{}
+
+/// A filter's sum is twice the coefficients whose sample is 1, less all of them; and so is twice what they add upward, less
+/// their sizes.
+pub fn sums()
+    ensures ones { (coefs : List ℤ) (samples : List ℕ) → length coefs ≤ length samples
+        → signed_sum coefs samples ≡ twice_ones coefs samples }
+    ensures upward { (coefs : List ℤ) (samples : List ℕ) → length coefs ≤ length samples
+        → pos (2 * upward_sum coefs samples) -ℤ pos (size_sum coefs) ≡ twice_ones coefs samples }
 {}

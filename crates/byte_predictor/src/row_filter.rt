@@ -2,7 +2,7 @@
 ghost use Rattle.std.specs.Prelude.{◌≡◌, ℕ, ◌+◌, ◌*◌, ◌<◌, ◌≤◌, ℤ, pos, neg_ℤ, ◌+ℤ◌, ◌-ℤ◌, ◌≤ℤ◌, List, [], ◌∷◌, length, get_or, drop};
 ghost use Rattle.dst_spec.specs.Table.{filter_kind, IsTable, InRange};
 ghost use Rattle.byte_predictor.specs.Samples.{rising_bits, signed_sum};
-ghost use Rattle.byte_predictor.specs.Upward.{above_zero, upward_sum, size_sum, far};
+ghost use Rattle.byte_predictor.specs.Upward.{above_zero, upward_sum, size_sum, far, twice_ones};
 
 use crate::byte_filter::{coef_at, kept};
 use dst_num::FilterTable;
@@ -65,6 +65,8 @@ impl RowFilter {
         ensures upward { (samples : List ℕ) → upward_sum self.now samples ≤ result }
         ensures signed { (samples : List ℕ) → 128 ≤ length samples
             → signed_sum self.now samples ≡ pos (2 * upward_sum self.now samples) -ℤ pos (size_sum self.now) }
+        ensures ones { (samples : List ℕ) → 128 ≤ length samples
+            → pos (2 * upward_sum self.now samples) -ℤ pos (size_sum self.now) ≡ twice_ones self.now samples }
     {
         self.size
     }
@@ -75,6 +77,8 @@ impl RowFilter {
         ensures less { result ≡ pos (2 * upward) -ℤ pos (size_sum self.now) }
         ensures plain { (samples : List ℕ) → 128 ≤ length samples → upward ≡ upward_sum self.now samples
             → result ≡ signed_sum self.now samples }
+        ensures ones { (samples : List ℕ) → 128 ≤ length samples → upward ≡ upward_sum self.now samples
+            → result ≡ twice_ones self.now samples }
     {
         let size = self.size();
         2 * i32::from(upward) - size as i32

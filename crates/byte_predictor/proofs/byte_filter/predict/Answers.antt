@@ -1,4 +1,4 @@
-use Rattle.std.proofs.Common.{◌≡◌, ◌*◌, ◌+◌, ◌<◌, ◌≤ℤ◌, pos, neg_ℤ, ◌+ℤ◌, length, [], get_or, take, subst, ap, ◌∙◌, rules, arith}
+use Rattle.std.proofs.Common.{◌≡◌, ◌*◌, ◌+◌, ◌<◌, ◌≤ℤ◌, ◌≤◌, pos, neg_ℤ, ◌+ℤ◌, length, [], get_or, take, subst, ap, ◌∙◌, rules, arith}
 use Rattle.std.proofs.lemmas.Int.{ints}
 use Rattle.std.proofs.lemmas.List.{take_all}
 use Rattle.dst_spec.specs.Table.{filter_kind, IsTable}
@@ -7,6 +7,7 @@ use Rattle.byte_predictor.specs.Parts.{part_sum}
 use Rattle.byte_predictor.proofs.Bits.{length-samples_of}
 use Rattle.byte_predictor.proofs.Sums.{signed_sum-nothing, signed_sum-more, within-bits}
 use Rattle.byte_predictor.proofs.Before.{predicted}
+use Rattle.byte_predictor.proofs.Ones.{signed_sum-ones}
 use Rattle.byte_predictor.proofs.byte_filter.predict.Goals as goal
 
 pub loop-j-init : goal.loop-j-init
@@ -45,3 +46,14 @@ returns-clause-before c = λ f sound ch t before.
     let whole : take c.loop-j.j bytes ≡ bytes = take_all c.loop-j.j bytes (omega arith) in
     c.loop-j.invariant.0 ∙ ap (λ t. signed_sum coefs (samples_of t)) whole ∙ ap (signed_sum coefs) c.bytes-bytes.ensures.samples
     ∙ predicted f sound ch t c.args.history.now coefs table.most before
+
+pub returns-clause-ones : goal.returns-clause-ones
+returns-clause-ones c =
+    let coefs = c.args.filter.now in
+    let bytes = c.bytes-bytes.result.now in
+    let table : IsTable filter_kind coefs = subst (IsTable filter_kind) c.filter.view_is c.filter.invariant.table in
+    let most : length coefs ≤ 128 = table.most in
+    let long : length bytes ≡ 16 = omega (arith, length-samples_of bytes, ap length c.bytes-bytes.ensures.samples, c.bytes-bytes.ensures.long) in
+    let whole : take c.loop-j.j bytes ≡ bytes = take_all c.loop-j.j bytes (omega arith) in
+    c.loop-j.invariant.0 ∙ ap (λ t. signed_sum coefs (samples_of t)) whole ∙ ap (signed_sum coefs) c.bytes-bytes.ensures.samples
+    ∙ signed_sum-ones coefs c.args.history.now (omega (arith, c.bytes-bytes.ensures.long))

@@ -2,6 +2,7 @@ use Rattle.std.proofs.Common.{◌≤◌, ◌≡◌, length, subst, ap, ◌∙◌
 use Rattle.dst_spec.specs.Table.{filter_kind, IsTable}
 use Rattle.byte_predictor.specs.Upward.{size_sum}
 use Rattle.byte_predictor.proofs.Upward.{signed_sum-is, upward_sum-size, size_sum-below}
+use Rattle.byte_predictor.proofs.Ones.{upward-ones}
 use Rattle.byte_predictor.proofs.row_filter.RowFilter.size.Goals as goal
 
 pub returns-clause-size : goal.returns-clause-size
@@ -24,3 +25,9 @@ returns-clause-signed c = λ samples h.
     let table : IsTable filter_kind c.args.self.now = subst (IsTable filter_kind) c.self.view_is c.self.invariant.table in
     let most : length c.args.self.now ≤ 128 = table.most in
     signed_sum-is c.args.self.now samples (omega arith)
+
+pub returns-clause-ones : goal.returns-clause-ones
+returns-clause-ones c = λ samples h.
+    let table : IsTable filter_kind c.args.self.now = subst (IsTable filter_kind) c.self.view_is c.self.invariant.table in
+    let most : length c.args.self.now ≤ 128 = table.most in
+    upward-ones c.args.self.now samples (omega arith)
