@@ -33,10 +33,10 @@ pub record IsDecodable (file : List ℕ) (form : Form) : Type 0 where
   pub reached : (k : ℕ) → k < form.frames → k * frame_bytes form ≤ size_of_sound form
 
 -- ---- no rule refuses the file
-abbrev form_by : Option FileFault → List ℕ → Result Form FileFault
+abbrev pub form_by : Option FileFault → List ℕ → Result Form FileFault
 form_by o file = elim o [ Some fault ↦ Err fault | None ↦ Ok (accepted file) ]
 
-abbrev refused_by : Result Form FileFault → Command → List ℕ → Option FileFault
+abbrev pub refused_by : Result Form FileFault → Command → List ℕ → Option FileFault
 refused_by r c file = elim r [ Err fault ↦ Some fault | Ok f ↦ command_fault c file f ]
 
 pub no_rule_fails : (workers : ℕ) (file : List ℕ) → refusal (decode workers) file ≡ None → (form_fault file ≡ None) × (not_walked file (accepted file) ≡ None)
@@ -70,7 +70,7 @@ not_false true q = refl
 not_false false q = absurd cc
 
 -- ---- the frames are as many as are told
-count_is_told : (file : List ℕ) (form : Form) → walk_fault file form ≡ None → length (frame_heads file form) ≡ form.frames
+pub count_is_told : (file : List ℕ) (form : Form) → walk_fault file form ≡ None → length (frame_heads file form) ≡ form.frames
 unfolding walk_fault
 count_is_told file form h =
     let count = CountDiffers form.frames (length (frame_heads file form)) when not (length (frame_heads file form) == form.frames) in

@@ -1,5 +1,5 @@
--- Words and a file have one outcome.
-use Rattle.std.proofs.Common.{◌≡◌, ◌⊎◌, inl, inr, ℕ, zero, suc, ◌+◌, ◌<◌, Bool, true, false, if◌then◌else◌, List, [], ◌∷◌, ◌++◌, length, take, drop, get_or, refl, ap, sym, subst, ◌∙◌, arith, length-append, take_at, take-append-drop, Option, Some, None}
+-- Decoding a file has one outcome.
+use Rattle.std.proofs.Common.{◌≡◌, ◌⊎◌, inl, inr, ℕ, zero, suc, ◌+◌, ◌<◌, List, [], ◌∷◌, ◌++◌, length, take, drop, get_or, refl, ap, sym, subst, ◌∙◌, arith, length-append, take_at, take-append-drop, Option, Some, None}
 use Rattle.std.specs.List.{AllByRecursion, enumerate_from}
 use Rattle.std.proofs.lemmas.List.{get_or_at, get_or_default}
 use Rattle.std.proofs.lemmas.List.FromFn.{length-enumerate_from, get_or-enumerate_from}
@@ -7,16 +7,13 @@ use Rattle.std.proofs.Math.Seq.{drop-cons}
 use Rattle.dst_spec.specs.Bits.{AreBytes}
 use Rattle.dst_spec.specs.Sample.{Shape, IsShape}
 use Rattle.dst_spec.specs.declared.faults.FrameFault.{FrameFault}
-use Rattle.dsdiff_spec.specs.Faults.{first_some}
 use Rattle.dsdiff_spec.specs.Form.{Form, shape, size_of_sound}
 use Rattle.dsdiff_spec.specs.Rules.{accepted}
 use Rattle.dsdiff_spec.specs.Decoded.{Plain, Before, frames_of, decoded, decoded_before_frame}
-use Rattle.dsdiff_spec.specs.Words.{Word, Command, decode}
-use Rattle.dsdiff_spec.specs.Rows.{Row, rows, command_of}
+use Rattle.dsdiff_spec.specs.Words.{Command, decode}
 use Rattle.dsdiff_spec.specs.Refusal.{refusal}
 use Rattle.dsdiff_spec.specs.Lines.{decoded_line}
-use Rattle.dsdiff_spec.specs.Outcome.{Answer, done, not_understood, file_refused, frame_refused, Refuses, NoneRefused, IsStopped, IsDone, OfCommand, OfWords}
-use Rattle.dsdiff_spec.specs.Laws.{OneOutcomeLaw}
+use Rattle.dsdiff_spec.specs.Outcome.{Answer, done, file_refused, frame_refused, Refuses, NoneRefused, IsStopped, IsDone, OfCommand}
 use Rattle.dsdiff_spec.specs.declared.faults.FileFault.{FileFault}
 use Rattle.dsdiff_spec.proofs.CodedFiles.{is_decodable, frames_are_bytes}
 use Rattle.dsdiff_spec.proofs.Verdicts.{NotRefused, IsAnswered, frame_is_answered, AreAnswered, NoneOf, StopsAt, verdict, all_taken, one_of_all, one_list, one_stop, one_fault}
@@ -141,8 +138,8 @@ one_outcome_of_form workers file form a b answered (inl s) (inr t) = absurd (nev
 one_outcome_of_form workers file form a b answered (inr s) (inl t) = absurd (never_both workers file form b (to_number workers file form b t) (none_of_numbered (decode workers) form 0 (frames_of file form) s.0))
 one_outcome_of_form workers file form a b answered (inr s) (inr t) =
     let none = none_of_numbered (decode workers) form 0 (frames_of file form) s.0 in
-    let out = one_plain workers file form s.1 t.1 answered none s.2 t.2 in
-    s.3 ∙ ap (λ out. done out (decoded_line form.frames (size_of_sound form) ∷ [])) out ∙ sym t.3
+    let out = one_plain workers file form s.1.0 t.1.0 answered none s.1.1 t.1.1 in
+    s.1.2 ∙ ap (λ out. done out (decoded_line form.frames (size_of_sound form) ∷ [])) out ∙ sym t.1.2
 
 some_outcome : (workers : ℕ) (file : List ℕ) (form : Form) → AreAnswered (decode workers) (shape form) (frames_of file form) → (o : Answer) × IsOutcome workers file form o
 some_outcome workers file form answered = elim (verdict (decode workers) (shape form) (frames_of file form) answered) [
@@ -152,15 +149,15 @@ some_outcome workers file form answered = elim (verdict (decode workers) (shape 
       (o, inl (by_number workers file form o (record { k = s.k; fault = s.fault; stops = s.stops; out = out; written = record { sounds = s.sounds; each = s.each; written = refl }; answer = refl })))
   | inr g ↦
       let out = decoded g.sounds file form in
-      (done out (decoded_line form.frames (size_of_sound form) ∷ []), inr (none_numbered (decode workers) form 0 (frames_of file form) g.none, out, record { sounds = g.sounds; each = g.each; written = refl }, refl))
+      (done out (decoded_line form.frames (size_of_sound form) ∷ []), inr (none_numbered (decode workers) form 0 (frames_of file form) g.none, (out, record { sounds = g.sounds; each = g.each; written = refl }, refl)))
 ]
 
-all_answered : (c : Command) (f : Shape) (frames : List (List ℕ)) → IsShape f → AllByRecursion AreBytes frames → AreAnswered c f frames
-all_answered c f [] shape h = tt
-all_answered c f (x ∷ xs) shape h = (frame_is_answered c f x shape h.0, all_answered c f xs shape h.1)
+all_answered : (workers : ℕ) (f : Shape) (frames : List (List ℕ)) → IsShape f → AllByRecursion AreBytes frames → AreAnswered (decode workers) f frames
+all_answered workers f [] lawful h = tt
+all_answered workers f (x ∷ xs) lawful h = (frame_is_answered workers f x lawful h.0, all_answered workers f xs lawful h.1)
 
 pub frames_are_answered : (workers : ℕ) (file : List ℕ) → AreBytes file → refusal (decode workers) file ≡ None → AreAnswered (decode workers) (shape (accepted file)) (frames_of file (accepted file))
-frames_are_answered workers file bytes h = all_answered (decode workers) (shape (accepted file)) (frames_of file (accepted file)) (is_decodable workers file h).shape (frames_are_bytes file (accepted file) bytes)
+frames_are_answered workers file bytes h = all_answered workers (shape (accepted file)) (frames_of file (accepted file)) (is_decodable workers file h).shape (frames_are_bytes file (accepted file) bytes)
 
 pub decoding_has_one_outcome : (workers : ℕ) (file : List ℕ) → AreBytes file → One (OfCommand (decode workers) file (refusal (decode workers) file))
 decoding_has_one_outcome workers file bytes = go (refusal (decode workers) file) refl
@@ -171,20 +168,3 @@ decoding_has_one_outcome workers file bytes = go (refusal (decode workers) file)
         let answered = frames_are_answered workers file bytes e in
         let o = some_outcome workers file (accepted file) answered in
         (o.0, o.1, λ other p. one_outcome_of_form workers file (accepted file) other o.0 answered p o.1)
-
--- ---- of words
-only_decode : (words : List Word) (c : Command) → command_of words ≡ Some c → c ≡ decode 1
-unfolding command_of
-only_decode [] c e = absurd cc
-only_decode (name ∷ words) c e = go _ e
-  where
-    go : (b : Bool) → first_some (λ (row : Row). if b then Some row.command else None) rows ≡ Some c → c ≡ decode 1
-    go true e = cc
-    go false e = absurd cc
-
-pub one_outcome : OneOutcomeLaw
-one_outcome words file bytes = go (command_of words) refl
-  where
-    go : (r : Option Command) → command_of words ≡ r → One (OfWords r file)
-    go None e = (not_understood, refl, λ other o. o)
-    go (Some c) e = subst (λ c. One (OfCommand c file (refusal c file))) (sym (only_decode words c e)) (decoding_has_one_outcome 1 file bytes)

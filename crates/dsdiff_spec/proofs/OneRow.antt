@@ -1,20 +1,30 @@
 -- No words have two rows.
-use Rattle.std.proofs.Common.{◌≡◌, suc, ◌==◌, Bool, true, false, if◌then◌else◌, List, [], ◌∷◌, ◌++◌, length, refl, ap, sym, ◌∙◌, Some, None}
+use Rattle.std.proofs.Common.{◌≡◌, ℕ, zero, suc, ◌+◌, ◌==◌, Bool, true, false, if◌then◌else◌, List, [], ◌∷◌, ◌++◌, length, refl, ap, sym, ◌∙◌, arith, Option, Some, None}
 use Rattle.std.proofs.lemmas.Bool.Decides.{Decides-eqb}
 use Rattle.std.proofs.lemmas.Slice.Eq.{bytes_eq-Decides}
+use Rattle.std.specs.Option.{option_map}
 use Rattle.std.specs.Prelude.{not, ◌&&◌, ◌||◌, bytes_eq, codes}
-use Rattle.dsdiff_spec.specs.Words.{Word, Command}
-use Rattle.dsdiff_spec.specs.Rows.{Slot, all_suit, Row, rows, row_command}
+use Rattle.dsdiff_spec.specs.Words.{Word, Command, Slot, slot_numbers, read_slots, Setting, read_settings}
+use Rattle.dsdiff_spec.specs.Rows.{Row, rows, command_behind, row_command}
 use Rattle.dsdiff_spec.specs.Laws.{OneRowLaw}
+
+no_truth : false ≡ true → ⊥
+no_truth e = absurd cc
 
 both_true : (a b : Bool) → (a && b) ≡ true → (a ≡ true) × (b ≡ true)
 both_true true true e = (refl, refl)
 both_true true false e = absurd cc
 both_true false b e = absurd cc
 
--- two rows that no words have: of different names, or of different numbers of words
+-- two rows that no words have: of different names, or without options and of different numbers of words
+abbrev has_none : List Setting → Bool
+has_none [] = true
+has_none (s ∷ ss) = false
+
 abbrev apart : Row → Row → Bool
-apart r s = not (bytes_eq (codes r.name) (codes s.name)) || not (length r.slots == length s.slots)
+apart r s =
+    not (bytes_eq (codes r.name) (codes s.name))
+    || (has_none r.settings && has_none s.settings && not (length r.slots == length s.slots))
 
 abbrev apart_from_all : Row → List Row → Bool
 apart_from_all r [] = true
@@ -35,21 +45,54 @@ two_are_apart : (before between behind : List Row) (r s : Row) → all_apart (be
 two_are_apart [] between behind r s e = one_is_apart r s between behind (both_true _ _ e).0
 two_are_apart (b ∷ before) between behind r s e = two_are_apart before between behind r s (both_true _ _ e).1
 
--- words of a row have its name, and as many words behind it as it has slots
-as_many : (slots : List Slot) (words : List Word) → all_suit slots words ≡ true → length words ≡ length slots
-as_many [] [] e = refl
-as_many [] (w ∷ ws) e = absurd cc
-as_many (s ∷ ss) [] e = absurd cc
-as_many (s ∷ ss) (w ∷ ws) e = ap suc (as_many ss ws (both_true _ _ e).1)
-
-suits_row : (name : Word) (words : List Word) (r : Row) (c : Command) → row_command (name ∷ words) r ≡ Some c → (name ≡ codes r.name) × (length words ≡ length r.slots)
-suits_row name words r c e =
-    let both = both_true _ _ (chosen _ e) in
-    ((bytes_eq-Decides name (codes r.name)).0 both.0, as_many r.slots words both.1)
+-- slots take as many words as they are; the others are behind them
+as_many : (slots : List Slot) (words : List Word) (read : List ℕ × List Word) → read_slots slots words ≡ Some read → length words ≡ length slots + length read.1
+as_many [] words read e =
+    let same : words ≡ read.1 = cc in
+    omega (arith, ap length same)
+as_many (s ∷ ss) [] read e = absurd cc
+as_many (s ∷ ss) (w ∷ ws) read e = numbers (λ r is. as_many ss ws r is) (slot_numbers s w) e
   where
-    chosen : (b : Bool) → (if b then Some r.command else None) ≡ Some c → b ≡ true
-    chosen true h = refl
-    chosen false h = absurd cc
+    behind : ((r : List ℕ × List Word) → read_slots ss ws ≡ Some r → length ws ≡ length ss + length r.1) → (ns : List ℕ) (r : Option (List ℕ × List Word)) → read_slots ss ws ≡ r →
+        option_map (λ r. (ns ++ r.0, r.1)) r ≡ Some read → length (w ∷ ws) ≡ length (s ∷ ss) + length read.1
+    behind more ns None is h = absurd cc
+    behind more ns (Some r) is h =
+        let same : r.1 ≡ read.1 = cc in
+        omega (arith, more r is, ap length same)
+
+    numbers : ((r : List ℕ × List Word) → read_slots ss ws ≡ Some r → length ws ≡ length ss + length r.1) → (o : Option (List ℕ)) →
+        elim o [ None ↦ None | Some ns ↦ option_map (λ r. (ns ++ r.0, r.1)) (read_slots ss ws) ] ≡ Some read → length (w ∷ ws) ≡ length (s ∷ ss) + length read.1
+    numbers more None h = absurd cc
+    numbers more (Some ns) h = behind more ns (read_slots ss ws) refl h
+
+-- where a row has no options, nothing stands behind its slots
+none_behind : (n : ℕ) (settings : List Setting) (words : List Word) (found : List (Word × ℕ)) → n ≡ 0 → read_settings n settings words ≡ Some found → length words ≡ 0
+none_behind n settings [] found z e = refl
+none_behind zero settings (w ∷ ws) found z e = absurd cc
+none_behind (suc n) settings (w ∷ ws) found z e = absurd (omega arith)
+
+behind_slots : (r : Row) (read : List ℕ × List Word) (c : Command) → command_behind r read ≡ Some c → length r.settings ≡ 0 → length read.1 ≡ 0
+behind_slots r read c e none = go (read_settings (length r.settings) r.settings read.1) refl e
+  where
+    go : (o : Option (List (Word × ℕ))) → read_settings (length r.settings) r.settings read.1 ≡ o → elim o [ None ↦ None | Some found ↦ r.command read.0 found ] ≡ Some c → length read.1 ≡ 0
+    go None is h = absurd cc
+    go (Some found) is h = none_behind (length r.settings) r.settings read.1 found none is
+
+-- words of a row have its name, and without options as many words behind it as it has slots
+suits_row : (name : Word) (words : List Word) (r : Row) (c : Command) → row_command (name ∷ words) r ≡ Some c → (name ≡ codes r.name) × (length r.settings ≡ 0 → length words ≡ length r.slots)
+suits_row name words r c e = named (bytes_eq name (codes r.name)) refl e
+  where
+    counted : (o : Option (List ℕ × List Word)) → read_slots r.slots words ≡ o → elim o [ None ↦ None | Some read ↦ command_behind r read ] ≡ Some c → length r.settings ≡ 0 → length words ≡ length r.slots
+    counted None is h none = absurd cc
+    counted (Some read) is h none =
+        let all = as_many r.slots words read is in
+        let rest = behind_slots r read c h none in
+        omega (arith, all, rest)
+
+    named : (b : Bool) → bytes_eq name (codes r.name) ≡ b → (if b then elim (read_slots r.slots words) [ None ↦ None | Some read ↦ command_behind r read ] else None) ≡ Some c →
+        (name ≡ codes r.name) × (length r.settings ≡ 0 → length words ≡ length r.slots)
+    named true is h = ((bytes_eq-Decides name (codes r.name)).0 is, counted (read_slots r.slots words) refl h)
+    named false is h = absurd cc
 
 pub one_row : OneRowLaw
 one_row [] before between behind r s c d all e f = absurd cc
@@ -58,10 +101,12 @@ one_row (name ∷ words) before between behind r s c d all e f =
     let b = suits_row name words s d f in
     let different = two_are_apart before between behind r s (ap all_apart (sym all) ∙ rows_are_apart) in
     let same_name : bytes_eq (codes r.name) (codes s.name) ≡ true = (bytes_eq-Decides (codes r.name) (codes s.name)).1 (sym a.0 ∙ b.0) in
-    let same_count : (length r.slots == length s.slots) ≡ true = (Decides-eqb (length r.slots) (length s.slots)).1 (sym a.1 ∙ b.1) in
-    neither _ _ same_name same_count different
+    neither r.settings s.settings _ _ same_name
+    (λ p q. (Decides-eqb (length r.slots) (length s.slots)).1 (sym (a.1 p) ∙ b.1 q)) different
   where
-    neither : (p q : Bool) → p ≡ true → q ≡ true → (not p || not q) ≡ true → ⊥
-    neither true true h i j = absurd cc
-    neither true false h i j = absurd cc
-    neither false q h i j = absurd cc
+    neither : (m n : List Setting) (p q : Bool) → p ≡ true → (length m ≡ 0 → length n ≡ 0 → q ≡ true) → (not p || (has_none m && has_none n && not q)) ≡ true → ⊥
+    neither [] [] true true h i j = no_truth j
+    neither [] [] true false h i j = no_truth (i refl refl)
+    neither (o ∷ m) n true q h i j = no_truth j
+    neither [] (o ∷ n) true q h i j = no_truth j
+    neither m n false q h i j = no_truth h

@@ -5,22 +5,23 @@ use Rattle.std.specs.Fmt.{digits}
 use Prim.Native.String.{String}
 use Rattle.dst_spec.specs.Sample.{Shape, IsShape, IsSound}
 use Rattle.dst_spec.specs.declared.faults.FrameFault.{FrameFault}
-use Rattle.dst_spec.specs.declared.faults.Reason.TheVariants.{Truncated, PlainStuffing}
+use Rattle.dst_spec.specs.Bits.{AreBytes}
+use Rattle.dst_spec.specs.Means.{Means}
+use Rattle.dst_spec.specs.Offends.{Offends}
+use Rattle.dst_spec.specs.declared.faults.Reason.TheVariants.{Truncated, PlainStuffing, FirstCodeBit}
 use Rattle.dst_spec.proofs.Certain.{mono}
-use Rattle.dst_spec.proofs.Frames.{plain_frame_means_its_bytes}
+use Rattle.dst_spec.proofs.Frames.{plain_frame_means_its_bytes, frame_with_code_of_zeros}
 use Rattle.dst_spec.proofs.Refusals.{fields_open, at}
 use Rattle.dst_spec.proofs.Understood.{decoding_law}
 use Rattle.dsdiff_spec.specs.Rows.{command_of}
 use Rattle.dsdiff_spec.specs.Refusal.{refusal}
-use Rattle.dsdiff_spec.specs.Rules.{accepted}
-use Rattle.dsdiff_spec.specs.Words.{decode}
-use Rattle.dsdiff_spec.specs.Outcome.{Answer, RefusedForNow, coded_not_yet, IsDone, Outcome}
+use Rattle.dsdiff_spec.specs.Outcome.{Answer, Outcome}
 use Rattle.dsdiff_spec.proofs.Files.{example, empty, empty_coded, two, two_coded}
 use Rattle.dsdiff_spec.proofs.Forms.{but}
 use Rattle.dsdiff_spec.specs.Form.{shape_of}
 use Rattle.dsdiff_spec.proofs.Built.{piece, file_of, version, prop_of, rate, channels, not_compressed, prop, dsd, dst}
 use Rattle.dsdiff_spec.proofs.Commands.{words}
-use Rattle.dsdiff_spec.proofs.Restoring.{written_open, example_plain, empty_comes_back, two_come_back, plain_frame_means, alternate, filled_up, all_below}
+use Rattle.dsdiff_spec.proofs.Restoring.{written_open, example_plain, example_is_decoded, empty_comes_back, two_come_back, plain_frame_means, alternate, filled_up, all_below}
 
 -- what outcomes compute with, named once
 unfoldable pub outcome_open : ⊤
@@ -40,37 +41,51 @@ unfolding outcome_open
 plain_file_is_not_decoded = refl
 
 -- ---- files that are decoded
-pub plain_is_not_refused : (f : Shape) (sound : List ℕ) → IsShape f → IsSound f sound → (fault : FrameFault) → RefusedForNow f (0 ∷ sound) fault → ⊥
-unfolding fields_open
-plain_is_not_refused f sound g s fault (inl (coded, e)) = absurd cc
-plain_is_not_refused f sound g s fault (inr (plain, offends)) =
-    elim (decoding_law f (0 ∷ sound) g (omega arith, s.bytes)) [
-      | inl (other, o, one, none) ↦ none sound (plain_frame_means f sound s)
+-- a frame that means a sound isn't refused
+pub meaning_is_not_refused : (f : Shape) (frame sound : List ℕ) → IsShape f → AreBytes frame → Means f frame sound → (fault : FrameFault) → Offends f frame fault → ⊥
+meaning_is_not_refused f frame sound g bytes means fault offends =
+    elim (decoding_law f frame g bytes) [
+      | inl (other, o, one, none) ↦ none sound means
       | inr (other, m, one, none) ↦ none fault offends
     ]
 
-mono_shape : IsShape (mono 4704)
+pub plain_is_not_refused : (f : Shape) (sound : List ℕ) → IsShape f → IsSound f sound → (fault : FrameFault) → Offends f (0 ∷ sound) fault → ⊥
+plain_is_not_refused f sound g s = meaning_is_not_refused f (0 ∷ sound) sound g (omega arith, s.bytes) (plain_frame_means f sound s)
+
+pub mono_shape : IsShape (mono 4704)
 mono_shape = record { least = omega arith; most = omega arith; rate = inl refl }
 
 pub file_without_frames_is_decoded : Outcome (words ("decode" ∷ "a" ∷ "b" ∷ [])) empty_coded (says 0 empty ("decoded 0 frames into 0 bytes" ∷ []))
 unfolding outcome_open
-file_without_frames_is_decoded = inr (tt, empty, empty_comes_back, refl)
+file_without_frames_is_decoded = inr (tt, (empty, empty_comes_back, refl))
 
 pub two_frames_are_decoded : Outcome (words ("decode" ∷ "a" ∷ "b" ∷ [])) two_coded (says 0 two ("decoded 2 frames into 4705 bytes" ∷ []))
 unfolding outcome_open
-two_frames_are_decoded = inr ((plain_is_not_refused _ _ mono_shape alternate, (plain_is_not_refused _ _ mono_shape filled_up, tt)), two, two_come_back, refl)
+two_frames_are_decoded = inr ((plain_is_not_refused _ _ mono_shape alternate, (plain_is_not_refused _ _ mono_shape filled_up, tt)), (two, two_come_back, refl))
+
+abbrev frame_of_ones : List ℕ
+frame_of_ones = 252 ∷ 0 ∷ 0 ∷ 5 ∷ 255 ∷ 248 ∷ []
+
+pub frame_of_ones_is_bytes : AreBytes frame_of_ones
+frame_of_ones_is_bytes = (omega arith, (omega arith, (omega arith, (omega arith, (omega arith, (omega arith, tt))))))
+
+pub one_frame_is_decoded : Outcome (words ("decode" ∷ "a" ∷ "b" ∷ [])) example (says 0 example_plain ("decoded 1 frames into 4704 bytes" ∷ []))
+unfolding outcome_open
+one_frame_is_decoded =
+    inr ((meaning_is_not_refused _ _ _ mono_shape frame_of_ones_is_bytes (frame_with_code_of_zeros 4704), tt), (example_plain, example_is_decoded, refl))
 
 -- ---- frames that are refused: what stands in front of their sound is written
-pub coded_frame_is_refused : Outcome (words ("decode" ∷ "a" ∷ "b" ∷ [])) example
-    (says 6 (take 126 example_plain) ("frame 0 refused: 90 CodedNotYet at bit 0" ∷ []))
+-- the same file, the first bit of its frame's code being 1
+pub first_code_bit_is_refused : Outcome (words ("decode" ∷ "a" ∷ "b" ∷ [])) (but 157 252 example)
+    (says 6 (take 126 example_plain) ("frame 0 refused: 9 FirstCodeBit at bit 45" ∷ []))
 unfolding outcome_open fields_open
-coded_frame_is_refused = inl (record {
+first_code_bit_is_refused = inl (record {
   before = [];
-  stop = (0, 252 ∷ 0 ∷ 0 ∷ 5 ∷ 255 ∷ 248 ∷ []);
+  stop = (0, 252 ∷ 0 ∷ 0 ∷ 5 ∷ 255 ∷ 252 ∷ []);
   behind = [];
   is_run = refl;
-  fault = coded_not_yet;
-  refuses = inl (refl, refl);
+  fault = at FirstCodeBit 45;
+  refuses = refl;
   first = tt;
   out = take 126 example_plain;
   written = record { sounds = []; each = tt; written = refl };
@@ -87,7 +102,7 @@ empty_frame_is_refused = inl (record {
   behind = [];
   is_run = refl;
   fault = at Truncated 0;
-  refuses = inr (refl, refl);
+  refuses = refl;
   first = tt;
   out = take 126 example_plain;
   written = record { sounds = []; each = tt; written = refl };
@@ -104,7 +119,7 @@ stuffing_of_the_first_frame = inl (record {
   behind = (1, 0 ∷ 85 ∷ replicate 4703 105) ∷ [];
   is_run = refl;
   fault = at PlainStuffing 2;
-  refuses = inr (refl, refl);
+  refuses = refl;
   first = tt;
   out = take 126 two;
   written = record { sounds = []; each = tt; written = refl };
@@ -121,17 +136,12 @@ stuffing_of_the_second_frame = inl (record {
   behind = [];
   is_run = refl;
   fault = at PlainStuffing 2;
-  refuses = inr (refl, refl);
+  refuses = refl;
   first = (plain_is_not_refused _ _ mono_shape alternate, tt);
   out = take 4830 two;
   written = record { sounds = replicate 4704 170 ∷ []; each = (plain_frame_means_its_bytes _ alternate, tt); written = refl };
   answer = refl;
 })
-
--- ---- a coded frame, though it means a sound, is never decoded
-pub coded_frame_is_not_decoded : (o : Answer) → IsDone (decode 1) example (accepted example) o → ⊥
-unfolding outcome_open fields_open
-coded_frame_is_not_decoded o (none, out, plain, e) = none.0 coded_not_yet (inl (refl, refl))
 
 -- ---- two channels at twice the lowest rate: a frame has 18,816 bytes of sound
 abbrev stereo : Shape
@@ -150,7 +160,5 @@ pub stereo_frame_is_decoded : Outcome (words ("decode" ∷ "a" ∷ "b" ∷ [])) 
 unfolding outcome_open
 stereo_frame_is_decoded = inr (
   (plain_is_not_refused stereo _ (record { least = omega arith; most = omega arith; rate = inr (inl refl) }) stereo_sound, tt),
-  stereo_plain,
-  record { sounds = replicate 18816 105 ∷ []; each = (plain_frame_means stereo _ stereo_sound, tt); written = refl },
-  refl,
+  (stereo_plain, record { sounds = replicate 18816 105 ∷ []; each = (plain_frame_means stereo _ stereo_sound, tt); written = refl }, refl),
 )

@@ -176,9 +176,7 @@ ends_with_sound workers file sounds none h =
     let room : size_of_sound form ≤ length (concat sounds) = omega (arith, d.fits) in
     subst (λ q. OfCommand (decode workers) file q o) (sym none) (inr (
       none_numbered (decode workers) form 0 frames (subst (NoneOf (decode workers) (shape form)) all h.none),
-      out,
-      record { sounds = sounds; each = subst (λ fs. AllZip (Means (shape form)) fs sounds) all h.each; written = sym (decoded_of_sounds sounds file form room) },
-      refl,
+      (out, record { sounds = sounds; each = subst (λ fs. AllZip (Means (shape form)) fs sounds) all h.each; written = sym (decoded_of_sounds sounds file form room) }, refl),
     ))
 
 -- ---- every outcome of an accepted file begins with what is written when its first k frames are decoded
@@ -225,7 +223,7 @@ stopped_begins workers file k sounds o d answered h s =
 
 done_begins : (workers : ℕ) (file : List ℕ) (k : ℕ) (sounds : List (List ℕ)) (o : Answer) → IsDecodable file (accepted file) → AreAnswered (decode workers) (shape (accepted file)) (frames_of file (accepted file)) →
     AreDecoded workers file (accepted file) k sounds → IsDone (decode workers) file (accepted file) o → BeginsWith o.out (head_of file ++ take (sound_size file) (concat sounds))
-done_begins workers file k sounds o d answered h (none, out, plain, e) =
+done_begins workers file k sounds o d answered h (none, (out, plain, e)) =
     let c = decode workers in
     let form = accepted file in
     let frames = frames_of file form in

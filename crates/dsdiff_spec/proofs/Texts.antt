@@ -4,7 +4,7 @@ use Rattle.std.specs.Prelude.{codes, ⊤}
 use Rattle.std.specs.Fmt.{digits}
 use Prim.Native.String.{String}
 use Rattle.dst_spec.proofs.Refusals.{at}
-use Rattle.dst_spec.specs.declared.faults.Reason.TheVariants.{Truncated, PlainStuffing, MultiSegment, MapSkips, MethodReserved, TableTooShort, CoefRange, ProbRange, FirstCodeBit, CodeRange, CodedNotYet}
+use Rattle.dst_spec.specs.declared.faults.Reason.TheVariants.{Truncated, PlainStuffing, MultiSegment, MapSkips, MethodReserved, TableTooShort, CoefRange, ProbRange, FirstCodeBit, CodeRange}
 use Rattle.dsdiff_spec.specs.Rules.{accepted}
 use Rattle.dsdiff_spec.specs.Walk.{entries}
 use Rattle.dsdiff_spec.specs.Lines.{Line, report, words_line, read_fault_line, write_fault_line, memory_line, file_line, frame_fault_line, coded_line, decoded_line, cut_line, frame_line, range_line, check_line, made_line, made_run_line, show_lines, plain_frame_line, coded_frame_line, index_lines}
@@ -49,14 +49,13 @@ each_fault_has_its_number_and_name = refl
 pub each_reason_has_its_number_and_name :
     map (λ reason. frame_fault_line 5 (at reason 40)) (
     Truncated ∷ PlainStuffing ∷ MultiSegment ∷ MapSkips ∷ MethodReserved ∷ TableTooShort ∷ CoefRange ∷ ProbRange
-    ∷ FirstCodeBit ∷ CodeRange ∷ CodedNotYet ∷ [])
+    ∷ FirstCodeBit ∷ CodeRange ∷ [])
     ≡ lines (
     "frame 5 refused: 1 Truncated at bit 40" ∷ "frame 5 refused: 2 PlainStuffing at bit 40"
     ∷ "frame 5 refused: 3 MultiSegment at bit 40" ∷ "frame 5 refused: 4 MapSkips at bit 40"
     ∷ "frame 5 refused: 5 MethodReserved at bit 40" ∷ "frame 5 refused: 6 TableTooShort at bit 40"
     ∷ "frame 5 refused: 7 CoefRange at bit 40" ∷ "frame 5 refused: 8 ProbRange at bit 40"
-    ∷ "frame 5 refused: 9 FirstCodeBit at bit 40" ∷ "frame 5 refused: 10 CodeRange at bit 40"
-    ∷ "frame 5 refused: 90 CodedNotYet at bit 40" ∷ [])
+    ∷ "frame 5 refused: 9 FirstCodeBit at bit 40" ∷ "frame 5 refused: 10 CodeRange at bit 40" ∷ [])
 unfolding texts_open
 each_reason_has_its_number_and_name = refl
 

@@ -2,15 +2,13 @@
 use Rattle.std.proofs.Common.{◌≡◌, ◌⊎◌, inl, inr, ℕ, zero, suc, ◌<◌, List, [], ◌∷◌, ◌++◌, length, take, get_or, refl, ap₂, sym, ◌∙◌, arith}
 use Rattle.std.proofs.lemmas.Bool.{cases_order}
 use Rattle.std.specs.List.{AllByRecursion, AllZip}
-use Rattle.dst_spec.specs.Bits.{bits, AreBytes}
+use Rattle.dst_spec.specs.Bits.{AreBytes}
 use Rattle.dst_spec.specs.Sample.{Shape, IsShape}
 use Rattle.dst_spec.specs.Means.{Means}
-use Rattle.dst_spec.specs.Offends.{Offends}
 use Rattle.dst_spec.specs.declared.faults.FrameFault.{FrameFault}
-use Rattle.dst_spec.proofs.Numbers.{AreBits-bits, bit-below}
 use Rattle.dst_spec.proofs.Understood.{decoding_law}
-use Rattle.dsdiff_spec.specs.Words.{Command}
-use Rattle.dsdiff_spec.specs.Outcome.{first_bit, coded_not_yet, Refuses}
+use Rattle.dsdiff_spec.specs.Words.{Command, decode}
+use Rattle.dsdiff_spec.specs.Outcome.{Refuses}
 
 -- ---- one frame
 abbrev pub NotRefused : Command → Shape → List ℕ → Type 0
@@ -31,24 +29,11 @@ abbrev pub IsAnswered : Command → Shape → List ℕ → Type 0
 IsAnswered c f frame = IsRefusedOnce c f frame ⊎ IsUnderstoodOnce c f frame
 
 -- a frame is refused with one fault, or isn't refused and means one sound
-pub frame_is_answered : (c : Command) (f : Shape) (frame : List ℕ) → IsShape f → AreBytes frame → IsAnswered c f frame
-frame_is_answered c f frame shape bytes = go (first_bit frame) refl (bit-below (bits frame) 0 (AreBits-bits frame))
-  where
-    coded : first_bit frame ≡ 1 → (other : FrameFault) → Refuses c f frame other → other ≡ coded_not_yet
-    coded one other (inl (b, e)) = e
-    coded one other (inr (b, o)) = absurd (omega arith)
-
-    plain : first_bit frame ≡ 0 → (other : FrameFault) → Refuses c f frame other → Offends f frame other
-    plain zero_first other (inl (b, e)) = absurd (omega arith)
-    plain zero_first other (inr (b, o)) = o
-
-    go : (b : ℕ) → first_bit frame ≡ b → b < 2 → IsAnswered c f frame
-    go zero e h = elim (decoding_law f frame shape bytes) [
-      | inl (fault, o, one, none) ↦ inl (record { fault = fault; refuses = inr (e, o); only = λ other r. one other (plain e other r) })
-      | inr (sound, m, one, none) ↦ inr (record { sound = sound; means = m; only = one; not_refused = λ other r. none other (plain e other r) })
-    ]
-    go (suc zero) e h = inl (record { fault = coded_not_yet; refuses = inl (e, refl); only = coded e })
-    go (suc (suc b)) e h = absurd (omega arith)
+pub frame_is_answered : (workers : ℕ) (f : Shape) (frame : List ℕ) → IsShape f → AreBytes frame → IsAnswered (decode workers) f frame
+frame_is_answered workers f frame shape bytes = elim (decoding_law f frame shape bytes) [
+  | inl (fault, o, one, none) ↦ inl (record { fault = fault; refuses = o; only = one })
+  | inr (sound, m, one, none) ↦ inr (record { sound = sound; means = m; only = one; not_refused = none })
+]
 
 -- ---- frames one after the other, each of which is answered
 abbrev pub AreAnswered : Command → Shape → List (List ℕ) → Type 0

@@ -1,5 +1,5 @@
 -- The laws of files, as statements.
-use Rattle.std.specs.Prelude.{◌≡◌, ℕ, ◌+◌, ◌-◌, ◌<◌, ◌≤◌, Bool, List, ◌∷◌, ◌++◌, length, take, drop, Some, None}
+use Rattle.std.specs.Prelude.{◌≡◌, ◌↔◌, ℕ, ◌+◌, ◌-◌, ◌<◌, ◌≤◌, Bool, true, false, List, ◌∷◌, ◌++◌, length, take, drop, Some, None}
 use Rattle.std.specs.List.{AllByRecursion}
 use Rattle.dst_spec.specs.Bits.{AreBytes}
 use Rattle.dst_spec.specs.Sample.{Shape}
@@ -10,10 +10,10 @@ use Rattle.dsdiff_spec.specs.Coded.{Picks, stored_frames, coded}
 use Rattle.dsdiff_spec.specs.Decoded.{Plain, frames_of}
 use Rattle.dsdiff_spec.specs.Cut as cutting
 use Rattle.dsdiff_spec.specs.Dsf.{dsf_fault, dsdiff, ToDsf, bare}
-use Rattle.dsdiff_spec.specs.Words.{Word, Command, encode, decode, cut, frame}
+use Rattle.dsdiff_spec.specs.Words.{Word, Command, encode, decode, cut, frame, check}
 use Rattle.dsdiff_spec.specs.Rows.{Row, rows, row_command}
 use Rattle.dsdiff_spec.specs.Refusal.{refusal}
-use Rattle.dsdiff_spec.specs.Outcome.{Answer, Outcome}
+use Rattle.dsdiff_spec.specs.Outcome.{Answer, OfCommand, Outcome}
 
 -- a file that a command accepts
 abbrev pub IsAccepted : Command → List ℕ → Type 0
@@ -88,3 +88,16 @@ abbrev pub OneOutcomeLaw : Type 0
 OneOutcomeLaw =
     (words : List Word) (file : List ℕ) → AreBytes file →
     (o : Answer) × Outcome words file o × ((other : Answer) → Outcome words file other → other ≡ o)
+
+-- where the index of a coded file is its walk, a frame is found by either, and the outcome is the same
+abbrev pub SameByIndexLaw : Type 0
+SameByIndexLaw =
+    (k : ℕ) (file : List ℕ) → IsCodedFile file → (1 ≤ length (index_heads (accepted file))) × (compare_fault file (accepted file) ≡ None) →
+    (o : Answer) → OfCommand (frame k true) file (refusal (frame k true) file) o ↔ OfCommand (frame k false) file (refusal (frame k false) file) o
+
+-- how many work at a time changes no outcome
+abbrev pub AnyWorkersLaw : Type 0
+AnyWorkersLaw =
+    (v w : ℕ) (file : List ℕ) (o : Answer) →
+    (OfCommand (decode v) file (refusal (decode v) file) o → OfCommand (decode w) file (refusal (decode w) file) o)
+    × (OfCommand (check v) file (refusal (check v) file) o → OfCommand (check w) file (refusal (check w) file) o)

@@ -1,19 +1,22 @@
--- The one outcome of a run: the status, what is written, and the lines of the report. Decoding alone runs yet, and of
--- the frames it decodes those that are plain.
-use Rattle.std.specs.Prelude.{◌≡◌, ◌⊎◌, ℕ, List, [], ◌∷◌, ◌++◌, get_or, Option, Some, None}
-use Rattle.std.specs.List.{AllByRecursion, enumerate_from}
+-- The one outcome of a run: the status, what is written, and the lines of the report. The commands that read coded files
+-- have outcomes yet.
+use Rattle.std.specs.Prelude.{◌≡◌, ◌≢◌, ◌⊎◌, ℕ, ◌≤◌, true, false, List, [], ◌∷◌, ◌++◌, length, map, take, sum, Option, Some, None}
+use Rattle.std.specs.List.{AllByRecursion, AllZip, enumerate_from}
 use Rattle.dst_spec.specs.Bits.{bits}
 use Rattle.dst_spec.specs.Sample.{Shape}
+use Rattle.dst_spec.specs.Header.{Params, HasHeader}
+use Rattle.dst_spec.specs.Means.{Means, MeansWithTail, IsPlain}
 use Rattle.dst_spec.specs.Offends.{Offends}
 use Rattle.dst_spec.specs.declared.faults.FrameFault.{FrameFault}
-use Rattle.dst_spec.specs.declared.faults.Reason.TheVariants.{CodedNotYet}
-use Rattle.dsdiff_spec.specs.Form.{Form, shape, size_of_sound}
+use Rattle.dst_spec.specs.declared.faults.Reason.TheVariants.{FirstCodeBit, CodeRange}
+use Rattle.dsdiff_spec.specs.Form.{Form, Kind, plain, coded, shape, size_of_sound}
 use Rattle.dsdiff_spec.specs.Rules.{accepted}
+use Rattle.dsdiff_spec.specs.Walk.{entry, entries, indexed, frame_at}
 use Rattle.dsdiff_spec.specs.Decoded.{Plain, Before, frames_of}
-use Rattle.dsdiff_spec.specs.Words.{Word, Command, decode}
+use Rattle.dsdiff_spec.specs.Words.{Word, Command, decode, frame, check, show, show_frame, index}
 use Rattle.dsdiff_spec.specs.Rows.{command_of}
 use Rattle.dsdiff_spec.specs.Refusal.{refusal}
-use Rattle.dsdiff_spec.specs.Lines.{Line, words_line, file_line, frame_fault_line, decoded_line}
+use Rattle.dsdiff_spec.specs.Lines.{Line, words_line, file_line, frame_fault_line, decoded_line, frame_line, check_line, show_lines, plain_frame_line, coded_frame_line, index_lines}
 use Rattle.dsdiff_spec.specs.declared.faults.FileFault.{FileFault}
 
 pub record Answer : Type 0 where
@@ -34,24 +37,28 @@ abbrev pub frame_refused : ℕ → FrameFault → List ℕ → Answer
 frame_refused k fault out = record { status = 6; out = out; lines = frame_fault_line k fault ∷ [] }
 
 -- ---- the frames that a command may refuse, in order, each with its number
+abbrev pub nth_frame : List ℕ → Form → ℕ → List ℕ
+nth_frame file form k = frame_at file (entry (entries file form) k)
+
+abbrev pub indexed_frame : List ℕ → Form → ℕ → List ℕ
+indexed_frame file form k = frame_at file (indexed file form k)
+
+abbrev pub frames_if_coded : Kind → List ℕ → Form → List (List ℕ)
+frames_if_coded plain file form = []
+frames_if_coded coded file form = frames_of file form
+
 abbrev pub run : Command → List ℕ → Form → List (ℕ × List ℕ)
 run (decode workers) file form = enumerate_from 0 (frames_of file form)
+run (frame k false) file form = (k, nth_frame file form k) ∷ []
+run (frame k true) file form = (k, indexed_frame file form k) ∷ []
+run (check workers) file form = enumerate_from 0 (frames_if_coded form.kind file form)
+run (show_frame k) file form = (k, nth_frame file form k) ∷ []
 run c file form = []
 
--- the first bit of a frame, which is 1 in a coded one; an empty frame's reads as 0
-abbrev pub first_bit : List ℕ → ℕ
-first_bit frame = get_or (bits frame) 0 0
-
-abbrev pub coded_not_yet : FrameFault
-coded_not_yet = record { reason = CodedNotYet; bit = 0 }
-
--- Coded frames aren't decoded yet: a frame whose first bit is 1 is refused at this bit, any other one where it offends.
-abbrev pub RefusedForNow : Shape → List ℕ → FrameFault → Type 0
-RefusedForNow f frame fault =
-    ((first_bit frame ≡ 1) × (fault ≡ coded_not_yet)) ⊎ ((first_bit frame ≡ 0) × Offends f frame fault)
-
+-- a frame is refused where it offends; one that is only shown, where it offends in front of its code
 abbrev pub Refuses : Command → Shape → List ℕ → FrameFault → Type 0
-Refuses c f frame fault = RefusedForNow f frame fault
+Refuses (show_frame k) f w fault = Offends f w fault × (fault.reason ≢ FirstCodeBit) × (fault.reason ≢ CodeRange)
+Refuses c f w fault = Offends f w fault
 
 abbrev pub NoneRefused : Command → Form → List (ℕ × List ℕ) → Type 0
 NoneRefused c form frames = AllByRecursion (λ f. (fault : FrameFault) → Refuses c (shape form) f.1 fault → ⊥) frames
@@ -74,12 +81,34 @@ pub record IsStopped (c : Command) (file : List ℕ) (form : Form) (o : Answer) 
   pub written : WrittenBefore c file form stop.0 out
   pub answer : o ≡ frame_refused stop.0 fault out
 
--- ---- no frame of the run is refused, and the command is done; no other command than decoding is yet
+-- ---- what a command does where no frame of its run is refused
+-- a frame that is shown is plain, or has the header of a coded one up to its code
+abbrev pub Shows : Shape → ℕ → List ℕ → Line → Type 0
+Shows f k w line =
+    ((sound : List ℕ) × IsPlain f w sound × (line ≡ plain_frame_line k (length w)))
+    ⊎ ((P : Params) × (place : ℕ) × (place ≤ length (bits w)) × HasHeader f.channels P (take place (bits w))
+    × (line ≡ coded_frame_line k (length w) (length P.filters) (length P.probs) place))
+
+-- one frame's sound
+abbrev pub WritesSound : Form → ℕ → List ℕ → Answer → Type 0
+WritesSound form k w o = (sound : List ℕ) × Means (shape form) w sound × (o ≡ done sound (frame_line k (length sound) ∷ []))
+
+-- the commands so far; of the others nothing is done
+abbrev pub Does : Command → List ℕ → Form → Answer → Type 0
+Does (decode workers) file form o =
+    (out : List ℕ) × Plain file form out × (o ≡ done out (decoded_line form.frames (size_of_sound form) ∷ []))
+Does (frame k false) file form o = WritesSound form k (nth_frame file form k) o
+Does (frame k true) file form o = WritesSound form k (indexed_frame file form k) o
+Does (check workers) file form o =
+    (sounds : List (List ℕ × ℕ)) × AllZip (λ f s. MeansWithTail (shape form) f s.0 s.1) (frames_if_coded form.kind file form) sounds
+    × (o ≡ done [] (check_line form.frames (sum (map (λ s. s.1) sounds)) ∷ []))
+Does show file form o = o ≡ done [] (show_lines form (entries file form))
+Does (show_frame k) file form o = (line : Line) × Shows (shape form) k (nth_frame file form k) line × (o ≡ done [] (line ∷ []))
+Does index file form o = o ≡ done [] (index_lines (entries file form))
+Does c file form o = ⊥
+
 abbrev pub IsDone : Command → List ℕ → Form → Answer → Type 0
-IsDone (decode workers) file form o =
-    NoneRefused (decode workers) form (run (decode workers) file form)
-    × (out : List ℕ) × Plain file form out × (o ≡ done out (decoded_line form.frames (size_of_sound form) ∷ []))
-IsDone c file form o = ⊥
+IsDone c file form o = NoneRefused c form (run c file form) × Does c file form o
 
 -- ---- the outcome of words and a file
 abbrev pub OfCommand : Command → List ℕ → Option FileFault → Answer → Type 0

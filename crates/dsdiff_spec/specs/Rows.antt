@@ -1,38 +1,57 @@
--- The rows of commands: the words that each has, and the command that they give. Decoding alone has a row yet, and no
--- options.
-use Rattle.std.specs.Prelude.{Bool, true, false, ◌&&◌, if◌then◌else◌, List, [], ◌∷◌, Option, Some, None}
+-- The rows of commands: name, words, options, and the command of their numbers and settings. Those that read coded files
+-- have rows yet.
+use Rattle.std.specs.Prelude.{ℕ, Bool, ◌==◌, if◌then◌else◌, List, [], ◌∷◌, length, Option, Some, None}
 use Rattle.dsdiff_spec.specs.Bytes.{◌is◌}
 use Rattle.dsdiff_spec.specs.Faults.{first_some}
-use Rattle.dsdiff_spec.specs.Words.{Word, Command, decode, is_file_word}
+use Rattle.dsdiff_spec.specs.Words.{Word, Command, decode, frame, check, show, show_frame, index, Slot, file, number, read_slots, Setting, workers, by_index, read_settings, set_or}
 use Prim.Native.String.{String}
-
--- what a word behind the name of a row may be
-pub data Slot : Type 0 where
-  file : Slot
-
-abbrev pub suits : Slot → Word → Bool
-suits file word = is_file_word word
-
--- each word suits its slot, and there are as many words as slots
-abbrev pub all_suit : List Slot → List Word → Bool
-all_suit [] [] = true
-all_suit [] (w ∷ ws) = false
-all_suit (s ∷ ss) [] = false
-all_suit (s ∷ ss) (w ∷ ws) = suits s w && all_suit ss ws
 
 pub record Row : Type 0 where
   pub name : String
   pub slots : List Slot
-  pub command : Command
+  pub settings : List Setting
+  pub command : List ℕ → List (Word × ℕ) → Option Command
 
--- the row `decode IN OUT`, of one worker
+abbrev pub workers_of : List (Word × ℕ) → ℕ
+workers_of o = set_or "--workers" 1 o
+
+abbrev pub is_set : String → List (Word × ℕ) → Bool
+is_set name o = set_or name 0 o == 1
+
+-- commands of the number in a row
+abbrev pub frame_of : Bool → List ℕ → Option Command
+frame_of b (k ∷ []) = Some (frame k b)
+frame_of b numbers = None
+
+abbrev pub show_frame_of : List ℕ → Option Command
+show_frame_of (k ∷ []) = Some (show_frame k)
+show_frame_of numbers = None
+
+-- the rows: name, words behind it, options, and the command of the numbers and settings that stand in them
+abbrev row : String → List Slot → List Setting → (List ℕ → List (Word × ℕ) → Option Command) → Row
+row name slots settings command = record { name = name; slots = slots; settings = settings; command = command }
+
 abbrev pub rows : List Row
-rows = record { name = "decode"; slots = file ∷ file ∷ []; command = decode 1 } ∷ []
+rows =
+    row "decode" (file ∷ file ∷ []) (workers ∷ []) (λ n o. Some (decode (workers_of o)))
+    ∷ row "frame" (file ∷ file ∷ number ∷ []) (by_index ∷ []) (λ n o. frame_of (is_set "--by-index" o) n)
+    ∷ row "check" (file ∷ []) (workers ∷ []) (λ n o. Some (check (workers_of o)))
+    ∷ row "show" (file ∷ []) [] (λ n o. Some show)
+    ∷ row "show" (file ∷ number ∷ []) [] (λ n o. show_frame_of n)
+    ∷ row "index" (file ∷ []) [] (λ n o. Some index)
+    ∷ []
 
 -- the command of words that are a row
+abbrev pub command_behind : Row → List ℕ × List Word → Option Command
+command_behind row read = elim (read_settings (length row.settings) row.settings read.1) [
+  | None ↦ None
+  | Some o ↦ row.command read.0 o
+]
+
 abbrev pub row_command : List Word → Row → Option Command
 row_command [] row = None
-row_command (name ∷ words) row = if name is row.name && all_suit row.slots words then Some row.command else None
+row_command (name ∷ words) row =
+    if name is row.name then elim (read_slots row.slots words) [ None ↦ None | Some read ↦ command_behind row read ] else None
 
 -- the command of the row that has these words; no two rows have the same
 unfoldable pub command_of : List Word → Option Command

@@ -39,3 +39,5 @@ pub mod Causal
 pub mod Decoding
 pub mod Unique
 pub mod Understood
+pub mod HeaderFaults
+pub mod CodeFaults

@@ -1,7 +1,7 @@
 -- The numbers of the reasons why a frame is refused.
 use Rattle.std.specs.Prelude.{ℕ}
 use Rattle.dst_spec.specs.declared.faults.Reason.{Reason}
-use Rattle.dst_spec.specs.declared.faults.Reason.TheVariants.{Truncated, PlainStuffing, MultiSegment, MapSkips, MethodReserved, TableTooShort, CoefRange, ProbRange, FirstCodeBit, CodeRange, CodedNotYet}
+use Rattle.dst_spec.specs.declared.faults.Reason.TheVariants.{Truncated, PlainStuffing, MultiSegment, MapSkips, MethodReserved, TableTooShort, CoefRange, ProbRange, FirstCodeBit, CodeRange}
 
 abbrev pub reason_number : Reason → ℕ
 reason_number Truncated = 1
@@ -14,4 +14,3 @@ reason_number CoefRange = 7
 reason_number ProbRange = 8
 reason_number FirstCodeBit = 9
 reason_number CodeRange = 10
-reason_number CodedNotYet = 90

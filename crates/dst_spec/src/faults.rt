@@ -37,9 +37,6 @@ pub enum Reason {
     /// The first twelve bits of the code number are all 1.
     #[error("10 CodeRange")]
     CodeRange = 10,
-    /// A coded frame, which isn't decoded yet.
-    #[error("90 CodedNotYet")]
-    CodedNotYet = 90,
 }
 
 impl Reason {

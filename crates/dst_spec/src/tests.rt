@@ -15,7 +15,6 @@ fn a_fault_shows_its_number_name_and_bit(rt: HostRuntime) -> Result<(), Fail> {
         (Reason::ProbRange, 8, "8 ProbRange at bit 45"),
         (Reason::FirstCodeBit, 9, "9 FirstCodeBit at bit 45"),
         (Reason::CodeRange, 10, "10 CodeRange at bit 45"),
-        (Reason::CodedNotYet, 90, "90 CodedNotYet at bit 45"),
     ];
     for (reason, number, text) in shown {
         let fault = FrameFault { reason, bit: 45 };

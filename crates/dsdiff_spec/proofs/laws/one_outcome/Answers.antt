@@ -1,4 +1,4 @@
-use Rattle.dsdiff_spec.proofs.OneOutcome.{one_outcome as law}
+use Rattle.dsdiff_spec.proofs.OneAnswer.{one_outcome as law}
 use Rattle.dsdiff_spec.proofs.laws.one_outcome.Goals as goal
 
 pub returns : goal.returns

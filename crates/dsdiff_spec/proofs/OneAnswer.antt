@@ -1,0 +1,162 @@
+-- Words and a file have one outcome.
+use Rattle.std.proofs.Common.{◌≡◌, ◌⊎◌, ℕ, Bool, true, false, if◌then◌else◌, List, [], ◌∷◌, refl, subst, ◌∙◌, Option, Some, None}
+use Rattle.std.specs.Prelude.{⊤, bytes_eq, codes}
+use Rattle.std.specs.List.{AllByRecursion}
+use Rattle.dst_spec.specs.Bits.{AreBytes}
+use Rattle.dsdiff_spec.specs.Faults.{first_some}
+use Rattle.dsdiff_spec.specs.Form.{Form, Kind, plain, coded, shape}
+use Rattle.dsdiff_spec.specs.Rules.{form_fault, accepted}
+use Rattle.dsdiff_spec.specs.Walk.{Entry, frame_at}
+use Rattle.dsdiff_spec.specs.Words.{Word, Command, encode, decode, cut, frame, check, show, show_frame, index, make, make_run, encode_dsf, decode_dsf, range, read_slots}
+use Rattle.dsdiff_spec.specs.Rows.{Row, rows, row_command, command_behind, frame_of, show_frame_of, command_of}
+use Rattle.dsdiff_spec.specs.Refusal.{form_refusal, refusal}
+use Rattle.dsdiff_spec.specs.Outcome.{not_understood, file_refused, frames_if_coded, nth_frame, indexed_frame, IsStopped, IsDone, OfCommand, OfWords}
+use Rattle.dsdiff_spec.specs.Laws.{OneOutcomeLaw}
+use Rattle.dsdiff_spec.specs.declared.faults.FileFault.{FileFault}
+use Rattle.dsdiff_spec.proofs.CodedFiles.{bytes_taken, bytes_dropped, frames_are_bytes, form_by, refused_by}
+use Rattle.dsdiff_spec.proofs.Lawful.{form_has_a_shape}
+use Rattle.dsdiff_spec.proofs.Stopping.{One, one_of_run}
+use Rattle.dsdiff_spec.proofs.Settling.{frame_is_settled, checked_are_settled, shown_is_settled, one_sound, one_list, one_check, one_line}
+use Rattle.dsdiff_spec.proofs.OneOutcome.{decoding_has_one_outcome}
+
+-- ---- the commands that have rows
+abbrev pub ReadsCoded : Command → Type 0
+ReadsCoded (encode level workers) = ⊥
+ReadsCoded (decode workers) = ⊤
+ReadsCoded (cut first last) = ⊥
+ReadsCoded (frame k b) = ⊤
+ReadsCoded (check workers) = ⊤
+ReadsCoded show = ⊤
+ReadsCoded (show_frame k) = ⊤
+ReadsCoded index = ⊤
+ReadsCoded (make start frames channels multiple) = ⊥
+ReadsCoded (make_run start frames channels multiple) = ⊥
+ReadsCoded (encode_dsf level workers) = ⊥
+ReadsCoded (decode_dsf workers) = ⊥
+ReadsCoded (range pairs) = ⊥
+
+abbrev GivesReading : Row → Type 0
+GivesReading r = (numbers : List ℕ) (found : List (Word × ℕ)) (c : Command) → r.command numbers found ≡ Some c → ReadsCoded c
+
+of_some : (a c : Command) → Some a ≡ Some c → ReadsCoded a → ReadsCoded c
+of_some a c e h = let is : a ≡ c = cc in subst ReadsCoded is h
+
+of_frame : (b : Bool) (numbers : List ℕ) (c : Command) → frame_of b numbers ≡ Some c → ReadsCoded c
+of_frame b [] c e = absurd cc
+of_frame b (k ∷ []) c e = of_some (frame k b) c e tt
+of_frame b (k ∷ m ∷ ns) c e = absurd cc
+
+of_show_frame : (numbers : List ℕ) (c : Command) → show_frame_of numbers ≡ Some c → ReadsCoded c
+of_show_frame [] c e = absurd cc
+of_show_frame (k ∷ []) c e = of_some (show_frame k) c e tt
+of_show_frame (k ∷ m ∷ ns) c e = absurd cc
+
+all_read : AllByRecursion GivesReading rows
+all_read = (
+  (λ n o c e. of_some _ c e tt),
+  (
+    (λ n o c e. of_frame _ n c e),
+    ((λ n o c e. of_some _ c e tt), ((λ n o c e. of_some _ c e tt), ((λ n o c e. of_show_frame n c e), ((λ n o c e. of_some _ c e tt), tt)))),
+  ),
+)
+
+of_row : (words : List Word) (r : Row) (c : Command) → GivesReading r → row_command words r ≡ Some c → ReadsCoded c
+of_row [] r c h e = absurd cc
+of_row (name ∷ words) r c h e = named (bytes_eq name (codes r.name)) e
+  where
+    behind : (read : List ℕ × List Word) (o : Option (List (Word × ℕ))) → elim o [ None ↦ None | Some found ↦ r.command read.0 found ] ≡ Some c → ReadsCoded c
+    behind read None k = absurd cc
+    behind read (Some found) k = h read.0 found c k
+
+    slots : (o : Option (List ℕ × List Word)) → elim o [ None ↦ None | Some read ↦ command_behind r read ] ≡ Some c → ReadsCoded c
+    slots None k = absurd cc
+    slots (Some read) k = behind read _ k
+
+    named : (b : Bool) → (if b then elim (read_slots r.slots words) [ None ↦ None | Some read ↦ command_behind r read ] else None) ≡ Some c → ReadsCoded c
+    named true k = slots (read_slots r.slots words) k
+    named false k = absurd cc
+
+of_rows : (words : List Word) (rs : List Row) (c : Command) → AllByRecursion GivesReading rs → first_some (row_command words) rs ≡ Some c → ReadsCoded c
+of_rows words [] c h e = absurd cc
+of_rows words (r ∷ rs) c h e = go (λ k. of_rows words rs c h.1 k) (row_command words r) refl e
+  where
+    go : (first_some (row_command words) rs ≡ Some c → ReadsCoded c) → (o : Option Command) → row_command words r ≡ o → elim o [ Some x ↦ Some x | None ↦ first_some (row_command words) rs ] ≡ Some c → ReadsCoded c
+    go later (Some x) is k = of_row words r c h.0 (is ∙ k)
+    go later None is k = later k
+
+pub words_read_coded : (words : List Word) (c : Command) → command_of words ≡ Some c → ReadsCoded c
+unfolding command_of
+words_read_coded words c e = of_rows words rows c all_read e
+
+-- ---- each of them has one outcome
+form_is_accepted : (c : Command) (file : List ℕ) → form_refusal c file ≡ None → form_fault file ≡ None
+form_is_accepted c file h = go (form_fault file) refl h
+  where
+    go : (o : Option FileFault) → form_fault file ≡ o → refused_by (form_by o file) c file ≡ None → form_fault file ≡ None
+    go (Some fault) e k = absurd cc
+    go None e k = e
+
+answered : (c : Command) (file : List ℕ) (r : Option FileFault) → (r ≡ None → One (λ o. IsStopped c file (accepted file) o ⊎ IsDone c file (accepted file) o)) → One (OfCommand c file r)
+answered c file (Some fault) h = (file_refused fault, refl, λ other o. o)
+answered c file None h = h refl
+
+bytes_of_entry : (file : List ℕ) (e : Entry) → AreBytes file → AreBytes (frame_at file e)
+bytes_of_entry file e h = bytes_taken e.size _ (bytes_dropped e.offset file h)
+
+writing_has_one_outcome : (k : ℕ) (b : Bool) (file : List ℕ) → AreBytes file → One (OfCommand (frame k b) file (refusal (frame k b) file))
+unfolding refusal
+writing_has_one_outcome k false file bytes = answered (frame k false) file (form_refusal (frame k false) file) (λ none.
+    one_of_run (frame k false) file (accepted file) (frame_is_settled k false _ _, tt) (λ j. (refl, λ out e. e))
+    (λ never. one_sound (accepted file) k (nth_frame file (accepted file) k) (form_has_a_shape file (form_is_accepted (frame k false) file none)) (bytes_of_entry file _ bytes) never.0))
+writing_has_one_outcome k true file bytes = answered (frame k true) file (form_refusal (frame k true) file) (λ none.
+    one_of_run (frame k true) file (accepted file) (frame_is_settled k true _ _, tt) (λ j. (refl, λ out e. e))
+    (λ never. one_sound (accepted file) k (indexed_frame file (accepted file) k) (form_has_a_shape file (form_is_accepted (frame k true) file none)) (bytes_of_entry file _ bytes) never.0))
+
+checked_frames_are_bytes : (k : Kind) (file : List ℕ) (form : Form) → AreBytes file → AllByRecursion AreBytes (frames_if_coded k file form)
+checked_frames_are_bytes plain file form h = tt
+checked_frames_are_bytes coded file form h = frames_are_bytes file form h
+
+checking_has_one_outcome : (workers : ℕ) (file : List ℕ) → AreBytes file → One (OfCommand (check workers) file (refusal (check workers) file))
+unfolding refusal
+checking_has_one_outcome workers file bytes = answered (check workers) file (form_refusal (check workers) file) (λ none.
+    let form = accepted file in
+    let frames = frames_if_coded form.kind file form in
+    one_of_run (check workers) file form (checked_are_settled workers form 0 frames) (λ j. (refl, λ out e. e))
+    (λ never. one_check form frames (one_list (shape form) 0 frames (form_has_a_shape file (form_is_accepted (check workers) file none)) (checked_frames_are_bytes form.kind file form bytes) never)))
+
+showing_has_one_outcome : (file : List ℕ) → AreBytes file → One (OfCommand show file (refusal show file))
+unfolding refusal
+showing_has_one_outcome file bytes = answered show file (form_refusal show file) (λ none. one_of_run show file (accepted file) tt (λ j. (refl, λ out e. e)) (λ never. (_, refl, λ other e. e)))
+
+showing_a_frame_has_one_outcome : (k : ℕ) (file : List ℕ) → AreBytes file → One (OfCommand (show_frame k) file (refusal (show_frame k) file))
+unfolding refusal
+showing_a_frame_has_one_outcome k file bytes = answered (show_frame k) file (form_refusal (show_frame k) file) (λ none.
+    one_of_run (show_frame k) file (accepted file) (shown_is_settled k _ _, tt) (λ j. (refl, λ out e. e))
+    (λ never. one_line (accepted file) k (nth_frame file (accepted file) k) (form_has_a_shape file (form_is_accepted (show_frame k) file none)) (bytes_of_entry file _ bytes) never.0))
+
+listing_has_one_outcome : (file : List ℕ) → AreBytes file → One (OfCommand index file (refusal index file))
+unfolding refusal
+listing_has_one_outcome file bytes = answered index file (form_refusal index file) (λ none. one_of_run index file (accepted file) tt (λ j. (refl, λ out e. e)) (λ never. (_, refl, λ other e. e)))
+
+pub command_has_one_outcome : (c : Command) (file : List ℕ) → ReadsCoded c → AreBytes file → One (OfCommand c file (refusal c file))
+command_has_one_outcome (decode workers) file h bytes = decoding_has_one_outcome workers file bytes
+command_has_one_outcome (frame k b) file h bytes = writing_has_one_outcome k b file bytes
+command_has_one_outcome (check workers) file h bytes = checking_has_one_outcome workers file bytes
+command_has_one_outcome show file h bytes = showing_has_one_outcome file bytes
+command_has_one_outcome (show_frame k) file h bytes = showing_a_frame_has_one_outcome k file bytes
+command_has_one_outcome index file h bytes = listing_has_one_outcome file bytes
+command_has_one_outcome (encode level workers) file h bytes = absurd h
+command_has_one_outcome (cut first last) file h bytes = absurd h
+command_has_one_outcome (make start frames channels multiple) file h bytes = absurd h
+command_has_one_outcome (make_run start frames channels multiple) file h bytes = absurd h
+command_has_one_outcome (encode_dsf level workers) file h bytes = absurd h
+command_has_one_outcome (decode_dsf workers) file h bytes = absurd h
+command_has_one_outcome (range pairs) file h bytes = absurd h
+
+-- ---- of words
+pub one_outcome : OneOutcomeLaw
+one_outcome words file bytes = go (command_of words) refl
+  where
+    go : (r : Option Command) → command_of words ≡ r → One (OfWords r file)
+    go None e = (not_understood, refl, λ other o. o)
+    go (Some c) e = command_has_one_outcome c file (words_read_coded words c e) bytes
