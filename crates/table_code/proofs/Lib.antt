@@ -1,0 +1,12 @@
+pub mod Runs
+pub mod RiceParts
+pub mod Zeros
+pub mod Weighing
+pub mod GoingOn
+pub mod FieldSteps
+pub mod PlainNumbers
+pub mod TableSteps
+pub mod TableSpelled
+pub mod Lengths
+pub mod Choosing
+pub mod Appended

@@ -1,0 +1,17 @@
+use Rattle.std.proofs.Common.{◌≡◌, ◌≤◌, length}
+use Rattle.std.specs.List.{AllByRecursion}
+use Rattle.dst_spec.specs.Table.{InRange}
+use Rattle.dst_spec.specs.Fields.{read}
+use Rattle.dst_spec.specs.Offends.{times, plain_fields}
+use Rattle.bit_io.specs.Reading.{left}
+use Rattle.table_code.specs.Parts.{plain_rest}
+use Rattle.table_code.proofs.reading.read_plain.Given as goal
+
+abbrev pub invariant-loop : goal.invariant-loop
+invariant-loop g l = record {
+  counted : length l.values.items ≡ l.counter;
+  each : AllByRecursion (InRange g.K.TableKind.kind) l.values.items;
+  bytes : l.reader.bytes ≡ l.initial.reader.bytes;
+  fewer : length (left l.reader) ≤ length (left l.initial.reader);
+  rest : read (times l.count (plain_fields g.K.TableKind.kind)) (left l.initial.reader) l.initial.reader.place ≡ read (plain_rest g.K.TableKind.kind l.count l.values.items) (left l.reader) l.reader.place;
+}
