@@ -1,0 +1,10 @@
+pub mod Stepping
+pub mod Coming
+pub mod Parts
+pub mod ReadMaps
+pub mod Whole
+pub mod Early
+pub mod Frames
+pub mod LowBits
+pub mod SpelledMaps
+pub mod SpelledHeaders

@@ -1,0 +1,140 @@
+// Headers of worked frames, the faults of others, and the parts that are lent.
+use super::*;
+use bit_io::{BitReader, BitWriter};
+use dst_num::{Channels, FrameFault, Params, Reason};
+use std::test::Fail;
+
+// One channel, whose filter is coefficient 0 and whose probabilities are 128 and 128; the code begins at bit 45.
+const COEFFICIENT_0: [u8; 6] = [0xfc, 0x00, 0x00, 0x05, 0xff, 0xf8];
+
+#[test]
+fn headers_end_where_their_code_begins(rt: HostRuntime) -> Result<(), Fail> {
+    let mono = Channels::new(1).ok_or("one channel")?;
+    let cases: [(&[u8], u64, &[i16], &[u8]); 5] = [
+        (&COEFFICIENT_0, 45, &[0], &[128, 128]),
+        // a table of one probability
+        (&[0xfc, 0x00, 0x00, 0x00], 30, &[0], &[128]),
+        // two segmentations, each told at once
+        (&[0xbf, 0x00, 0x00, 0x01, 0x7f, 0xfe], 47, &[0], &[128, 128]),
+        // two segmentations and two maps, each told for the channel; the code is past the end
+        (&[0x94, 0x00, 0x00, 0x00, 0xbf, 0xff], 48, &[0], &[128, 128]),
+        // three coefficients by method 2, which leave no residual
+        (
+            &[0xfc, 0x0b, 0x00, 0x00, 0x00, 0x00, 0x0b, 0xff, 0xf0],
+            68,
+            &[0, 0, 0],
+            &[128, 128],
+        ),
+    ];
+    for (frame, first, coefs, entries) in cases {
+        assert!(rt; frame.len() <= 9);
+        match view_frame(frame, mono) {
+            Ok(FrameView::Coded(params, code)) => {
+                assert_eq!(rt; code.first, first, "{frame:?}");
+                assert_eq!(rt; code.bytes, frame);
+                assert_eq!(rt; params.filter_map.elements(), [0].as_slice());
+                assert_eq!(rt; params.prob_map.elements(), [0].as_slice());
+                assert_eq!(rt; params.half.as_slice(), [false].as_slice());
+                assert_eq!(rt; params.filters.as_slice().len(), 1);
+                assert_eq!(rt; params.probs.as_slice().len(), 1);
+                for filter in params.filters.as_slice() {
+                    assert_eq!(rt; filter.coefs(), coefs, "{frame:?}");
+                }
+                for table in params.probs.as_slice() {
+                    assert_eq!(rt; table.entries(), entries, "{frame:?}");
+                }
+            }
+            Ok(FrameView::Plain(_)) => assert!(rt; false, "{frame:?} is coded"),
+            Err(fault) => assert!(rt; false, "{frame:?}: {fault}"),
+        }
+    }
+    Ok(())
+}
+
+#[test]
+fn the_first_field_at_fault_is_told(rt: HostRuntime) -> Result<(), Fail> {
+    let cases: [(u32, &[u8], Reason, u64); 12] = [
+        (1, &[], Reason::Truncated, 0),
+        (1, &[0x01], Reason::PlainStuffing, 2),
+        (1, &[0x40, 0x00], Reason::Truncated, 8),
+        (1, &[0xfc, 0x00, 0x00], Reason::Truncated, 24),
+        (1, &[0xe0], Reason::MultiSegment, 3),
+        // number 3 behind two elements; and number 2, with the half bits behind it
+        (3, &[0xfb, 0x80], Reason::MapSkips, 7),
+        (3, &[0xfb, 0x00], Reason::Truncated, 12),
+        (1, &[0xfc, 0x07, 0x80], Reason::MethodReserved, 15),
+        (1, &[0xfc, 0x07, 0x00], Reason::TableTooShort, 15),
+        (1, &[0xfc, 0x06, 0x3f, 0xc2], Reason::CoefRange, 29),
+        (
+            1,
+            &[0xfc, 0x00, 0x00, 0x06, 0x00, 0x0c],
+            Reason::ProbRange,
+            43,
+        ),
+        (
+            1,
+            &[0xfc, 0x00, 0x00, 0x06, 0x7f, 0x08],
+            Reason::ProbRange,
+            43,
+        ),
+    ];
+    for (count, frame, reason, bit) in cases {
+        let channels = Channels::new(count).ok_or("channels")?;
+        let _bytes = channels.frame_bytes();
+        assert!(rt; frame.len() <= 6);
+        match view_frame(frame, channels) {
+            Ok(_) => assert!(rt; false, "{frame:?} has no fault"),
+            Err(fault) => assert_eq!(rt; fault, FrameFault { reason, bit }, "{frame:?}"),
+        }
+    }
+    Ok(())
+}
+
+#[test]
+fn the_sound_of_a_plain_frame_is_lent(rt: HostRuntime) -> Result<(), Fail> {
+    let mono = Channels::new(1).ok_or("one channel")?;
+    let mut frame = [7; 4708];
+    for first in [0x00, 0x40] {
+        frame[0] = first;
+        match view_frame(&frame, mono) {
+            Ok(FrameView::Plain(sound)) => assert!(rt; sound == [7; 4704].as_slice()),
+            Ok(FrameView::Coded(_, _)) => assert!(rt; false, "{first} is plain"),
+            Err(fault) => assert!(rt; false, "{first}: {fault}"),
+        }
+    }
+    Ok(())
+}
+
+#[test]
+fn a_header_is_read_and_written(rt: HostRuntime) -> Result<(), Fail> {
+    laws::header_law();
+    let mono = Channels::new(1).ok_or("one channel")?;
+    let mut reader = BitReader::new(&COEFFICIENT_0);
+    let Some(1) = reader.read(1) else {
+        return Err("coded")?;
+    };
+    assert!(rt; reader.left() <= 47);
+    let params = match read_header(&mut reader, mono) {
+        Ok(header) => {
+            assert_eq!(rt; (header.code, reader.place()), (45, 45));
+            header.params
+        }
+        Err(fault) => {
+            assert!(rt; false, "{fault}");
+            Params::default()
+        }
+    };
+    let mut short = BitWriter::new(rt.alloc(), 5)?;
+    assert!(rt; !write_header(&params, &mut short));
+    assert_eq!(rt; short.length(), 0);
+    let mut writer = BitWriter::new(rt.alloc(), 6)?;
+    assert!(rt; write_header(&params, &mut writer));
+    // the probabilities take one bit less by method 0 with m = 0: 128 plain, and a residual of 0
+    assert_eq!(rt; (writer.length(), writer.room()), (44, 4));
+    writer.finish();
+    assert_eq!(rt;
+        writer.bytes(),
+        [0xfc, 0x00, 0x00, 0x06, 0x7f, 0x10].as_slice()
+    );
+    Ok(())
+}
