@@ -1,0 +1,9 @@
+pub mod Begun
+pub mod Entries
+pub mod Faults
+pub mod Masks
+pub mod Ready
+pub mod Registers
+pub mod Standing
+pub mod Stepping
+pub mod Steps

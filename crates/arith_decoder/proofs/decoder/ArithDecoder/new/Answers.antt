@@ -1,0 +1,62 @@
+use Rattle.std.proofs.Common.{◌≡◌, ◌+◌, refl, ap, sym, ◌∙◌, arith, inl, inr}
+use Rattle.dst_spec.specs.Bits.{bits, number_from}
+use Rattle.dst_spec.proofs.Numbers.{AreBits-bits}
+use Rattle.arith_decoder.proofs.Begun.{begun}
+use Rattle.arith_decoder.proofs.Faults.{one_bit, first_is_zero, first_fault, range_fault}
+use Rattle.arith_decoder.proofs.decoder.ArithDecoder.new.Goals as goal
+
+pub returns-then-read_or_zero-eq1-clause-fault : goal.returns-then-read_or_zero-eq1-clause-fault
+returns-then-read_or_zero-eq1-clause-fault c =
+    let number = rw (c.over-reader.ensures.bytes, c.over-reader.ensures.place) at c.read_or_zero.ensures.number in
+    inl (sym (one_bit (bits c.args.code.bytes.now) c.args.code.first) ∙ sym number ∙ c.if-read_or_zero-eq1.true, refl)
+
+pub returns-then-read_or_zero-eq1-clause-offends : goal.returns-then-read_or_zero-eq1-clause-offends
+returns-then-read_or_zero-eq1-clause-offends c =
+    let number = rw (c.over-reader.ensures.bytes, c.over-reader.ensures.place) at c.read_or_zero.ensures.number in
+    first_fault (bits c.args.code.bytes.now) c.args.code.first c.args.code.first (sym number ∙ c.if-read_or_zero-eq1.true)
+
+pub returns-then-kept-eq4095-clause-fault : goal.returns-then-kept-eq4095-clause-fault
+returns-then-kept-eq4095-clause-fault c =
+    let number = rw (c.over-reader.ensures.bytes, c.over-reader.ensures.place) at c.read_or_zero.ensures.number in
+    let kept = rw (c.read_or_zero.ensures.bytes, c.read_or_zero.ensures.place, c.over-reader.ensures.bytes, c.over-reader.ensures.place) at c.read_or_zero-2.ensures.number in
+    let first = first_is_zero (bits c.args.code.bytes.now) c.args.code.first c.read_or_zero.result (AreBits-bits c.args.code.bytes.now) number c.if-read_or_zero-eq1.false in
+    inr (first, sym kept ∙ sym c.from-kept.ensures ∙ c.if-kept-eq4095.true, refl)
+
+pub returns-then-kept-eq4095-clause-offends : goal.returns-then-kept-eq4095-clause-offends
+returns-then-kept-eq4095-clause-offends c =
+    let number = rw (c.over-reader.ensures.bytes, c.over-reader.ensures.place) at c.read_or_zero.ensures.number in
+    let kept = rw (c.read_or_zero.ensures.bytes, c.read_or_zero.ensures.place, c.over-reader.ensures.bytes, c.over-reader.ensures.place) at c.read_or_zero-2.ensures.number in
+    let first = first_is_zero (bits c.args.code.bytes.now) c.args.code.first c.read_or_zero.result (AreBits-bits c.args.code.bytes.now) number c.if-read_or_zero-eq1.false in
+    range_fault (bits c.args.code.bytes.now) c.args.code.first first (sym kept ∙ sym c.from-kept.ensures ∙ c.if-kept-eq4095.true)
+
+pub returns-clause-first_bit : goal.returns-clause-first_bit
+returns-clause-first_bit c =
+    let number = rw (c.over-reader.ensures.bytes, c.over-reader.ensures.place) at c.read_or_zero.ensures.number in
+    first_is_zero (bits c.args.code.bytes.now) c.args.code.first c.read_or_zero.result (AreBits-bits c.args.code.bytes.now) number c.if-read_or_zero-eq1.false
+
+pub invariant_of-result : goal.invariant_of-result
+invariant_of-result c =
+    let code = c.args.code in
+    let kept = c.from-kept.ensures ∙ rw (c.read_or_zero.ensures.bytes, c.read_or_zero.ensures.place, c.over-reader.ensures.bytes, c.over-reader.ensures.place) at c.read_or_zero-2.ensures.number in
+    let next = c.from-next.ensures ∙ rw (c.read_or_zero-2.ensures.bytes, c.read_or_zero-2.ensures.place, c.read_or_zero.ensures.bytes, c.read_or_zero.ensures.place, c.over-reader.ensures.bytes, c.over-reader.ensures.place) at c.read_or_zero-3.ensures.number in
+    let place : code.first + 1 + 12 ≡ code.first + 13 = omega arith in
+    let b = begun code.bytes.now code.first c.from-kept.result c.from-next.result c.requires.short c.requires.early kept c.if-kept-eq4095.false (next ∙ ap (λ k. number_from (bits code.bytes.now) k 32) place) in
+    record { registers = b.registers; entries = c.entries.ensures }
+
+pub returns-clause-used : goal.returns-clause-used
+returns-clause-used c =
+    let code = c.args.code in
+    let kept = c.from-kept.ensures ∙ rw (c.read_or_zero.ensures.bytes, c.read_or_zero.ensures.place, c.over-reader.ensures.bytes, c.over-reader.ensures.place) at c.read_or_zero-2.ensures.number in
+    let next = c.from-next.ensures ∙ rw (c.read_or_zero-2.ensures.bytes, c.read_or_zero-2.ensures.place, c.read_or_zero.ensures.bytes, c.read_or_zero.ensures.place, c.over-reader.ensures.bytes, c.over-reader.ensures.place) at c.read_or_zero-3.ensures.number in
+    let place : code.first + 1 + 12 ≡ code.first + 13 = omega arith in
+    let b = begun code.bytes.now code.first c.from-kept.result c.from-next.result c.requires.short c.requires.early kept c.if-kept-eq4095.false (next ∙ ap (λ k. number_from (bits code.bytes.now) k 32) place) in
+    b.used_is
+
+pub returns-clause-stands : goal.returns-clause-stands
+returns-clause-stands c =
+    let code = c.args.code in
+    let kept = c.from-kept.ensures ∙ rw (c.read_or_zero.ensures.bytes, c.read_or_zero.ensures.place, c.over-reader.ensures.bytes, c.over-reader.ensures.place) at c.read_or_zero-2.ensures.number in
+    let next = c.from-next.ensures ∙ rw (c.read_or_zero-2.ensures.bytes, c.read_or_zero-2.ensures.place, c.read_or_zero.ensures.bytes, c.read_or_zero.ensures.place, c.over-reader.ensures.bytes, c.over-reader.ensures.place) at c.read_or_zero-3.ensures.number in
+    let place : code.first + 1 + 12 ≡ code.first + 13 = omega arith in
+    let b = begun code.bytes.now code.first c.from-kept.result c.from-next.result c.requires.short c.requires.early kept c.if-kept-eq4095.false (next ∙ ap (λ k. number_from (bits code.bytes.now) k 32) place) in
+    b.stands

@@ -1,0 +1,5 @@
+use Rattle.dst_spec.proofs.Intervals.{one_list_of_symbols}
+use Rattle.arith_decoder.proofs.laws.one_list_of_symbols.Goals as goal
+
+pub returns : goal.returns
+returns c = one_list_of_symbols

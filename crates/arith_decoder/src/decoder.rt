@@ -1,0 +1,139 @@
+// The arithmetic decoder.
+ghost use Rattle.std.specs.Prelude.{◌≡◌, ◌≢◌, ℕ, ◌+◌, ◌*◌, ◌/◌, ◌%◌, ◌<◌, ◌≤◌, ◌^◌, Bool, List, [], ◌∷◌, ◌++◌, length, drop, get_or, Err, IfOk, IfErr};
+ghost use Rattle.dst_spec.specs.Bits.{bits, number_from};
+ghost use Rattle.dst_spec.specs.Fields.{read};
+ghost use Rattle.arith_decoder.specs.Decoding.{StandsFor, IsCodeFault, code_fields};
+ghost use Rattle.arith_decoder.specs.Registers.{IsValue};
+
+use crate::entry::{Entry, entries};
+use crate::step::step;
+use bit_io::{BitReader, BitSlice};
+use dst_num::{FrameFault, Prob, Reason};
+use std::marker::Model;
+
+/// Decodes symbol after symbol. Bits of the code past the end of the lent bytes are 0.
+#[derive(Drop)]
+pub struct ArithDecoder<'a> {
+    bytes: &'a [u8],
+    first: u64,
+    // the place of the first bit that isn't in the value yet
+    place: u64,
+    // the kept number in the twelve highest bits, the next bits of the code, a bit 1
+    value: u64,
+    // the range in the twelve highest bits
+    range: u64,
+    entries: [Entry; 128],
+}
+
+impl<'a> Model for ArithDecoder<'a> {
+    ghost use Rattle.std.specs.Prelude.{◌+◌, ◌-◌, ◌/◌, ◌^◌, ◌≤◌, ◌<◌, length};
+    ghost use Rattle.std.specs.Int.{trailing_zeros, w64};
+    ghost use Rattle.arith_decoder.specs.Decoding.{Decoding};
+
+    ghost Value = { Decoding };
+
+    ghost view = { λ d. record {
+      bytes = d.bytes.now;
+      first = d.first;
+      range = d.range / 2 ^ 52;
+      kept = d.value / 2 ^ 52;
+      used = d.place + trailing_zeros w64 d.value - 51 - d.first;
+    } };
+
+    ghost use Rattle.arith_decoder.specs.Registers.{AreRegisters, AreEntries};
+
+    ghost invariant = { λ d. record {
+      registers : AreRegisters d.bytes.now d.first (d.place + trailing_zeros w64 d.value - 51 - d.first) d.place d.value d.range;
+      entries : AreEntries d.entries;
+    } };
+}
+
+// The value with 32 more bits of the code behind its last, in place of the bit 1 there and zeros.
+#[cold]
+#[inline(never)]
+fn refilled(bytes: &[u8], place: u64, value: u64) -> u64
+    requires short { length bytes.now ≤ 2 ^ 50 }
+    requires early { place < 2 ^ 62 }
+    requires low { value % 2 ^ 32 ≡ 0 }
+    requires held { (start : ℕ) × IsValue (bits bytes.now) start place (value / 2 ^ 52) value }
+    ensures { (start : ℕ) → IsValue (bits bytes.now) start place (value / 2 ^ 52) value
+        → IsValue (bits bytes.now) start (place + 32) (value / 2 ^ 52) result }
+{
+    let behind = value.trailing_zeros();
+    let mut reader = BitReader::over(BitSlice {
+        bytes,
+        first: place,
+    });
+    let more = u64::from(reader.read_or_zero(32));
+    value - (1 << behind) + ((2 * more + 1) << (behind - 32))
+}
+
+impl<'a> ArithDecoder<'a> {
+    /// A decoder of the code whose first bit is the first of the lent bits, in at most `2^50` bytes. It is refused as
+    /// FirstCodeBit where that bit is 1, else as CodeRange where the next twelve are all 1, each at its place in the bytes.
+    pub fn new(code: BitSlice<'a>) -> Result<ArithDecoder<'a>, FrameFault>
+        requires short { length code.bytes.now ≤ 2 ^ 50 }
+        requires early { code.first < 2 ^ 61 }
+        ensures fault { IfErr result (λ f. IsCodeFault (bits code.entry.bytes.now) code.entry.first f) }
+        ensures offends { IfErr result (λ f. read code_fields (drop code.entry.first (bits code.entry.bytes.now)) code.entry.first ≡ Err f) }
+        ensures first_bit { IfOk result (λ _. get_or (bits code.entry.bytes.now) code.entry.first 0 ≡ 0) }
+        ensures in_range { IfOk result (λ _. number_from (bits code.entry.bytes.now) (code.entry.first + 1) 12 ≢ 4095) }
+        ensures bytes { IfOk result (λ d. d.bytes ≡ code.entry.bytes.now) }
+        ensures first { IfOk result (λ d. d.first ≡ code.entry.first) }
+        ensures used { IfOk result (λ d. d.used ≡ 13) }
+        ensures stands { IfOk result (λ d. StandsFor d []) }
+    {
+        let mut reader = BitReader::over(code);
+        if reader.read_or_zero(1) == 1 {
+            return Err(FrameFault {
+                reason: Reason::FirstCodeBit,
+                bit: code.first,
+            });
+        }
+        let kept = u64::from(reader.read_or_zero(12));
+        if kept == 4095 {
+            return Err(FrameFault {
+                reason: Reason::CodeRange,
+                bit: code.first + 1,
+            });
+        }
+        let next = u64::from(reader.read_or_zero(32));
+        Ok(ArithDecoder {
+            bytes: code.bytes,
+            first: code.first,
+            place: code.first + 45,
+            value: kept << 52 | (2 * next + 1) << 19,
+            range: 4095 << 52,
+            entries: entries(),
+        })
+    }
+
+    /// The next symbol, which has this probability: true where it is 1. At most `2^40` bits of the code may be used before.
+    #[inline(always)]
+    pub fn decode(&mut self, p: Prob) -> bool
+        requires early { self.old.used ≤ 2 ^ 40 }
+        ensures stands { (pairs : List (Bool × ℕ)) → StandsFor self.old pairs → StandsFor self.new (pairs ++ (result, p) ∷ []) }
+        ensures bytes { self.new.bytes ≡ self.old.bytes }
+        ensures first { self.new.first ≡ self.old.first }
+        ensures used { self.new.used ≤ self.old.used + 8 }
+        ensures least { 1 ≤ p }
+        ensures most { p ≤ 128 }
+    {
+        if self.value % (1 << 32) == 0 {
+            self.value = refilled(self.bytes, self.place, self.value);
+            self.place += 32;
+        }
+        let entry = self.entries[(p.value() % 128) as usize];
+        let (value, range, symbol) = step(self.value, self.range, entry);
+        self.value = value;
+        self.range = range;
+        symbol
+    }
+
+    /// How many bits of the code are used: the first code bit, twelve, and one for each doubling.
+    pub fn used(&self) -> u64
+        ensures used { result ≡ self.now.used }
+    {
+        self.place + u64::from(self.value.trailing_zeros()) - 51 - self.first
+    }
+}

@@ -1,0 +1,48 @@
+// Codes decoded, and codes refused.
+use super::*;
+use bit_io::BitSlice;
+use dst_num::{FrameFault, Prob, Reason};
+
+#[test]
+fn codes_give_their_symbols(rt: HostRuntime) {
+    // for each symbol its probability, the symbol, and the bits that are used behind it
+    let carry = [
+        (128, true, 13),
+        (128, false, 14),
+        (1, true, 15),
+        (128, false, 16),
+        (128, false, 17),
+        (128, false, 18),
+    ];
+    let cases: [(&[u8], u64, &[(u32, bool, u64)]); 4] = [
+        (&[0x40, 0x00], 0, &carry[..3]),
+        (&[0x40, 0x18, 0x00], 0, &carry),
+        // the same code behind five other bits
+        (&[0xfa, 0x00, 0xc0, 0x07], 5, &carry),
+        (&[], 0, &[(1, true, 13), (128, true, 13)]),
+    ];
+    for (bytes, first, symbols) in cases {
+        let code = BitSlice { bytes, first };
+        let mut decoder = ArithDecoder::new(code).expect(&rt, "a lawful code");
+        for (p, symbol, used) in symbols {
+            let p = Prob::new(*p).expect(&rt, "a probability");
+            assert!(rt; decoder.used() <= 100);
+            assert_eq!(rt; decoder.decode(p), *symbol);
+            assert_eq!(rt; decoder.used(), *used);
+        }
+    }
+}
+
+#[test]
+fn codes_with_a_fault_are_refused_at_its_bit(rt: HostRuntime) {
+    let cases: [(&[u8], u64, Reason, u64); 4] = [
+        (&[0x80], 0, Reason::FirstCodeBit, 0),
+        (&[0xff, 0xff], 3, Reason::FirstCodeBit, 3),
+        (&[0x7f, 0xf8], 0, Reason::CodeRange, 1),
+        (&[0xfb, 0xff, 0xc0], 5, Reason::CodeRange, 6),
+    ];
+    for (bytes, first, reason, bit) in cases {
+        let refused = ArithDecoder::new(BitSlice { bytes, first }).err();
+        assert_eq!(rt; refused, Some(FrameFault { reason, bit }));
+    }
+}
