@@ -1,0 +1,9 @@
+pub mod Carrying
+pub mod Doubling
+pub mod Entries
+pub mod Joining
+pub mod Leaving
+pub mod Masks
+pub mod Moving
+pub mod Narrowing
+pub mod Spelling

@@ -1,0 +1,142 @@
+use Rattle.std.proofs.Common.{◌≡◌, ℕ, ◌+◌, ◌-◌, ◌*◌, ◌/◌, ◌%◌, ◌^◌, ◌≤◌, ◌<◌, Bool, List, refl, ap, sym, ◌∙◌, arith}
+use Rattle.std.proofs.lemmas.Nat.{one_shl}
+use Rattle.dst_spec.specs.Interval.{Interval}
+use Rattle.dst_spec.proofs.Intervals.{interval-push}
+use Rattle.arith_encoder.specs.Encoding.{Encoding}
+use Rattle.arith_encoder.specs.Leaving.{Leaving}
+use Rattle.arith_encoder.specs.Registers.{AreRegisters}
+use Rattle.arith_encoder.specs.declared.encoder.ArithEncoder.TheInside.{Inside}
+use Rattle.arith_encoder.proofs.Moving.{reached_of, leaves_below, left_by, taken}
+use Rattle.arith_encoder.proofs.Narrowing.{IsNarrowed}
+use Rattle.arith_encoder.proofs.encoder.ArithEncoder.encode.Goals as goal
+use Rattle.arith_encoder.proofs.encoder.ArithEncoder.encode.Goals.{then-self-ge32, else-self-ge32}
+
+abbrev RegistersOf : Inside → Type 0
+RegistersOf i = AreRegisters i.held i.low i.count i.range i.left
+
+abbrev ReachedOf : Inside → Interval
+ReachedOf i = reached_of i.held i.low i.count i.range
+
+-- the fields are those before, maybe with 32 bits left
+record IsSame (i j : Inside) : Type 0 where
+  before : j.held.before ≡ i.held.before
+  room : j.held.room ≡ i.held.room
+  reached : ReachedOf j ≡ ReachedOf i
+  range : j.range ≡ i.range
+  entries : j.entries ≡ i.entries
+  registers : RegistersOf j
+  few : j.count < 32
+
+some_left : (i j : Inside) (g : Leaving) → RegistersOf i → 32 ≤ i.count → g.number ≡ i.held.number * 2 ^ 32 + i.low / 2 ^ (i.count - 20) → g.count ≡ i.held.count + 32 →
+    g.before ≡ i.held.before → g.room ≡ i.held.room →
+    j ≡ record i { held = g; low = i.low % (1 * 2 ^ (i.count - 20) % 18446744073709551616); count = i.count - 32; left = i.left - 32 } → IsSame i j
+some_left i j g r many number count before room is =
+    let few = r.few in
+    let one = one_shl (i.count - 20) 64 (omega arith) in
+    let l = left_by i.held g i.low i.count i.range i.left r many number count room in
+    rw (is, one) (record { before = before; room = room; reached = l.reached; range = refl; entries = refl; registers = l.registers; few = omega arith })
+
+none_left : (i j : Inside) → RegistersOf i → i.count < 32 → j ≡ i → IsSame i j
+none_left i j r few is = rw is (record { before = refl; room = refl; reached = refl; range = refl; entries = refl; registers = r; few = few })
+
+-- the part of a symbol, of a probability that was read
+with_prob : (range p q : ℕ) (symbol : Bool) (start after d : ℕ) → q ≡ p → IsNarrowed range q symbol start after d → IsNarrowed range p symbol start after d
+with_prob range p q symbol start after d is n = rw (← is) n
+
+abbrev made : List ℕ → ℕ → Interval → Encoding
+made before room reached = record { before = before; room = room; reached = reached }
+
+same_encoding : (a b : List ℕ) (r s : ℕ) (i j : Interval) → a ≡ b → r ≡ s → i ≡ j → made a r i ≡ made b s j
+same_encoding a b r s i j e f g = ap (λ x. made x r i) e ∙ ap (λ x. made b x i) f ∙ ap (λ x. made b s x) g
+
+pub push-requires-clause-carry : goal.push-requires-clause-carry
+push-requires-clause-carry c =
+    let i = c.self.inside in
+    leaves_below i.held i.low i.count i.range i.left c.self.invariant.registers (omega arith)
+
+pub invariant_of-self : goal.invariant_of-self
+invariant_of-self c =
+    let i = c.self.inside in
+    let j = c.if-self-ge32.self-inside in
+    let r = c.self.invariant.registers in
+    let m : IsSame i j = elim c.if-self-ge32.branch [
+      | then-self-ge32 w ↦ some_left i j w.push.new.self r w.if-self-ge32.true w.push.ensures.number w.push.ensures.count w.push.ensures.before w.push.ensures.room w.self-inside-is
+      | else-self-ge32 w ↦ none_left i j r w.if-self-ge32.false w.self-inside-is
+    ] in
+    record { registers = m.registers; entries = rw m.entries c.self.invariant.entries }
+
+pub returns-then-count-self-clause-unchanged : goal.returns-then-count-self-clause-unchanged
+returns-then-count-self-clause-unchanged c unchanged =
+    let i = c.self.inside in
+    let j = c.if-self-ge32.self-inside in
+    let r = c.self.invariant.registers in
+    let m : IsSame i j = elim c.if-self-ge32.branch [
+      | then-self-ge32 w ↦ some_left i j w.push.new.self r w.if-self-ge32.true w.push.ensures.number w.push.ensures.count w.push.ensures.before w.push.ensures.room w.self-inside-is
+      | else-self-ge32 w ↦ none_left i j r w.if-self-ge32.false w.self-inside-is
+    ] in
+    same_encoding j.held.before i.held.before j.held.room i.held.room (ReachedOf j) (ReachedOf i) m.before m.room m.reached ∙ c.self.view_is
+
+pub overflow_add-self : goal.overflow_add-self
+overflow_add-self c =
+    let i = c.self.inside in
+    let j = c.if-self-ge32.self-inside in
+    let r = c.self.invariant.registers in
+    let m : IsSame i j = elim c.if-self-ge32.branch [
+      | then-self-ge32 w ↦ some_left i j w.push.new.self r w.if-self-ge32.true w.push.ensures.number w.push.ensures.count w.push.ensures.before w.push.ensures.room w.self-inside-is
+      | else-self-ge32 w ↦ none_left i j r w.if-self-ge32.false w.self-inside-is
+    ] in
+    let part = c.narrow-part.result in
+    let prob = c.from.ensures ∙ c.value-2.ensures.value in
+    let n = with_prob j.range c.args.p c.from.result c.args.symbol part.start part.range part.doublings prob
+    (record { narrowed_is = c.narrow-part.ensures.narrowed; in_range = c.narrow-part.ensures.range; few = c.narrow-part.ensures.few; within = c.narrow-part.ensures.within }) in
+    let t = taken j.held j.low j.count j.range j.left c.args.p c.args.symbol part.start part.range part.doublings c.value-2.ensures.least c.value-2.ensures.most m.registers m.few n in
+    omega (arith, t.sum_fits)
+
+pub invariant_of-self-2 : goal.invariant_of-self-2
+invariant_of-self-2 c =
+    let i = c.self.inside in
+    let j = c.if-self-ge32.self-inside in
+    let r = c.self.invariant.registers in
+    let m : IsSame i j = elim c.if-self-ge32.branch [
+      | then-self-ge32 w ↦ some_left i j w.push.new.self r w.if-self-ge32.true w.push.ensures.number w.push.ensures.count w.push.ensures.before w.push.ensures.room w.self-inside-is
+      | else-self-ge32 w ↦ none_left i j r w.if-self-ge32.false w.self-inside-is
+    ] in
+    let part = c.narrow-part.result in
+    let prob = c.from.ensures ∙ c.value-2.ensures.value in
+    let n = with_prob j.range c.args.p c.from.result c.args.symbol part.start part.range part.doublings prob
+    (record { narrowed_is = c.narrow-part.ensures.narrowed; in_range = c.narrow-part.ensures.range; few = c.narrow-part.ensures.few; within = c.narrow-part.ensures.within }) in
+    let t = taken j.held j.low j.count j.range j.left c.args.p c.args.symbol part.start part.range part.doublings c.value-2.ensures.least c.value-2.ensures.most m.registers m.few n in
+    record { registers = rw t.low_is (t.registers (omega (arith, c.if-count-self.false))); entries = rw m.entries c.self.invariant.entries }
+
+pub returns-clause-reached : goal.returns-clause-reached
+returns-clause-reached c done =
+    let i = c.self.inside in
+    let j = c.if-self-ge32.self-inside in
+    let r = c.self.invariant.registers in
+    let m : IsSame i j = elim c.if-self-ge32.branch [
+      | then-self-ge32 w ↦ some_left i j w.push.new.self r w.if-self-ge32.true w.push.ensures.number w.push.ensures.count w.push.ensures.before w.push.ensures.room w.self-inside-is
+      | else-self-ge32 w ↦ none_left i j r w.if-self-ge32.false w.self-inside-is
+    ] in
+    let part = c.narrow-part.result in
+    let prob = c.from.ensures ∙ c.value-2.ensures.value in
+    let n = with_prob j.range c.args.p c.from.result c.args.symbol part.start part.range part.doublings prob
+    (record { narrowed_is = c.narrow-part.ensures.narrowed; in_range = c.narrow-part.ensures.range; few = c.narrow-part.ensures.few; within = c.narrow-part.ensures.within }) in
+    let t = taken j.held j.low j.count j.range j.left c.args.p c.args.symbol part.start part.range part.doublings c.value-2.ensures.least c.value-2.ensures.most m.registers m.few n in
+    rw (← c.self.view_is, t.low_is, ← m.reached) (sym t.reached)
+
+pub returns-clause-stands : goal.returns-clause-stands
+returns-clause-stands c done pairs stands =
+    let i = c.self.inside in
+    let j = c.if-self-ge32.self-inside in
+    let r = c.self.invariant.registers in
+    let m : IsSame i j = elim c.if-self-ge32.branch [
+      | then-self-ge32 w ↦ some_left i j w.push.new.self r w.if-self-ge32.true w.push.ensures.number w.push.ensures.count w.push.ensures.before w.push.ensures.room w.self-inside-is
+      | else-self-ge32 w ↦ none_left i j r w.if-self-ge32.false w.self-inside-is
+    ] in
+    let part = c.narrow-part.result in
+    let prob = c.from.ensures ∙ c.value-2.ensures.value in
+    let n = with_prob j.range c.args.p c.from.result c.args.symbol part.start part.range part.doublings prob
+    (record { narrowed_is = c.narrow-part.ensures.narrowed; in_range = c.narrow-part.ensures.range; few = c.narrow-part.ensures.few; within = c.narrow-part.ensures.within }) in
+    let t = taken j.held j.low j.count j.range j.left c.args.p c.args.symbol part.start part.range part.doublings c.value-2.ensures.least c.value-2.ensures.most m.registers m.few n in
+    let now = rw (← c.self.view_is) at stands in
+    rw (t.low_is, ← t.reached, m.reached, now) (sym (interval-push pairs c.args.symbol c.args.p))
