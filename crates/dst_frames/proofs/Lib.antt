@@ -1,0 +1,9 @@
+pub mod Entries
+pub mod Maps
+pub mod Symbols
+pub mod History
+pub mod Rows
+pub mod Early
+pub mod Bytes
+pub mod Whole
+pub mod Frames

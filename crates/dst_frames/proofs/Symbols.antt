@@ -1,0 +1,40 @@
+-- The symbol of a sample, from the entry of its prediction.
+use Rattle.std.proofs.Common.{◌≡◌, ℕ, ◌%◌, ◌≤◌, ℤ, Bool, true, false, not, if◌then◌else◌, nat_lt, List, ◌∷◌, length, get_or, subst₂, refl, ap, ap₂, sym, ◌∙◌, arith}
+use Rattle.std.proofs.lemmas.Bool.Decides.{nat_tests}
+use Rattle.std.specs.Int.{is_negative}
+use lib.Dec.{leb}
+use mathlib.Core.Bool.{beq}
+use Rattle.dst_spec.specs.Header.{bit_of}
+use Rattle.byte_predictor.specs.Samples.{signed_sum}
+use Rattle.byte_predictor.specs.Upward.{upward_sum}
+use Rattle.dst_frames.specs.Tables.{prob_at, prob_in, IsEntry, IsBuilt, symbol_after}
+use Rattle.dst_frames.specs.declared.tables.ChannelTables.{ChannelTables}
+
+high_is : (e : ℕ) → leb 128 e ≡ not (nat_lt e 128)
+high_is e = grind (arith, nat_tests)
+
+turned_back : (s negative : Bool) → s ≡ (if negative then not (beq s (not negative)) else beq s (not negative))
+turned_back true true = refl
+turned_back true false = refl
+turned_back false true = refl
+turned_back false false = refl
+
+told_prob : (early : Bool) (e low prob : ℕ) → low ≡ (if early then 0 else e % 128) → prob_in (e % 128) ≡ prob → prob_in low ≡ (if early then 128 else prob)
+told_prob true e low prob is told = ap prob_in is
+told_prob false e low prob is told = ap prob_in is ∙ told
+
+pub symbol_is : (filter : List ℤ) (probs samples : List ℕ) (early s : Bool) (e low p : ℕ) → IsEntry (signed_sum filter samples) probs e → low ≡ (if early then 0 else e % 128) → p ≡ prob_in low →
+    ◌≡◌ {A = Bool × ℕ} (s, p) (symbol_after filter probs early samples (beq s (leb 128 e)))
+symbol_is filter probs samples early s e low p entry low_is p_is =
+    let negative = is_negative (signed_sum filter samples) in
+    let high : leb 128 e ≡ not negative = high_is e ∙ ap not entry.guess in
+    let told : p ≡ (if early then 128 else prob_at probs (signed_sum filter samples)) = p_is ∙ told_prob early e low (prob_at probs (signed_sum filter samples)) low_is entry.prob in
+    ap₂ (λ x y. (x, y)) (turned_back s negative ∙ ap (λ h. if negative then not (beq s h) else beq s h) (sym high)) told
+
+-- an entry that was looked up for one value of the sample before it
+pub entry_behind : (filter : List ℤ) (probs samples : List ℕ) (half b s : Bool) (tables : ChannelTables) (upward next : ℕ) → IsBuilt filter probs half tables → 128 ≤ length samples →
+    upward ≡ upward_sum tables.filter (bit_of b ∷ samples) → next ≡ get_or tables.entries upward 0 → s ≡ b → IsEntry (signed_sum filter (bit_of s ∷ samples)) probs next
+entry_behind filter probs samples half b s tables upward next built long sum is same =
+    let whole = sum ∙ ap (λ coefs. upward_sum coefs (bit_of b ∷ samples)) built.filter_is in
+    let entry = built.entries (bit_of b ∷ samples) (omega arith) in
+    subst₂ (λ x e. IsEntry (signed_sum filter (bit_of x ∷ samples)) probs e) (sym same) (ap (λ u. get_or tables.entries u 0) (sym whole) ∙ sym is) entry

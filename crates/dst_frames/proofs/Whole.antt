@@ -1,0 +1,35 @@
+-- A frame before its first sample and behind its last one.
+use Rattle.std.proofs.Common.{◌≡◌, ℕ, ◌*◌, ◌<◌, Bool, List, [], ◌∷◌, get_or, replicate, refl, ap, sym, subst, ◌∙◌}
+use Rattle.dst_spec.specs.Sample.{Shape}
+use Rattle.dst_spec.specs.Header.{Params}
+use Rattle.dst_spec.specs.Guess.{filter_of, probs_of}
+use Rattle.dst_spec.specs.Symbols.{first_probability, symbols}
+use Rattle.byte_predictor.specs.Samples.{samples_of}
+use Rattle.arith_decoder.specs.Decoding.{Decoding, StandsFor}
+use Rattle.dst_frames.specs.Ready.{IsReady}
+use Rattle.dst_frames.specs.declared.state.ChannelState.{ChannelState}
+use Rattle.dst_frames.specs.Underway.{earlier, symbols_before, IsDecodedTo}
+
+no_symbols : (f : Shape) (P : Params) (sound : List ℕ) (reserved : Bool) → symbols_before f P sound reserved 0 ≡ (reserved, first_probability P) ∷ []
+unfolding symbols_before
+no_symbols f P sound reserved = refl
+
+no_samples : (f : Shape) (sound : List ℕ) (c : ℕ) → earlier f sound c 0 ≡ samples_of (replicate 16 170)
+unfolding earlier
+no_samples f sound c = refl
+
+all_symbols : (f : Shape) (P : Params) (sound : List ℕ) (reserved : Bool) → symbols_before f P sound reserved (8 * f.octets) ≡ symbols f P sound reserved
+unfolding symbols_before symbols
+all_symbols f P sound reserved = refl
+
+pub frame_begins : (f : Shape) (P : Params) (reserved : Bool) (p : ℕ) (out : List ℕ) (decoder : Decoding) (states : List ChannelState) → p ≡ first_probability P → StandsFor decoder ((reserved, p) ∷ []) →
+    ((c : ℕ) (other : ChannelState) → c < f.channels → IsReady (filter_of P c) (probs_of P c) 0 (samples_of (replicate 16 170)) (get_or states c other)) → IsDecodedTo f P reserved 0 out decoder states
+frame_begins f P reserved p out decoder states prob stands fresh = record {
+  ready = λ c other h. subst (λ xs. IsReady (filter_of P c) (probs_of P c) 0 xs (get_or states c other)) (sym (no_samples f out c)) (fresh c other h);
+  code = λ sound same. subst (StandsFor decoder) (ap (λ q. (reserved, q) ∷ []) prob ∙ sym (no_symbols f P sound reserved)) stands;
+}
+
+pub frame_ends : (f : Shape) (P : Params) (reserved : Bool) (octets : ℕ) (out : List ℕ) (decoder : Decoding) (states : List ChannelState) → f.octets ≡ octets → IsDecodedTo f P reserved octets out decoder states →
+    StandsFor decoder (symbols f P out reserved)
+frame_ends f P reserved octets out decoder states all u =
+    subst (StandsFor decoder) (ap (λ n. symbols_before f P out reserved (8 * n)) (sym all) ∙ all_symbols f P out reserved) (u.code out (λ c h. refl))

@@ -1,0 +1,26 @@
+use Rattle.std.proofs.Common.{◌≡◌, [], length, sym, subst₂, ◌∙◌, arith}
+use Rattle.dst_spec.specs.Bits.{bits}
+use Rattle.dst_spec.specs.Symbols.{symbols}
+use Rattle.dst_spec.specs.Interval.{IsCodeOf}
+use Rattle.dst_frames.proofs.Whole.{frame_begins, frame_ends}
+use Rattle.dst_frames.proofs.code.decode_code.Goals as goal
+
+pub returns-clause-sound : goal.returns-clause-sound
+returns-clause-sound c = λ f channels octets.
+    let P = c.args.params.now in
+    let reserved = c.decode.result in
+    let out = c.decode_all.new.out in
+    let decoder = c.decode_all.new.decoder in
+    let kept : f.channels ≡ length c.build_all.new.tables = channels ∙ sym c.build_all.auto.tables in
+    let built = c.build_all.ensures.built f channels in
+    let begins = frame_begins f P reserved c.reserved_prob.result c.args.out.now c.decode.new.self c.build_all.new.states c.reserved_prob.ensures (c.decode.ensures.stands [] c.in-Ok.ensures.stands)
+    (λ j other h. c.build_all.ensures.fresh j other (omega arith)) in
+    let whole = c.decode_all.ensures.sound f P reserved kept built begins in
+    let stands = frame_ends f P reserved c.args.octets out decoder c.decode_all.new.states octets whole in
+    let bytes = c.decode_all.ensures.bytes ∙ c.decode.ensures.bytes ∙ c.in-Ok.ensures.bytes in
+    let first = c.decode_all.ensures.first ∙ c.decode.ensures.first ∙ c.in-Ok.ensures.first in
+    record {
+      reserved = reserved;
+      code = subst₂ (λ bs i. IsCodeOf (bits bs) i (symbols f P out reserved)) bytes first (c.decoded_code.ensures decoder (symbols f P out reserved) stands);
+      used_are = c.used.ensures.used ∙ stands.used;
+    }

@@ -1,0 +1,17 @@
+use Rattle.std.proofs.Common.{get_or, replicate, ap, sym, subst, ◌∙◌}
+use Rattle.byte_predictor.specs.Samples.{samples_of, signed_sum}
+use Rattle.byte_predictor.specs.Upward.{upward_sum}
+use Rattle.byte_predictor.specs.SumsAhead.{IsAhead}
+use Rattle.dst_frames.specs.Tables.{IsEntry}
+use Rattle.dst_frames.proofs.state.ChannelState.fresh.Goals as goal
+
+pub returns : goal.returns
+returns c = λ filter probs half built.
+    let samples = samples_of (replicate 16 170) in
+    let fresh = c.fresh-ahead.ensures in
+    let sum = sym (c.upward-upward.ensures samples fresh ∙ ap (λ coefs. upward_sum coefs samples) built.filter_is) in
+    let entry = built.entries samples fresh.long in
+    record {
+      ahead = subst (λ coefs. IsAhead coefs 0 samples c.fresh-ahead.result) built.filter_is fresh;
+      next = subst (λ u. IsEntry (signed_sum filter samples) probs (get_or c.args.tables.now.entries u 0)) sum entry;
+    }

@@ -1,0 +1,24 @@
+use Rattle.std.proofs.Common.{◌≡◌, ℕ, ◌≤◌, List, ℤ, length, get_or, ap, sym, subst₂, ◌∙◌, if◌then◌else◌}
+use Rattle.byte_predictor.specs.Samples.{signed_sum}
+use Rattle.byte_predictor.specs.Upward.{upward_sum}
+use Rattle.dst_frames.specs.Tables.{IsEntry}
+use Rattle.dst_frames.proofs.tables.ChannelTables.take.Goals as goal
+use Rattle.dst_frames.proofs.tables.ChannelTables.take.Goals.{then-half, else-half}
+
+pub returns : goal.returns
+returns c =
+    let filter = c.args.filter.now in
+    let probs = c.args.probs.now in
+    let P : List ℤ → List ℕ → Type 0 = λ coefs table. (samples : List ℕ) → 128 ≤ length samples → IsEntry (signed_sum coefs samples) table (get_or c.fill_entries.new.entries (upward_sum coefs samples) 0) in
+    let coefs_are = c.coefs-length.ensures.coefs in
+    let early : c.if-half.self ≡ (if c.args.half then length filter else 0) =
+    elim c.if-half.branch [
+      | then-half w ↦ w.self-is ∙ ap length coefs_are ∙ sym (ap (λ b. if b then length filter else 0) w.if-half.true)
+      | else-half w ↦ w.self-is ∙ sym (ap (λ b. if b then length filter else 0) w.if-half.false)
+    ] in
+    record {
+      filter_is = c.build.ensures;
+      short = c.coefs-length.ensures.table.most;
+      entries = subst₂ P c.build.ensures c.entries.ensures.entries c.fill_entries.ensures;
+      early = early;
+    }

@@ -1,0 +1,6 @@
+pub mod Scratch
+pub mod Reserved
+pub mod Tables
+pub mod Ready
+pub mod Underway
+pub mod Coded

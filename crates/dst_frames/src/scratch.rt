@@ -1,0 +1,52 @@
+// The memory in which frames are decoded.
+ghost use Rattle.std.specs.Prelude.{◌≡◌, IfOk};
+ghost use Rattle.dst_spec.specs.Sample.{IsShape};
+
+use crate::state::ChannelState;
+use crate::tables::ChannelTables;
+use dst_num::Channels;
+use std::alloc::{AllocError, Global};
+use std::marker::Model;
+
+// What a channel takes.
+const _: () = prove!(size_of::<ChannelTables>() + size_of::<ChannelState>() == 132_140);
+
+/// The memory in which frames of some channels are decoded. Nothing of one frame is used for the next one.
+#[derive(Drop)]
+pub struct Scratch {
+    channels: Channels,
+    pub(crate) tables: Vec<ChannelTables>,
+    pub(crate) states: Vec<ChannelState>,
+}
+
+impl Model for Scratch {
+    ghost use Rattle.std.specs.Prelude.{◌≡◌, length};
+    ghost use Rattle.dst_frames.specs.Scratch.{Kept};
+
+    ghost Value = { Kept };
+
+    ghost view = { λ s. record { channels = s.channels } };
+
+    ghost invariant = { λ s. (length s.tables.items ≡ s.channels.channels) × (length s.states.items ≡ s.channels.channels) };
+}
+
+impl Scratch {
+    /// Takes all memory that decoding needs: 132,140 bytes a channel, so 792,840 bytes for six channels, at any rate.
+    pub fn new(alloc: Global, channels: Channels) -> Result<Scratch, AllocError>
+        ensures { IfOk result (λ s. s.channels ≡ channels) }
+    {
+        let count = channels.count();
+        let mut tables = Vec::with_capacity(alloc, count)?;
+        let mut states = Vec::with_capacity(alloc, count)?;
+        for _ in 0..count {
+            let one = ChannelTables::new();
+            states.push(ChannelState::fresh(&one))?;
+            tables.push(one)?;
+        }
+        Ok(Scratch {
+            channels,
+            tables,
+            states,
+        })
+    }
+}

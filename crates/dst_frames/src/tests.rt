@@ -1,0 +1,145 @@
+// Frames worked out by hand, each decoded behind another one, and the faults of others.
+use super::*;
+use dst_num::{Channels, FrameFault, Reason};
+use std::alloc::Global;
+use std::test::Fail;
+
+// One channel, the coefficient 0 and the probabilities 128 and 128: each sample is 1.
+const ONES: [u8; 6] = [0xfc, 0x00, 0x00, 0x05, 0xff, 0xf8];
+
+// The sound of a frame behind another one, with the same scratch, and its tail.
+fn decoded(
+    alloc: Global,
+    channels: Channels,
+    before: &[u8],
+    frame: &[u8],
+) -> Result<(Vec<u8>, Result<u32, FrameFault>), Fail> {
+    let bytes = channels.frame_bytes();
+    if before.len() > 9408 || frame.len() > 9410 {
+        return Err("a frame is too long")?;
+    }
+    let mut scratch = Scratch::new(alloc, channels)?;
+    let mut sound = vec![in alloc; 0u8; bytes]?;
+    let _ = decode_frame(before, channels, &mut scratch, &mut sound);
+    let tail = decode_frame(frame, channels, &mut scratch, &mut sound);
+    Ok((sound, tail))
+}
+
+#[test]
+fn frames_give_their_sound_and_tail(rt: HostRuntime) -> Result<(), Fail> {
+    let mut long = [0x00; 9410];
+    long[..6].copy_from_slice(&ONES);
+    let mut noise = [0xbb; 9410];
+    noise[..6].copy_from_slice(&[0xfc, 0x00, 0x00, 0x04, 0x00, 0x03]);
+    // the channels, the multiple, the frame, the bytes of its first two channels in turn, the tail
+    let cases: [(u32, u32, &[u8], [u8; 2], u32); 10] = [
+        (1, 1, &ONES, [0xff, 0xff], 0),
+        (1, 2, &ONES, [0xff, 0xff], 0),
+        // the coefficients 1 and -1: each sample as the one before it, and each other than that
+        (1, 1, &[0xfc, 0x00, 0x01, 0x05, 0xff, 0xf8], [0x00, 0x00], 0),
+        (1, 1, &[0xfc, 0x01, 0xff, 0x05, 0xff, 0xf8], [0xaa, 0xaa], 0),
+        // two segmentations; two maps; three coefficients by method 2; one probability
+        (1, 1, &[0xbf, 0x00, 0x00, 0x01, 0x7f, 0xfe], [0xff, 0xff], 0),
+        (1, 1, &[0x94, 0x00, 0x00, 0x00, 0xbf, 0xff], [0xff, 0xff], 0),
+        (
+            1,
+            1,
+            &[0xfc, 0x0b, 0x00, 0x00, 0x00, 0x00, 0x0b, 0xff, 0xf0],
+            [0xff, 0xff],
+            0,
+        ),
+        (1, 1, &[0xfc, 0x00, 0x00, 0x00], [0xff, 0xff], 0),
+        // two channels with the coefficients 0 and 1
+        (
+            2,
+            1,
+            &[
+                0xfa, 0x00, 0x00, 0x00, 0x00, 0x20, 0xbf, 0xff, 0x05, 0xff, 0xf8,
+            ],
+            [0xff, 0x00],
+            0,
+        ),
+        // 37,689 bits are taken
+        (1, 1, &long, [0xff, 0xff], 4698),
+    ];
+    for (count, multiple, frame, bytes, unread) in cases {
+        let channels = Channels::at(count, multiple).ok_or("channels")?;
+        let (sound, tail) = decoded(rt.alloc(), channels, &noise[..9408], frame)?;
+        assert_eq!(rt; tail, Ok(unread), "{frame:?}");
+        for (place, byte) in sound.iter().enumerate() {
+            assert_eq!(rt; *byte, bytes[place % 2], "byte {place} of {frame:?}");
+        }
+    }
+    // a code that is no encoder's is decoded all the same
+    let mono = Channels::new(1).ok_or("one channel")?;
+    let (_, tail) = decoded(rt.alloc(), mono, &ONES, &noise)?;
+    assert_eq!(rt; tail, Ok(9261));
+    Ok(())
+}
+
+#[test]
+fn plain_frames_give_their_sound(rt: HostRuntime) -> Result<(), Fail> {
+    let mono = Channels::new(1).ok_or("one channel")?;
+    let mut frame = [0x69; 4708];
+    for first in [0x00, 0x40] {
+        frame[0] = first;
+        for (length, unread) in [(4705usize, 0), (4708, 3)] {
+            let (sound, tail) = decoded(rt.alloc(), mono, &ONES, &frame[..length])?;
+            assert_eq!(rt; tail, Ok(unread), "{first} and {length} bytes");
+            assert!(rt; sound.as_slice() == &frame[1..4705]);
+        }
+    }
+    Ok(())
+}
+
+#[test]
+fn frames_are_refused_at_their_first_fault(rt: HostRuntime) -> Result<(), Fail> {
+    let short = [0x00; 4704];
+    let stuffed = [0x01; 4705];
+    let cases: [(u32, &[u8], Reason, u64); 18] = [
+        (
+            1,
+            &[0xfc, 0x00, 0x00, 0x05, 0xff, 0xfc],
+            Reason::FirstCodeBit,
+            45,
+        ),
+        (
+            1,
+            &[0xfc, 0x00, 0x00, 0x05, 0xff, 0xfb, 0xff, 0xc0],
+            Reason::CodeRange,
+            46,
+        ),
+        (1, &stuffed, Reason::PlainStuffing, 2),
+        (1, &short, Reason::Truncated, 8),
+        (1, &[0xe0], Reason::MultiSegment, 3),
+        (3, &[0xfb, 0x80], Reason::MapSkips, 7),
+        (3, &[0xfb, 0x00], Reason::Truncated, 12),
+        (1, &[0xfc, 0x07, 0x80], Reason::MethodReserved, 15),
+        (1, &[0xfc, 0x07, 0x00], Reason::TableTooShort, 15),
+        (1, &[0xfc, 0x06, 0x3f, 0xc2], Reason::CoefRange, 29),
+        (
+            1,
+            &[0xfc, 0x00, 0x00, 0x06, 0x00, 0x0c],
+            Reason::ProbRange,
+            43,
+        ),
+        (
+            1,
+            &[0xfc, 0x00, 0x00, 0x06, 0x7f, 0x08],
+            Reason::ProbRange,
+            43,
+        ),
+        (1, &[], Reason::Truncated, 0),
+        (1, &ONES[..1], Reason::Truncated, 7),
+        (1, &ONES[..2], Reason::Truncated, 15),
+        (1, &ONES[..3], Reason::Truncated, 24),
+        (1, &ONES[..4], Reason::Truncated, 31),
+        (1, &ONES[..5], Reason::Truncated, 38),
+    ];
+    for (count, frame, reason, bit) in cases {
+        let channels = Channels::new(count).ok_or("channels")?;
+        let (_, tail) = decoded(rt.alloc(), channels, &ONES, frame)?;
+        assert_eq!(rt; tail, Err(FrameFault { reason, bit }), "{frame:?}");
+    }
+    Ok(())
+}
