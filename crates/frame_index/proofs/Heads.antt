@@ -14,7 +14,7 @@ bytes_in_part xs from n i k le =
     ∙ take-take k (n - i) (drop i (drop from xs)) (omega arith)
     ∙ ap (take k) (drop-drop i from xs)
 
-number_in_part : (xs : List ℕ) (from n i k : ℕ) → i + k ≤ n → number_at (bytes_at xs from n) i k ≡ number_at xs (from + i) k
+pub number_in_part : (xs : List ℕ) (from n i k : ℕ) → i + k ≤ n → number_at (bytes_at xs from n) i k ≡ number_at xs (from + i) k
 number_in_part xs from n i k le = big_from-take i k n (drop from xs) le ∙ big_from-drop from i k xs
 
 abbrev head_with : List ℕ → ℕ → ℕ → Head

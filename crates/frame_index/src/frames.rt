@@ -1,18 +1,18 @@
 // The walk of a coded form: where its frames stand.
 ghost use Rattle.std.specs.Prelude.{◌≡◌, ◌+◌, ◌*◌, ◌^◌, ◌<◌, ◌≤◌, ℕ, List, [], length, take, true, false, Some, None, Option, IfNone, IfOk, OnOk, Err, Ok};
 ghost use Rattle.dst_streams.specs.Causes.{Rose};
-ghost use Rattle.dsdiff_spec.specs.Bytes.{number_at, ◌is◌};
+ghost use Rattle.dsdiff_spec.specs.Bytes.{◌is◌};
 ghost use Rattle.dsdiff_spec.specs.Chunks.{head_at, fits};
-ghost use Rattle.dsdiff_spec.specs.Form.{coded};
+ghost use Rattle.dsdiff_spec.specs.Form.{coded, longest_frame};
 ghost use Rattle.dsdiff_spec.specs.Walk as walks;
 ghost use Rattle.dsdiff_chunks.specs.Seen.{form_seen, head_seen};
 ghost use Rattle.dsdiff_chunks.specs.Lawful.{IsLawful};
 ghost use Rattle.frame_index.specs.Finding.{found_with};
 ghost use Rattle.frame_index.specs.Fitting.{IsIndexOf};
 
+use crate::head::read_head;
 use crate::index::Index;
-use byteorder::{BigEndian, ByteOrder};
-use dsdiff_chunks::{ChunkHead, FileFault, Form, OpenFault, read_range};
+use dsdiff_chunks::{ChunkHead, FileFault, Form, OpenFault};
 use dst_streams::Source;
 use std::alloc::Global;
 
@@ -47,7 +47,7 @@ pub fn walk<S: Source>(alloc: Global, source: &mut S, form: &Form) -> Result<Ind
 }
 
 // The head of the chunk at a place before the end of `DST `.
-fn read_head<S: Source>(source: &mut S, place: u64, end: u64) -> Result<ChunkHead, OpenFault>
+fn next_head<S: Source>(source: &mut S, place: u64, end: u64) -> Result<ChunkHead, OpenFault>
     requires before { place < end }
     requires size { (n : ℕ) × (S.known source.old ≡ Some n) × (end ≤ n) }
     ensures bytes { S.bytes source.new ≡ S.bytes source.old }
@@ -64,25 +64,13 @@ fn read_head<S: Source>(source: &mut S, place: u64, end: u64) -> Result<ChunkHea
     if end - place < 12 {
         return Err(OpenFault::File(FileFault::Overrun { place }));
     }
-    let mut bytes = [0; 12];
-    let Ok(()) = read_range(source, place, &mut bytes) else {
+    let Ok(head) = read_head(source, place) else {
         return Err(OpenFault::Read);
     };
-    let head = head_of(place, &bytes);
     if head.size > end - place - 12 {
         return Err(OpenFault::File(FileFault::Overrun { place }));
     }
     Ok(head)
-}
-
-// The head of the chunk at a place, from its bytes.
-fn head_of(place: u64, bytes: &[u8; 12]) -> ChunkHead
-    ensures { head_seen result ≡ record { id = take 4 bytes.now; place = place; size = number_at bytes.now 4 8 } }
-{
-    let mut id = [0; 4];
-    id.copy_from_slice(&bytes[..4]);
-    let size = BigEndian::read_u64(&bytes[4..]);
-    ChunkHead { id, place, size }
 }
 
 // Walks the chunks, and keeps the entries of as many frames as are told.
@@ -109,7 +97,7 @@ fn walk_from<S: Source>(source: &mut S, form: &Form, entries: Index) -> Result<I
         if passed == MOST_CHUNKS {
             return Err(OpenFault::File(FileFault::TooManyChunks));
         }
-        let head = match read_head(source, place, end) {
+        let head = match next_head(source, place, end) {
             Ok(head) => head,
             Err(fault) => return Err(fault),
         };
@@ -164,8 +152,7 @@ fn frame_fault(form: &Form, head: ChunkHead, frames: u32) -> Option<FileFault>
     ensures short { IfNone result (head.size < 2 ^ 32) }
     ensures few { IfNone result (frames < MOST_FRAMES) }
 {
-    let longest = 2 * (form.channels.frame_bytes() as u64 + 1);
-    if head.size > longest {
+    if head.size > longest_frame(form) {
         return Some(FileFault::FrameTooLong {
             frame: frames,
             length: head.size,
@@ -175,4 +162,12 @@ fn frame_fault(form: &Form, head: ChunkHead, frames: u32) -> Option<FileFault>
         return Some(FileFault::TooManyFrames);
     }
     None
+}
+
+// Most bytes of a frame.
+pub(crate) fn longest_frame(form: &Form) -> u64
+    ensures longest { result ≡ longest_frame (form_seen form.now) }
+    ensures fits { result < 2 ^ 32 }
+{
+    2 * (form.channels.frame_bytes() as u64 + 1)
 }

@@ -1,8 +1,9 @@
 // Entries of an index.
-ghost use Rattle.std.specs.Prelude.{◌≡◌, ◌+◌, ◌*◌, ◌<◌, ◌≤◌, ◌++◌, ◌∷◌, [], length, IfOk, OnOk, OnErr};
+ghost use Rattle.std.specs.Prelude.{◌≡◌, ◌+◌, ◌*◌, ◌<◌, ◌≤◌, ◌++◌, ◌∷◌, [], length, IfOk, OnOk, OnErr, IfSome, IfNone};
 ghost use Rattle.byteorder.specs.Endian.{big_bytes};
 ghost use Rattle.dsdiff_spec.specs.Walk.{entry};
-ghost use Rattle.frame_index.specs.Entries.{entry_at, entry_seen};
+ghost use Rattle.frame_index.specs.Entries.{entries_in, entry_at, entry_seen};
+ghost use Rattle.frame_index.specs.Lookup.{DifferFirstAt};
 
 use byteorder::{BigEndian, ByteOrder};
 use chunk_view::entry_of;
@@ -49,6 +50,15 @@ impl Index {
         })
     }
 
+    // The entries of bytes that have twelve for each frame.
+    pub(crate) fn from_bytes(bytes: Vec<u8>, frames: u32) -> Index
+        requires long { length bytes.items ≡ 12 * frames }
+        requires few { frames ≤ 1000000 }
+        ensures { result ≡ entries_in bytes.items }
+    {
+        Index { bytes, frames }
+    }
+
     // One frame more, which isn't kept where memory is refused.
     pub(crate) fn push(&mut self, offset: u64, size: u32) -> Result<(), AllocError>
         requires { length self.old < 1000000 }
@@ -76,8 +86,22 @@ impl Index {
     }
 }
 
+/// The first entry in which two indexes of as many frames differ, counted from 0.
+pub fn compare(a: &Index, b: &Index) -> Option<u32>
+    requires same_length { length a.now ≡ length b.now }
+    ensures differ { IfSome result (λ k. DifferFirstAt k a.now b.now) }
+    ensures same { IfNone result (a.now ≡ b.now) }
+{
+    for k in 0..a.length() {
+        if a.entry(k) != b.entry(k) {
+            return Some(k);
+        }
+    }
+    None
+}
+
 // Entry k of bytes that are entries.
-fn entry_kept(bytes: &[u8], k: usize) -> Entry
+pub(crate) fn entry_kept(bytes: &[u8], k: usize) -> Entry
     requires { 12 * k + 12 ≤ length bytes.now }
     ensures { entry_seen result ≡ entry_at bytes.now k }
 {

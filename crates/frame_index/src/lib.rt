@@ -4,6 +4,10 @@
 //! the checksums `DSTC`, are passed over. Twelve bytes of each chunk are read and no body. The [`Index`] that it gives has
 //! an [`Entry`] for each frame, kept in twelve bytes.
 //!
+//! A file may have such an index of its own, the chunk `DSTI`. [`read_index`] reads it, [`compare`] tells where it differs
+//! from the walk, and [`locate_by_index`] finds one frame by its entry alone, from 24 bytes. [`laws`] ties what they answer
+//! to the rules of checking a file.
+//!
 //! ```
 //! let form = open_form(alloc, &mut source)?;
 //! let index = walk(alloc, &mut source, &form)?;
@@ -11,13 +15,20 @@
 //!     let frame = index.entry(k);
 //!     read_range(&mut source, frame.offset, &mut buffer[..frame.size as usize])?;
 //! }
+//! let told = read_index(alloc, &mut source, &form)?;
+//! let same = compare(&told, &index).is_none();
+//! let third = locate_by_index(&mut source, &form, 2)?; // where there are three frames
 //! ```
 #![tactic(auto)]
 
 mod frames;
+mod head;
 mod index;
+pub mod laws;
+mod lookup;
 #[cfg(test)]
 mod tests;
 
 pub use frames::walk;
-pub use index::{Entry, Index};
+pub use index::{Entry, Index, compare};
+pub use lookup::{locate_by_index, read_index};

@@ -60,3 +60,104 @@ fn a_walk_refuses_another_number_of_frames(rt: HostRuntime) -> Result<(), Fail> 
     assert_eq!(rt; fault, Some(expected));
     Ok(())
 }
+
+// The same frames, told by an index behind `DST `: 140 and 1, 168 and 3.
+const INDEXED: [u8; 208] =
+    *b"FRM8\0\0\0\0\0\0\0\xc4DSD FVER\0\0\0\0\0\0\0\x04\x01\x05\0\0PROP\0\0\0\0\0\0\0\x36SND FS  \0\0\0\0\0\0\0\x04\0\x2b\x11\0CHNL\0\0\0\0\0\0\0\x06\0\x01C   CMPR\0\0\0\0\0\0\0\x04DST DST \0\0\0\0\0\0\0\x3dFRTE\0\0\0\0\0\0\0\x06\0\0\0\x02\0\x4bDSTF\0\0\0\0\0\0\0\x01\0\0DSTC\0\0\0\0\0\0\0\x02\0\0DSTF\0\0\0\0\0\0\0\x03\0\0\0\0DSTI\0\0\0\0\0\0\0\x18\0\0\0\0\0\0\0\x8c\0\0\0\x01\0\0\0\0\0\0\0\xa8\0\0\0\x03";
+
+// A frame of 9,411 bytes, one more than any of one channel needs, up to its body, and the index behind it.
+const LONG_FRAME: [u8; 140] =
+    *b"FRM8\0\0\0\0\0\0\x25\x5cDSD FVER\0\0\0\0\0\0\0\x04\x01\x05\0\0PROP\0\0\0\0\0\0\0\x36SND FS  \0\0\0\0\0\0\0\x04\0\x2b\x11\0CHNL\0\0\0\0\0\0\0\x06\0\x01C   CMPR\0\0\0\0\0\0\0\x04DST DST \0\0\0\0\0\0\x24\xe1FRTE\0\0\0\0\0\0\0\x06\0\0\0\x01\0\x4bDSTF\0\0\0\0\0\0\x24\xc3";
+
+const LONG_INDEX: [u8; 24] = *b"DSTI\0\0\0\0\0\0\0\x0c\0\0\0\0\0\0\0\x8c\0\0\x24\xc3";
+
+// The first entry in which the index of a file differs from its walk.
+fn difference(alloc: Global, bytes: &[u8]) -> Result<Option<u32>, OpenFault> {
+    let mut source = HonestSource::new(bytes);
+    let form = open_form(alloc, &mut source)?;
+    let Kind::Coded = form.kind else {
+        return Err(OpenFault::File(FileFault::NotCoded));
+    };
+    let index = read_index(alloc, &mut source, &form)?;
+    let found = walk(alloc, &mut source, &form)?;
+    Ok(compare(&index, &found))
+}
+
+fn located(alloc: Global, bytes: &[u8], k: u32) -> Result<Entry, OpenFault> {
+    let mut source = HonestSource::new(bytes);
+    let form = open_form(alloc, &mut source)?;
+    let Kind::Coded = form.kind else {
+        return Err(OpenFault::File(FileFault::NotCoded));
+    };
+    if k >= form.frames {
+        return Err(OpenFault::File(FileFault::Range {
+            asked: k,
+            frames: form.frames,
+        }));
+    }
+    locate_by_index(&mut source, &form, k)
+}
+
+#[test]
+fn an_index_tells_the_frames(rt: HostRuntime) -> Result<(), Fail> {
+    assert_eq!(rt; difference(rt.alloc(), &INDEXED)?, None);
+    let first = Entry {
+        offset: 140,
+        size: 1,
+    };
+    let second = Entry {
+        offset: 168,
+        size: 3,
+    };
+    assert_eq!(rt; located(rt.alloc(), &INDEXED, 0)?, first);
+    assert_eq!(rt; located(rt.alloc(), &INDEXED, 1)?, second);
+    Ok(())
+}
+
+#[test]
+fn a_bad_index_is_refused(rt: HostRuntime) -> Result<(), Fail> {
+    // A byte of the file, and what it is then: no `DSTI`, an index of one frame fewer, and another place of frame 1.
+    let cases = [
+        (
+            175,
+            b'J',
+            Err(FileFault::IndexMissing),
+            FileFault::IndexMissing,
+        ),
+        (
+            125,
+            3,
+            Err(FileFault::IndexBad { entry: 3 }),
+            FileFault::IndexBad { entry: 1 },
+        ),
+        (203, 0xa7, Ok(Some(1)), FileFault::IndexBad { entry: 1 }),
+    ];
+    for (place, value, compared, fault) in cases {
+        let mut bytes = INDEXED;
+        bytes[place] = value;
+        assert_eq!(rt;
+            difference(rt.alloc(), &bytes),
+            compared.map_err(OpenFault::File),
+            "byte {place}"
+        );
+        assert_eq!(rt;
+            located(rt.alloc(), &bytes, 1),
+            Err(OpenFault::File(fault)),
+            "byte {place}"
+        );
+    }
+    Ok(())
+}
+
+#[test]
+fn a_frame_that_is_too_long_is_refused(rt: HostRuntime) -> Result<(), Fail> {
+    let mut bytes = LONG_FRAME.to_vec(rt.alloc())?;
+    bytes.extend_from_slice(&[0; 9412])?;
+    bytes.extend_from_slice(&LONG_INDEX)?;
+    let expected = OpenFault::File(FileFault::FrameTooLong {
+        frame: 0,
+        length: 9411,
+    });
+    assert_eq!(rt; located(rt.alloc(), &bytes, 0), Err(expected));
+    Ok(())
+}

@@ -44,8 +44,8 @@ returns-then-passed-eq-MOST_CHUNKS-clause-fault g c fault e xs told =
     c.if-passed-eq-MOST_CHUNKS.true c.loop-place-test.true
     ∙ ap Err (same_fault _ _ e)
 
-pub read_head-requires-clause-size : goal.read_head-requires-clause-size
-read_head-requires-clause-size g c =
+pub next_head-requires-clause-size : goal.next_head-requires-clause-size
+next_head-requires-clause-size g c =
     let within = sound_within (form_seen c.args.form.now) c.requires.lawful in
     (c.requires.size.0, c.loop-place.invariant.known ∙ c.requires.size.1, omega (arith, within, c.requires.size.2))
 

@@ -1,0 +1,8 @@
+use Rattle.frame_index.proofs.Comparing.{same_passes, first_is_told}
+use Rattle.frame_index.proofs.laws.index_beside_walk.Goals as goal
+
+pub returns-clause-same : goal.returns-clause-same
+returns-clause-same c file form found none read ok = same_passes file form found none read ok
+
+pub returns-clause-differ : goal.returns-clause-differ
+returns-clause-differ c file form index found k none read ok first = first_is_told file form index found k none read ok first
