@@ -2,8 +2,10 @@
 //!
 //! ```text
 //! match read_words(&words) {
-//!     Some(Command::Decode { workers }) => .., // `decode IN OUT`: the names of files stay in words 1 and 2
+//!     Some(Command::Decode { workers }) => .., // `decode IN OUT --workers 4`: files are named by words 1 and 2
+//!     Some(Command::Show) => report.append(lines::told_word("kind ", "coded").as_bytes()),
 //!     None => report.append(lines::words_not_understood().as_bytes()),
+//!     ..
 //! }
 //! ```
 //!
@@ -11,6 +13,7 @@
 #![tactic(auto)]
 
 pub mod lines;
+mod slots;
 #[cfg(test)]
 mod tests;
 mod told;

@@ -1,7 +1,7 @@
 //! The lines of a report, each with the line feed that ends it. Numbers are decimal.
 ghost use Rattle.std.specs.Prelude.{◌≡◌, ◌+◌, ◌<◌, ◌≤◌, ◌∷◌, ◌++◌, [], length, decimal, codes, flat_map};
 ghost use Rattle.arrayvec.specs.ArrayString.{array_string_len};
-ghost use Rattle.dsdiff_spec.specs.Lines.{report, words_line, read_fault_line, write_fault_line, memory_line, file_line, frame_fault_line, decoded_line};
+ghost use Rattle.dsdiff_spec.specs.Lines.{report, words_line, read_fault_line, write_fault_line, memory_line, file_line, frame_fault_line, decoded_line, frame_line, check_line, plain_frame_line, coded_frame_line};
 ghost use Rattle.dst_words.specs.Told.{kept_numbers};
 
 use crate::told::{Kept, told_of_file, told_of_frame};
@@ -81,6 +81,101 @@ pub fn decoded(frames: u32, bytes: u64) -> Line
     let mut line = line_of("decoded ");
     push_number(&mut line, frames);
     line.push_str(" frames into ");
+    push_number(&mut line, bytes);
+    line.push_str(" bytes");
+    ended(line)
+}
+
+/// The sound of a frame is written: the frame's number, counted from 0, and how many bytes.
+pub fn frame_written(frame: u32, bytes: u64) -> Line
+    ensures { result.bytes ≡ report (frame_line frame bytes ∷ []) }
+{
+    let mut line = line_of("frame ");
+    push_number(&mut line, frame);
+    line.push_str(", ");
+    push_number(&mut line, bytes);
+    line.push_str(" bytes");
+    ended(line)
+}
+
+/// All frames of a file mean sound: how many, and how many of their bytes aren't read.
+pub fn checked(frames: u32, unread: u64) -> Line
+    ensures { result.bytes ≡ report (check_line frames unread ∷ []) }
+{
+    let mut line = line_of("sound, ");
+    push_number(&mut line, frames);
+    line.push_str(" frames, ");
+    push_number(&mut line, unread);
+    line.push_str(" unread bytes");
+    ended(line)
+}
+
+/// A frame is plain: its number and its length in bytes.
+pub fn plain_frame(frame: u32, bytes: u64) -> Line
+    ensures { result.bytes ≡ report (plain_frame_line frame bytes ∷ []) }
+{
+    let mut line = line_of("frame ");
+    push_number(&mut line, frame);
+    line.push_str(" plain length ");
+    push_number(&mut line, bytes);
+    ended(line)
+}
+
+/// A frame is coded: its number and its length in bytes, the numbers of its filters and probability tables, and the bit
+/// at which its arithmetic code begins.
+pub fn coded_frame(frame: u32, bytes: u64, filters: u32, tables: u32, code: u64) -> Line
+    ensures { result.bytes ≡ report (coded_frame_line frame bytes filters tables code ∷ []) }
+{
+    let mut line = line_of("frame ");
+    push_number(&mut line, frame);
+    line.push_str(" coded length ");
+    push_number(&mut line, bytes);
+    line.push_str(" filters ");
+    push_number(&mut line, filters);
+    line.push_str(" tables ");
+    push_number(&mut line, tables);
+    line.push_str(" code ");
+    push_number(&mut line, code);
+    ended(line)
+}
+
+/// Where a frame stands: its number, the place of its first byte in the file, and its size in bytes.
+pub fn entry(frame: u32, offset: u64, size: u32) -> Line
+    ensures { result.bytes ≡ report ((decimal frame ++ codes " " ++ decimal offset ++ codes " " ++ decimal size) ∷ []) }
+{
+    let mut line = line_of("");
+    push_number(&mut line, frame);
+    push_spaced(&mut line, offset);
+    push_spaced(&mut line, u64::from(size));
+    ended(line)
+}
+
+/// A word or a number behind the name of what it tells, as in the summary of a file.
+pub fn told_word(name: &str, word: &str) -> Line
+    requires { length name.now + length word.now < 32 }
+    ensures { result.bytes ≡ report ((name.now ++ word.now) ∷ []) }
+{
+    let mut line = line_of(name);
+    line.push_str(word);
+    ended(line)
+}
+
+/// A number behind the name of what it counts.
+pub fn told_number(name: &str, number: u64) -> Line
+    requires { length name.now < 32 }
+    ensures { result.bytes ≡ report ((name.now ++ decimal number) ∷ []) }
+{
+    let mut line = line_of(name);
+    push_number(&mut line, number);
+    ended(line)
+}
+
+/// A number of bytes behind the name of what has them.
+pub fn told_bytes(name: &str, bytes: u64) -> Line
+    requires { length name.now < 32 }
+    ensures { result.bytes ≡ report ((name.now ++ decimal bytes ++ codes " bytes") ∷ []) }
+{
+    let mut line = line_of(name);
     push_number(&mut line, bytes);
     line.push_str(" bytes");
     ended(line)

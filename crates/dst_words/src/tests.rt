@@ -14,6 +14,10 @@ fn split(alloc: Global, text: &str) -> Result<Vec<String>, AllocError> {
     Ok(words)
 }
 
+fn frame(frame: u32, by_index: bool) -> Option<Command> {
+    Some(Command::Frame { frame, by_index })
+}
+
 #[test]
 fn words_that_are_a_row_are_a_command(rt: HostRuntime) -> Result<(), Fail> {
     let decode = Some(Command::Decode { workers: 1 });
@@ -34,7 +38,34 @@ fn words_that_are_a_row_are_a_command(rt: HostRuntime) -> Result<(), Fail> {
         ("decod a b", None),
         ("Decode a b", None),
         ("encode a b", None),
-        ("decode a b --workers 2", None),
+        (
+            "decode a b --workers 2",
+            Some(Command::Decode { workers: 2 }),
+        ),
+        ("decode a b --workers", None),
+        ("decode a b --workers 0", None),
+        ("decode a b --workers 17", None),
+        ("decode a b --workers 02", None),
+        ("decode a b --workers 2 --workers 2", None),
+        ("decode --workers 2 a b", None),
+        ("decode a b --by-index", None),
+        ("frame a b 4294967295", frame(u32::MAX, false)),
+        ("frame a b 0 --by-index", frame(0, true)),
+        ("frame a b 0 --by-index --by-index", None),
+        ("frame a b --by-index 0", None),
+        ("frame a b 4294967296", None),
+        ("frame a b 00", None),
+        ("frame a b +1", None),
+        ("frame a b", None),
+        ("check a", Some(Command::Check { workers: 1 })),
+        ("check a --workers 16", Some(Command::Check { workers: 16 })),
+        ("check a b", None),
+        ("show a", Some(Command::Show)),
+        ("show a 12", Some(Command::ShowFrame { frame: 12 })),
+        ("show a b", None),
+        ("show a 1 2", None),
+        ("index a", Some(Command::Index)),
+        ("index a b", None),
         ("--help", None),
     ];
     for (text, command) in cases {
@@ -55,9 +86,9 @@ fn assert_lines(rt: &impl Abort, cases: &[(lines::Line, &str)]) {
 fn lines_of_devices_and_frames_are_those_of_reports(rt: HostRuntime) {
     let (reason, bit) = (Reason::TableTooShort, 40);
     let at_40 = FrameFault { reason, bit };
-    let (reason, bit) = (Reason::CodedNotYet, u64::MAX);
+    let (reason, bit) = (Reason::MethodReserved, u64::MAX);
     let at_most = FrameFault { reason, bit };
-    let longest = "frame 4294967295 refused: 90 CodedNotYet at bit 18446744073709551615\n";
+    let longest = "frame 4294967295 refused: 5 MethodReserved at bit 18446744073709551615\n";
     let short = "frame 0 refused: 6 TableTooShort at bit 40\n";
     let cases = [
         (lines::words_not_understood(), "words not understood\n"),
@@ -97,6 +128,31 @@ fn lines_of_files_are_those_of_reports(rt: HostRuntime) {
             "decoded 2 frames into 4705 bytes\n",
         ),
         (lines::decoded(u32::MAX, u64::MAX), most),
+    ];
+    assert_lines(&rt, &cases);
+}
+
+#[test]
+fn lines_of_what_is_done_are_those_of_reports(rt: HostRuntime) {
+    let longest =
+        "frame 4294967295 coded length 18446744073709551615 filters 4294967295 tables 4294967295 code 18446744073709551615\n";
+    let (most, greatest) = (u32::MAX, u64::MAX);
+    let cases = [
+        (lines::frame_written(1, 4704), "frame 1, 4704 bytes\n"),
+        (lines::checked(2, 0), "sound, 2 frames, 0 unread bytes\n"),
+        (lines::plain_frame(0, 4705), "frame 0 plain length 4705\n"),
+        (
+            lines::coded_frame(0, 6, 1, 1, 45),
+            "frame 0 coded length 6 filters 1 tables 1 code 45\n",
+        ),
+        (
+            lines::coded_frame(most, greatest, most, most, greatest),
+            longest,
+        ),
+        (lines::entry(1, 4870, 4705), "1 4870 4705\n"),
+        (lines::told_word("kind ", "coded"), "kind coded\n"),
+        (lines::told_number("channels ", 1), "channels 1\n"),
+        (lines::told_bytes("sound ", 4705), "sound 4705 bytes\n"),
     ];
     assert_lines(&rt, &cases);
 }

@@ -86,7 +86,6 @@ pub(crate) fn told_of_frame(reason: Reason) -> Told
         Reason::ProbRange => bare(8, "ProbRange"),
         Reason::FirstCodeBit => bare(9, "FirstCodeBit"),
         Reason::CodeRange => bare(10, "CodeRange"),
-        Reason::CodedNotYet => bare(90, "CodedNotYet"),
     }
 }
 

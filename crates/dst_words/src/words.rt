@@ -1,52 +1,122 @@
 // The words of a command line.
-ghost use Rattle.std.specs.Prelude.{◌≡◌, Bool, [], ◌∷◌, Option, Some, None, map, if◌then◌else◌};
-ghost use Rattle.std.specs.Option.{option_map};
+ghost use Rattle.std.specs.Prelude.{◌≡◌, map, option_map, IfSome};
 ghost use Rattle.std.specs.String.{string_bytes};
-ghost use Rattle.dsdiff_spec.specs.Words.{is_file_word, decode};
-ghost use Rattle.dsdiff_spec.specs.Rows.{file, all_suit, command_of};
-ghost use Rattle.dst_words.specs.Commands.{command_seen};
+ghost use Rattle.dsdiff_spec.specs.Rows.{command_of};
+ghost use Rattle.dst_words.specs.Commands.{command_seen, HasFewWorkers};
+ghost use Rattle.dst_words.specs.RowWords.{decode_words, frame_words, check_words, show_words, index_words};
 
-/// What is asked for. The names of files stay in words 1 and 2, word 0 being the command's name.
+use crate::slots::{is_file_word, read_by_index, read_number, read_workers};
+
+/// What is asked for. The names of files stay in words 1 and 2, word 0 being the command's name. Frames are numbered from 0.
 #[derive(Clone, Copy, Debug, Drop, PartialEq, Eq)]
 pub enum Command {
-    /// `decode IN OUT`: decode a coded file. So many workers decode at a time, one unless words say otherwise.
+    /// `decode IN OUT [--workers W]`: decode a coded file. So many workers, 1 to 16, decode at a time; one unless words say
+    /// otherwise.
     Decode { workers: u32 },
+    /// `frame IN OUT K [--by-index]`: write the sound of one frame, which is found by the file's index or by its chunks.
+    Frame { frame: u32, by_index: bool },
+    /// `check IN [--workers W]`: decode all frames and compare the index, writing nothing.
+    Check { workers: u32 },
+    /// `show IN`: tell what the file is.
+    Show,
+    /// `show IN K`: tell the header of one frame.
+    ShowFrame { frame: u32 },
+    /// `index IN`: list where the frames stand.
+    Index,
 }
 
 /// The command that these words ask for, or nothing where no command has them.
 #[tactic(auto, unfolding(dsdiff_spec::specs::Rows::command_of))]
 pub fn read_words(words: &[String]) -> Option<Command>
-    ensures { option_map command_seen result ≡ command_of (map string_bytes words.now) }
+    ensures command { option_map command_seen result ≡ command_of (map string_bytes words.now) }
+    ensures workers { IfSome result HasFewWorkers }
 {
     let [name, rest @ ..] = words else {
         return None;
     };
     match name.as_str() {
         "decode" => read_decode(rest),
+        "frame" => read_frame(rest),
+        "check" => read_check(rest),
+        "show" => read_show(rest),
+        "index" => read_index(rest),
         _ => None,
     }
 }
 
 fn read_decode(words: &[String]) -> Option<Command>
-    ensures { option_map command_seen result
-        ≡ (if all_suit (file ∷ file ∷ []) (map string_bytes words.now) then Some (decode 1) else None) }
+    ensures command { option_map command_seen result ≡ decode_words (map string_bytes words.now) }
+    ensures workers { IfSome result HasFewWorkers }
 {
-    let [input, output] = words else {
+    let [input, output, options @ ..] = words else {
         return None;
     };
-    if is_file_word(input) && is_file_word(output) {
-        Some(Command::Decode { workers: 1 })
-    } else {
-        None
+    if !is_file_word(input) || !is_file_word(output) {
+        return None;
+    }
+    let workers = read_workers(options)?;
+    Some(Command::Decode { workers })
+}
+
+fn read_frame(words: &[String]) -> Option<Command>
+    ensures command { option_map command_seen result ≡ frame_words (map string_bytes words.now) }
+    ensures workers { IfSome result HasFewWorkers }
+{
+    let [input, output, number, options @ ..] = words else {
+        return None;
+    };
+    if !is_file_word(input) || !is_file_word(output) {
+        return None;
+    }
+    let frame = read_number(number)?;
+    let by_index = read_by_index(options)?;
+    Some(Command::Frame { frame, by_index })
+}
+
+fn read_check(words: &[String]) -> Option<Command>
+    ensures command { option_map command_seen result ≡ check_words (map string_bytes words.now) }
+    ensures workers { IfSome result HasFewWorkers }
+{
+    let [input, options @ ..] = words else {
+        return None;
+    };
+    if !is_file_word(input) {
+        return None;
+    }
+    let workers = read_workers(options)?;
+    Some(Command::Check { workers })
+}
+
+fn read_show(words: &[String]) -> Option<Command>
+    ensures command { option_map command_seen result ≡ show_words (map string_bytes words.now) }
+    ensures workers { IfSome result HasFewWorkers }
+{
+    let [input, rest @ ..] = words else {
+        return None;
+    };
+    if !is_file_word(input) {
+        return None;
+    }
+    match rest {
+        [] => Some(Command::Show),
+        [number] => {
+            let frame = read_number(number)?;
+            Some(Command::ShowFrame { frame })
+        }
+        _ => None,
     }
 }
 
-// Whether a word may name a file: it isn't empty and doesn't begin with a dash.
-fn is_file_word(word: &String) -> bool
-    ensures { result ≡ is_file_word (string_bytes word.now) }
+fn read_index(words: &[String]) -> Option<Command>
+    ensures command { option_map command_seen result ≡ index_words (map string_bytes words.now) }
+    ensures workers { IfSome result HasFewWorkers }
 {
-    match word.as_bytes() {
-        [] => false,
-        [first, ..] => *first != b'-',
+    let [input] = words else {
+        return None;
+    };
+    if is_file_word(input) {
+        Some(Command::Index)
+    } else {
+        None
     }
 }

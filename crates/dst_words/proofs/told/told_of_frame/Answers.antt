@@ -30,6 +30,3 @@ returns-in-FirstCodeBit-clause-name c = rw c.in-FirstCodeBit.is (cc)
 
 pub returns-in-CodeRange-clause-name : goal.returns-in-CodeRange-clause-name
 returns-in-CodeRange-clause-name c = rw c.in-CodeRange.is (cc)
-
-pub returns-in-CodedNotYet-clause-name : goal.returns-in-CodedNotYet-clause-name
-returns-in-CodedNotYet-clause-name c = rw c.in-CodedNotYet.is (cc)
