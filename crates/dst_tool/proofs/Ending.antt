@@ -21,45 +21,45 @@ use Rattle.dst_tool.proofs.Writing.{adds_then, stops_then}
 use Rattle.dst_tool.proofs.Stopping.{head_of, end_of, whole, sound_is_front, whole_is_front, done_outcome, refused_outcome, stopped_short, lacks_room, ends_at_device}
 
 -- ---- in the frames
-short_in_frames : (P : Type 0) (file : List ℕ) (form : Form) (index : List Entry) (k : ℕ) (sounds : List (List ℕ)) (old mid new : Option (List ℕ)) (room half : Option ℕ) →
-    AreBytes file → IsOpened file form index → Adds (head_of file form) old mid room half → AreDecoded 1 file form k sounds → Stops P (sound_of form sounds) mid new half → IsStoppedShort file old new
-short_in_frames P file form index k sounds old mid new room half bytes o front h s =
-    stopped_short P file (head_of file form ++ sound_of form sounds) old new room bytes (sound_is_front file form index k sounds bytes o h)
+short_in_frames : (w : ℕ) (P : Type 0) (file : List ℕ) (form : Form) (index : List Entry) (k : ℕ) (sounds : List (List ℕ)) (old mid new : Option (List ℕ)) (room half : Option ℕ) →
+    AreBytes file → IsOpened file form index → Adds (head_of file form) old mid room half → AreDecoded w file form k sounds → Stops P (sound_of form sounds) mid new half → IsStoppedShort w file old new
+short_in_frames w P file form index k sounds old mid new room half bytes o front h s =
+    stopped_short w P file (head_of file form ++ sound_of form sounds) old new room bytes (sound_is_front w file form index k sounds bytes o h)
     (stops_then P (head_of file form) (sound_of form sounds) old mid new room half front s)
 
-pub ends_in_frames : (fault : ToolFault) (file : List ℕ) (form : Form) (index : List Entry) (old mid new : Option (List ℕ)) (room half left : Option ℕ) →
-    AreBytes file → IsOpened file form index → Adds (head_of file form) old mid room half → FramesEnd {A = Unit {0}} (Err fault) file form mid new half left → DecodingEnds (Err fault) file old new room
-ends_in_frames (Frame k fault) file form index old mid new room half left bytes o front (sounds, at, is) = (
+pub ends_in_frames : (w : ℕ) (fault : ToolFault) (file : List ℕ) (form : Form) (index : List Entry) (old mid new : Option (List ℕ)) (room half left : Option ℕ) →
+    AreBytes file → IsOpened file form index → Adds (head_of file form) old mid room half → FramesEnd {A = Unit {0}} w (Err fault) file form mid new half left → DecodingEnds w (Err fault) file old new room
+ends_in_frames w (Frame k fault) file form index old mid new room half left bytes o front (sounds, at, is) = (
   head_of file form ++ sound_of form sounds,
-  refused_outcome file form index k fault sounds o at,
-  is ∙ ap (λ w. and_then w (sound_of form sounds)) front.written ∙ and_then-twice old (head_of file form) (sound_of form sounds),
+  refused_outcome w file form index k fault sounds o at,
+  is ∙ ap (λ told. and_then told (sound_of form sounds)) front.written ∙ and_then-twice old (head_of file form) (sound_of form sounds),
 )
-ends_in_frames Write file form index old mid new room half left bytes o front (k, sounds, h, s) =
+ends_in_frames w Write file form index old mid new room half left bytes o front (k, sounds, h, s) =
     let all = stops_then (Write ≡ Write) (head_of file form) (sound_of form sounds) old mid new room half front s in
-    let piece = sound_is_front file form index k sounds bytes o h in
-    (stopped_short (Write ≡ Write) file (head_of file form ++ sound_of form sounds) old new room bytes piece all, lacks_room (Write ≡ Write) file (head_of file form ++ sound_of form sounds) old new room refl piece all)
-ends_in_frames Read file form index old mid new room half left bytes o front (k, sounds, h, s) = short_in_frames (Read ≡ Write) file form index k sounds old mid new room half bytes o front h s
-ends_in_frames Memory file form index old mid new room half left bytes o front (k, sounds, h, s) = short_in_frames (Memory ≡ Write) file form index k sounds old mid new room half bytes o front h s
-ends_in_frames Report file form index old mid new room half left bytes o front (k, sounds, h, s) = short_in_frames (Report ≡ Write) file form index k sounds old mid new room half bytes o front h s
-ends_in_frames (File fault) file form index old mid new room half left bytes o front (k, sounds, h, s) = short_in_frames (File fault ≡ Write) file form index k sounds old mid new room half bytes o front h s
+    let piece = sound_is_front w file form index k sounds bytes o h in
+    (stopped_short w (Write ≡ Write) file (head_of file form ++ sound_of form sounds) old new room bytes piece all, lacks_room w (Write ≡ Write) file (head_of file form ++ sound_of form sounds) old new room refl piece all)
+ends_in_frames w Read file form index old mid new room half left bytes o front (k, sounds, h, s) = short_in_frames w (Read ≡ Write) file form index k sounds old mid new room half bytes o front h s
+ends_in_frames w Memory file form index old mid new room half left bytes o front (k, sounds, h, s) = short_in_frames w (Memory ≡ Write) file form index k sounds old mid new room half bytes o front h s
+ends_in_frames w Report file form index old mid new room half left bytes o front (k, sounds, h, s) = short_in_frames w (Report ≡ Write) file form index k sounds old mid new room half bytes o front h s
+ends_in_frames w (File fault) file form index old mid new room half left bytes o front (k, sounds, h, s) = short_in_frames w (File fault ≡ Write) file form index k sounds old mid new room half bytes o front h s
 
 -- ---- behind them
-pub ends_at_end : (fault : CopyFault) (file : List ℕ) (form : Form) (index : List Entry) (sounds : List (List ℕ)) (old mid last new : Option (List ℕ)) (room half left : Option ℕ) →
-    AreBytes file → IsOpened file form index → AreDecoded 1 file form form.frames sounds → Adds (head_of file form) old mid room half → Adds (sound_of form sounds) mid last half left →
-    Stops (fault ≡ CopyFault.Write) (end_of file form) last new left → DecodingEnds (Err (of_device fault)) file old new room
-ends_at_end fault file form index sounds old mid last new room half left bytes o h front sound s =
-    ends_at_device fault file (whole file form sounds) old new room bytes (whole_is_front file form index sounds bytes o h)
+pub ends_at_end : (w : ℕ) (fault : CopyFault) (file : List ℕ) (form : Form) (index : List Entry) (sounds : List (List ℕ)) (old mid last new : Option (List ℕ)) (room half left : Option ℕ) →
+    AreBytes file → IsOpened file form index → AreDecoded w file form form.frames sounds → Adds (head_of file form) old mid room half → Adds (sound_of form sounds) mid last half left →
+    Stops (fault ≡ CopyFault.Write) (end_of file form) last new left → DecodingEnds w (Err (of_device fault)) file old new room
+ends_at_end w fault file form index sounds old mid last new room half left bytes o h front sound s =
+    ends_at_device w fault file (whole file form sounds) old new room bytes (whole_is_front w file form index sounds bytes o h)
     (stops_then (fault ≡ CopyFault.Write) (head_of file form ++ sound_of form sounds) (end_of file form) old last new room left
     (adds_then (head_of file form) (sound_of form sounds) old mid last room half left front sound) s)
 
-pub ends_done : (s : Summary) (file : List ℕ) (form : Form) (index : List Entry) (sounds : List (List ℕ)) (old mid last new : Option (List ℕ)) (room half left later : Option ℕ) →
-    IsOpened file form index → AreDecoded 1 file form form.frames sounds → Adds (head_of file form) old mid room half → Adds (sound_of form sounds) mid last half left →
-    Adds (end_of file form) last new left later → s.frames ≡ form.frames → s.bytes ≡ size_of_sound form → DecodingEnds (Ok s) file old new room
-ends_done s file form index sounds old mid last new room half left later o h front sound behind frames bytes =
+pub ends_done : (w : ℕ) (s : Summary) (file : List ℕ) (form : Form) (index : List Entry) (sounds : List (List ℕ)) (old mid last new : Option (List ℕ)) (room half left later : Option ℕ) →
+    IsOpened file form index → AreDecoded w file form form.frames sounds → Adds (head_of file form) old mid room half → Adds (sound_of form sounds) mid last half left →
+    Adds (end_of file form) last new left later → s.frames ≡ form.frames → s.bytes ≡ size_of_sound form → DecodingEnds w (Ok s) file old new room
+ends_done w s file form index sounds old mid last new room half left later o h front sound behind frames bytes =
     let all = adds_then (head_of file form ++ sound_of form sounds) (end_of file form) old last new room left later
     (adds_then (head_of file form) (sound_of form sounds) old mid last room half left front sound) behind in (
       whole file form sounds,
-      subst (λ n. OutcomeOf (decode 1) file (done (whole file form sounds) (decoded_line n s.bytes ∷ []))) (sym frames)
-          (subst (λ n. OutcomeOf (decode 1) file (done (whole file form sounds) (decoded_line form.frames n ∷ []))) (sym bytes) (done_outcome file form index sounds o h)),
+      subst (λ n. OutcomeOf (decode w) file (done (whole file form sounds) (decoded_line n s.bytes ∷ []))) (sym frames)
+          (subst (λ n. OutcomeOf (decode w) file (done (whole file form sounds) (decoded_line form.frames n ∷ []))) (sym bytes) (done_outcome w file form index sounds o h)),
       all.written,
     )

@@ -31,41 +31,41 @@ accepted_is file f e = go (form_fault file) e
 abbrev refused_by : Result Form FileFault → List ℕ → Option FileFault
 refused_by r file = elim r [ Err fault ↦ Some fault | Ok f ↦ not_walked file f ]
 
-refusal_by : (file : List ℕ) (r : Result Form FileFault) → form file ≡ r → refusal (decode 1) file ≡ refused_by r file
+refusal_by : (w : ℕ) (file : List ℕ) (r : Result Form FileFault) → form file ≡ r → refusal (decode w) file ≡ refused_by r file
 unfolding refusal
-refusal_by file r e = ap (λ r. refused_by r file) e
+refusal_by w file r e = ap (λ r. refused_by r file) e
 
-pub refused_by_form : (file : List ℕ) (fault : FileFault) → form file ≡ Err fault → refusal (decode 1) file ≡ Some fault
-refused_by_form file fault e = refusal_by file (Err fault) e
+pub refused_by_form : (w : ℕ) (file : List ℕ) (fault : FileFault) → form file ≡ Err fault → refusal (decode w) file ≡ Some fault
+refused_by_form w file fault e = refusal_by w file (Err fault) e
 
-pub refused_as_plain : (file : List ℕ) (f : Form) → form file ≡ Ok f → f.kind ≡ plain → refusal (decode 1) file ≡ Some NotCoded
-refused_as_plain file f e k = refusal_by file (Ok f) e ∙ ap (λ k. (NotCoded when is_plain k) otherwise walk_fault file f) k
+pub refused_as_plain : (w : ℕ) (file : List ℕ) (f : Form) → form file ≡ Ok f → f.kind ≡ plain → refusal (decode w) file ≡ Some NotCoded
+refused_as_plain w file f e k = refusal_by w file (Ok f) e ∙ ap (λ k. (NotCoded when is_plain k) otherwise walk_fault file f) k
 
 -- the walk
-coded_by_walk : (file : List ℕ) (f : Form) → form file ≡ Ok f → f.kind ≡ coded → refusal (decode 1) file ≡ walk_fault file f
-coded_by_walk file f e k = refusal_by file (Ok f) e ∙ ap (λ k. (NotCoded when is_plain k) otherwise walk_fault file f) k
+coded_by_walk : (w : ℕ) (file : List ℕ) (f : Form) → form file ≡ Ok f → f.kind ≡ coded → refusal (decode w) file ≡ walk_fault file f
+coded_by_walk w file f e k = refusal_by w file (Ok f) e ∙ ap (λ k. (NotCoded when is_plain k) otherwise walk_fault file f) k
 
 abbrev walk_by : Option FileFault → List ℕ → Form → Result (List Entry) FileFault
 walk_by o file f = elim o [ Some fault ↦ Err fault | None ↦ Ok (entries file f) ]
 
-pub refused_by_walk : (file : List ℕ) (f : Form) (fault : FileFault) → form file ≡ Ok f → f.kind ≡ coded → walk file f ≡ Err fault → refusal (decode 1) file ≡ Some fault
-refused_by_walk file f fault e k w = coded_by_walk file f e k ∙ go (walk_fault file f) w
+pub refused_by_walk : (w : ℕ) (file : List ℕ) (f : Form) (fault : FileFault) → form file ≡ Ok f → f.kind ≡ coded → walk file f ≡ Err fault → refusal (decode w) file ≡ Some fault
+refused_by_walk w file f fault e k walked = coded_by_walk w file f e k ∙ go (walk_fault file f) walked
   where
     go : (o : Option FileFault) → walk_by o file f ≡ Err fault → o ≡ Some fault
-    go (Some other) w = cc
-    go None w = absurd cc
+    go (Some other) walked = cc
+    go None walked = absurd cc
 
 pub opened : (file : List ℕ) (f : Form) (index : List Entry) → form file ≡ Ok f → f.kind ≡ coded → walk file f ≡ Ok index → IsOpened file f index
-opened file f index e k w =
-    let found = go (walk_fault file f) w in
-    record { accepts = coded_by_walk file f e k ∙ found.0; form_is = accepted_is file f e; entries_are = found.1 }
+opened file f index e k walked =
+    let found = go (walk_fault file f) walked in
+    record { accepts = λ w. coded_by_walk w file f e k ∙ found.0; form_is = accepted_is file f e; entries_are = found.1 }
   where
     go : (o : Option FileFault) → walk_by o file f ≡ Ok index → (o ≡ None) × (entries file f ≡ index)
-    go (Some fault) w = absurd cc
-    go None w = (refl, cc)
+    go (Some fault) walked = absurd cc
+    go None walked = (refl, cc)
 
 -- why it wasn't opened
-pub not_opened : (fault : OpenFault) (bytes : Option (List ℕ)) (before now : ℕ) → ((f : FileFault) → fault ≡ OpenFault.File f → (file : List ℕ) → bytes ≡ Some file → refusal (decode 1) file ≡ Some f) →
+pub not_opened : (fault : OpenFault) (bytes : Option (List ℕ)) (before now : ℕ) → ((f : FileFault) → fault ≡ OpenFault.File f → (w : ℕ) (file : List ℕ) → bytes ≡ Some file → refusal (decode w) file ≡ Some f) →
     (fault ≡ OpenFault.Read → Rose before now) → NotOpened (of_opening fault) bytes before now
 not_opened (File f) bytes before now h read = h f refl
 not_opened Read bytes before now h read = read refl

@@ -22,8 +22,8 @@ use Rattle.dst_tool.specs.Writing.{Stops}
 use Rattle.dst_tool.proofs.Writing.{stops_in, stops_at_once}
 
 -- every outcome begins with a piece
-abbrev pub IsFront : List ℕ → List ℕ → Type 0
-IsFront file piece = (o : Answer) → OutcomeOf (decode 1) file o → BeginsWith o.out piece
+abbrev pub IsFront : ℕ → List ℕ → List ℕ → Type 0
+IsFront w file piece = (o : Answer) → OutcomeOf (decode w) file o → BeginsWith o.out piece
 
 abbrev pub head_of : List ℕ → Form → List ℕ
 head_of file form = decoded_head (size_of_sound form) file form
@@ -31,14 +31,14 @@ head_of file form = decoded_head (size_of_sound form) file form
 abbrev pub end_of : List ℕ → Form → List ℕ
 end_of file form = decoded_end (size_of_sound form) file form
 
-pub head_is_front : (file : List ℕ) (form : Form) (index : List Entry) → AreBytes file → IsOpened file form index → IsFront file (head_of file form)
-head_is_front file form index bytes o =
-    subst (λ f. IsFront file (head_of file f)) o.form_is (outcome_begins_with_head 1 file bytes o.accepts)
+pub head_is_front : (w : ℕ) (file : List ℕ) (form : Form) (index : List Entry) → AreBytes file → IsOpened file form index → IsFront w file (head_of file form)
+head_is_front w file form index bytes o =
+    subst (λ f. IsFront w file (head_of file f)) o.form_is (outcome_begins_with_head w file bytes (o.accepts w))
 
-pub sound_is_front : (file : List ℕ) (form : Form) (index : List Entry) (k : ℕ) (sounds : List (List ℕ)) → AreBytes file → IsOpened file form index → AreDecoded 1 file form k sounds →
-    IsFront file (head_of file form ++ sound_of form sounds)
-sound_is_front file form index k sounds bytes o =
-    subst (λ f. AreDecoded 1 file f k sounds → IsFront file (head_of file f ++ sound_of f sounds)) o.form_is (outcome_begins 1 file k sounds bytes o.accepts)
+pub sound_is_front : (w : ℕ) (file : List ℕ) (form : Form) (index : List Entry) (k : ℕ) (sounds : List (List ℕ)) → AreBytes file → IsOpened file form index → AreDecoded w file form k sounds →
+    IsFront w file (head_of file form ++ sound_of form sounds)
+sound_is_front w file form index k sounds bytes o =
+    subst (λ f. AreDecoded w file f k sounds → IsFront w file (head_of file f ++ sound_of f sounds)) o.form_is (outcome_begins w file k sounds bytes (o.accepts w))
 
 abbrev pub whole : List ℕ → Form → List (List ℕ) → List ℕ
 whole file form sounds = head_of file form ++ sound_of form sounds ++ end_of file form
@@ -46,47 +46,47 @@ whole file form sounds = head_of file form ++ sound_of form sounds ++ end_of fil
 begins_with_itself : (file : List ℕ) (sounds : List (List ℕ)) (o : Answer) (form : Form) → o ≡ done (whole file form sounds) (decoded_line form.frames (size_of_sound form) ∷ []) → BeginsWith o.out (whole file form sounds)
 begins_with_itself file sounds o form e = record { rest = []; is = ap (λ (a : Answer). a.out) e ∙ sym (append-nil (whole file form sounds)) }
 
-pub whole_is_front : (file : List ℕ) (form : Form) (index : List Entry) (sounds : List (List ℕ)) → AreBytes file → IsOpened file form index → AreDecoded 1 file form form.frames sounds →
-    IsFront file (whole file form sounds)
-whole_is_front file form index sounds bytes o =
-    subst (λ f. AreDecoded 1 file f f.frames sounds → IsFront file (whole file f sounds)) o.form_is
-    (λ h a p. begins_with_itself file sounds a (accepted file) (every_outcome_has_sound 1 file sounds bytes o.accepts h a p))
+pub whole_is_front : (w : ℕ) (file : List ℕ) (form : Form) (index : List Entry) (sounds : List (List ℕ)) → AreBytes file → IsOpened file form index → AreDecoded w file form form.frames sounds →
+    IsFront w file (whole file form sounds)
+whole_is_front w file form index sounds bytes o =
+    subst (λ f. AreDecoded w file f f.frames sounds → IsFront w file (whole file f sounds)) o.form_is
+    (λ h a p. begins_with_itself file sounds a (accepted file) (every_outcome_has_sound w file sounds bytes (o.accepts w) h a p))
 
-pub done_outcome : (file : List ℕ) (form : Form) (index : List Entry) (sounds : List (List ℕ)) → IsOpened file form index → AreDecoded 1 file form form.frames sounds →
-    OutcomeOf (decode 1) file (done (whole file form sounds) (decoded_line form.frames (size_of_sound form) ∷ []))
-done_outcome file form index sounds o =
-    subst (λ f. AreDecoded 1 file f f.frames sounds → OutcomeOf (decode 1) file (done (whole file f sounds) (decoded_line f.frames (size_of_sound f) ∷ []))) o.form_is
-    (ends_with_sound 1 file sounds o.accepts)
+pub done_outcome : (w : ℕ) (file : List ℕ) (form : Form) (index : List Entry) (sounds : List (List ℕ)) → IsOpened file form index → AreDecoded w file form form.frames sounds →
+    OutcomeOf (decode w) file (done (whole file form sounds) (decoded_line form.frames (size_of_sound form) ∷ []))
+done_outcome w file form index sounds o =
+    subst (λ f. AreDecoded w file f f.frames sounds → OutcomeOf (decode w) file (done (whole file f sounds) (decoded_line f.frames (size_of_sound f) ∷ []))) o.form_is
+    (ends_with_sound w file sounds (o.accepts w))
 
-at_accepted : (file : List ℕ) (k : ℕ) (fault : FrameFault) (sounds : List (List ℕ)) → refusal (decode 1) file ≡ None → StopsAt file (accepted file) k fault sounds →
-    OutcomeOf (decode 1) file (frame_refused k fault (head_of file (accepted file) ++ sound_of (accepted file) sounds))
-at_accepted file k fault sounds none s =
-    let same = sound_is_whole 1 file (accepted file) k sounds (is_decodable 1 file none) s.before s.within in
-    subst (λ w. OutcomeOf (decode 1) file (frame_refused k fault (head_of file (accepted file) ++ w))) (sym same)
-    (stops_at_frame 1 file k sounds fault none s.before s.within s.refuses)
+at_accepted : (w : ℕ) (file : List ℕ) (k : ℕ) (fault : FrameFault) (sounds : List (List ℕ)) → refusal (decode w) file ≡ None → StopsAt w file (accepted file) k fault sounds →
+    OutcomeOf (decode w) file (frame_refused k fault (head_of file (accepted file) ++ sound_of (accepted file) sounds))
+at_accepted w file k fault sounds none s =
+    let same = sound_is_whole w file (accepted file) k sounds (is_decodable w file none) s.before s.within in
+    subst (λ told. OutcomeOf (decode w) file (frame_refused k fault (head_of file (accepted file) ++ told))) (sym same)
+    (stops_at_frame w file k sounds fault none s.before s.within s.refuses)
 
-pub refused_outcome : (file : List ℕ) (form : Form) (index : List Entry) (k : ℕ) (fault : FrameFault) (sounds : List (List ℕ)) → IsOpened file form index → StopsAt file form k fault sounds →
-    OutcomeOf (decode 1) file (frame_refused k fault (head_of file form ++ sound_of form sounds))
-refused_outcome file form index k fault sounds o =
-    subst (λ f. StopsAt file f k fault sounds → OutcomeOf (decode 1) file (frame_refused k fault (head_of file f ++ sound_of f sounds))) o.form_is
-    (at_accepted file k fault sounds o.accepts)
+pub refused_outcome : (w : ℕ) (file : List ℕ) (form : Form) (index : List Entry) (k : ℕ) (fault : FrameFault) (sounds : List (List ℕ)) → IsOpened file form index → StopsAt w file form k fault sounds →
+    OutcomeOf (decode w) file (frame_refused k fault (head_of file form ++ sound_of form sounds))
+refused_outcome w file form index k fault sounds o =
+    subst (λ f. StopsAt w file f k fault sounds → OutcomeOf (decode w) file (frame_refused k fault (head_of file f ++ sound_of f sounds))) o.form_is
+    (at_accepted w file k fault sounds (o.accepts w))
 
 -- ---- a device that failed
-pub stopped_short : (P : Type 0) (file piece : List ℕ) (old new : Option (List ℕ)) (room : Option ℕ) → AreBytes file → IsFront file piece → Stops P piece old new room → IsStoppedShort file old new
-stopped_short P file piece old new room bytes front s =
-    let one = decoding_has_one_outcome 1 file bytes in
+pub stopped_short : (w : ℕ) (P : Type 0) (file piece : List ℕ) (old new : Option (List ℕ)) (room : Option ℕ) → AreBytes file → IsFront w file piece → Stops P piece old new room → IsStoppedShort w file old new
+stopped_short w P file piece old new room bytes front s =
+    let one = decoding_has_one_outcome w file bytes in
     (one.0, one.1, (stops_in P one.0.out piece old new room (front one.0 one.1) s).cut)
 
-pub lacks_room : (P : Type 0) (file piece : List ℕ) (old new : Option (List ℕ)) (room : Option ℕ) → P → IsFront file piece → Stops P piece old new room → LacksRoomForOutcome file room
-lacks_room P file piece old new room p front s o is = (stops_in P o.out piece old new room (front o is) s).lacks p
+pub lacks_room : (w : ℕ) (P : Type 0) (file piece : List ℕ) (old new : Option (List ℕ)) (room : Option ℕ) → P → IsFront w file piece → Stops P piece old new room → LacksRoomForOutcome w file room
+lacks_room w P file piece old new room p front s o is = (stops_in P o.out piece old new room (front o is) s).lacks p
 
-pub ends_at_device : (fault : CopyFault) (file piece : List ℕ) (old new : Option (List ℕ)) (room : Option ℕ) → AreBytes file → IsFront file piece → Stops (fault ≡ CopyFault.Write) piece old new room →
-    DecodingEnds (Err (of_device fault)) file old new room
-ends_at_device Read file piece old new room bytes front s = stopped_short (CopyFault.Read ≡ CopyFault.Write) file piece old new room bytes front s
-ends_at_device Write file piece old new room bytes front s =
-    (stopped_short (CopyFault.Write ≡ CopyFault.Write) file piece old new room bytes front s, lacks_room (CopyFault.Write ≡ CopyFault.Write) file piece old new room refl front s)
+pub ends_at_device : (w : ℕ) (fault : CopyFault) (file piece : List ℕ) (old new : Option (List ℕ)) (room : Option ℕ) → AreBytes file → IsFront w file piece → Stops (fault ≡ CopyFault.Write) piece old new room →
+    DecodingEnds w (Err (of_device fault)) file old new room
+ends_at_device w Read file piece old new room bytes front s = stopped_short w (CopyFault.Read ≡ CopyFault.Write) file piece old new room bytes front s
+ends_at_device w Write file piece old new room bytes front s =
+    (stopped_short w (CopyFault.Write ≡ CopyFault.Write) file piece old new room bytes front s, lacks_room w (CopyFault.Write ≡ CopyFault.Write) file piece old new room refl front s)
 
-pub nothing_written : (file : List ℕ) (w : Option (List ℕ)) → AreBytes file → IsStoppedShort file w w
-nothing_written file w bytes =
-    let one = decoding_has_one_outcome 1 file bytes in
-    (one.0, one.1, (stops_at_once ⊥ one.0.out w None (λ p. p)).cut)
+pub nothing_written : (w : ℕ) (file : List ℕ) (told : Option (List ℕ)) → AreBytes file → IsStoppedShort w file told told
+nothing_written w file told bytes =
+    let one = decoding_has_one_outcome w file bytes in
+    (one.0, one.1, (stops_at_once ⊥ one.0.out told None (λ p. p)).cut)

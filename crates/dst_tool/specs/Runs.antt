@@ -1,36 +1,45 @@
 -- What a run of words leaves, by its status.
-use Rattle.std.specs.Prelude.{◌≡◌, ◌≢◌, ◌⊎◌, ℕ, List, [], ◌∷◌, Option, Some, None}
+use Rattle.std.specs.Prelude.{◌≡◌, ◌≢◌, ◌⊎◌, ℕ, ◌+◌, ◌*◌, ◌≤◌, true, List, [], ◌∷◌, length, Option, Some, None, ⊤}
 use Rattle.dst_streams.specs.Causes.{Rose}
 use Rattle.dst_streams.specs.Told.{and_then, IsCutShort}
-use Rattle.dsdiff_spec.specs.Words.{Word, Command}
+use Rattle.dsdiff_spec.specs.Form.{frame_bytes}
+use Rattle.dsdiff_spec.specs.Words.{Word, Command, decode, frame, check, show, show_frame, index}
 use Rattle.dsdiff_spec.specs.Rows.{command_of}
 use Rattle.dsdiff_spec.specs.Lines.{Line, report, read_fault_line, write_fault_line, memory_line}
 use Rattle.dsdiff_spec.specs.Refusal.{refusal}
 use Rattle.dsdiff_spec.specs.Rules.{accepted}
 use Rattle.dsdiff_spec.specs.Outcome.{Answer, Outcome, NoneRefused, run}
 use Rattle.dsdiff_spec.specs.declared.faults.FileFault.{FileFault}
+use Rattle.dst_tool.specs.Commands.{OutcomeOf}
 
 -- a count of faults didn't rise: the device didn't fail
 abbrev pub DidNotRise : ℕ → ℕ → Type 0
 DidNotRise before now = Rose before now → ⊥
 
--- the status, what is added to the sink, and the lines are those of the outcome
-abbrev pub EndsAs : List Word → List ℕ → ℕ → List Line → Option (List ℕ) → Option (List ℕ) → Type 0
-EndsAs words file status lines old new =
-    (o : Answer) × Outcome words file o × (o.status ≡ status) × (o.lines ≡ lines) × (new ≡ and_then old o.out)
+-- the status, what is added to the sink, and the lines are those of an outcome
+abbrev pub EndsAsOne : (Answer → Type 0) → ℕ → List Line → Option (List ℕ) → Option (List ℕ) → Type 0
+EndsAsOne IsOutcome status lines old new =
+    (o : Answer) × IsOutcome o × (o.status ≡ status) × (o.lines ≡ lines) × (new ≡ and_then old o.out)
 
 -- only a prefix of what the outcome writes is added
-abbrev pub StopsShort : List Word → List ℕ → Option (List ℕ) → Option (List ℕ) → Type 0
-StopsShort words file old new = (o : Answer) × Outcome words file o × IsCutShort old o.out new
+abbrev pub StopsShortOfOne : (Answer → Type 0) → Option (List ℕ) → Option (List ℕ) → Type 0
+StopsShortOfOne IsOutcome old new = (o : Answer) × IsOutcome o × IsCutShort old o.out new
 
--- How a run of words over a file ends before its lines are reported: where a device failed, with a prefix of what the
--- outcome writes; where memory was refused, with nothing; else with the outcome.
+-- How a run ends before its lines are reported: where a device failed, with a prefix of what the outcome writes; where
+-- memory was refused, with nothing; else with the outcome.
+abbrev pub EndsBy : (Answer → Type 0) → Type 0 → ℕ → List Line → Option (List ℕ) → Option (List ℕ) → Type 0
+EndsBy IsOutcome MayWantMemory status lines old new =
+    ((status ≡ 2) × (lines ≡ read_fault_line ∷ []) × StopsShortOfOne IsOutcome old new)
+    ⊎ ((status ≡ 3) × (lines ≡ write_fault_line ∷ []) × StopsShortOfOne IsOutcome old new)
+    ⊎ ((status ≡ 4) × (lines ≡ memory_line ∷ []) × MayWantMemory × (new ≡ old))
+    ⊎ EndsAsOne IsOutcome status lines old new
+
+-- the same of words over a file
+abbrev pub EndsAs : List Word → List ℕ → ℕ → List Line → Option (List ℕ) → Option (List ℕ) → Type 0
+EndsAs words file = EndsAsOne (Outcome words file)
+
 abbrev pub Ends : List Word → List ℕ → ℕ → List Line → Option (List ℕ) → Option (List ℕ) → Type 0
-Ends words file status lines old new =
-    ((status ≡ 2) × (lines ≡ read_fault_line ∷ []) × StopsShort words file old new)
-    ⊎ ((status ≡ 3) × (lines ≡ write_fault_line ∷ []) × StopsShort words file old new)
-    ⊎ ((status ≡ 4) × (lines ≡ memory_line ∷ []) × (command_of words ≢ None) × (new ≡ old))
-    ⊎ EndsAs words file status lines old new
+Ends words file = EndsBy (Outcome words file) (command_of words ≢ None)
 
 -- the lines are reported, or the report failed at them and the status is 7
 abbrev pub Reports : ℕ → List Line → ℕ → Option (List ℕ) → Option (List ℕ) → Type 0
@@ -45,3 +54,48 @@ IsRefused words file fault = (c : Command) × (command_of words ≡ Some c) × (
 abbrev pub NoFrameIsRefused : List Word → List ℕ → Type 0
 NoFrameIsRefused words file =
     (c : Command) × (command_of words ≡ Some c) × (refusal c file ≡ None) × NoneRefused c (accepted file) (run c file (accepted file))
+
+-- ---- commands
+-- one that makes no call on the sink
+abbrev pub WritesNowhere : Command → Type 0
+WritesNowhere (check workers) = ⊤
+WritesNowhere show = ⊤
+WritesNowhere (show_frame k) = ⊤
+WritesNowhere index = ⊤
+WritesNowhere c = ⊥
+
+-- the most bytes that the source gives where one frame is found by the index, a frame's sound having so many
+abbrev pub most_given : ℕ → ℕ
+most_given frame_size = 208974 + 2 * frame_size
+
+-- the longest sound of a frame, of six channels at the greatest rate
+abbrev pub longest_sound : ℕ
+longest_sound = 112896
+
+-- a device's count of faults, and a told device's content, before and now; its sure room before
+pub record Counts : Type 0 where
+  pub before : ℕ
+  pub now : ℕ
+
+pub record Held : Type 0 where
+  pub old : Option (List ℕ)
+  pub new : Option (List ℕ)
+  pub room : Option ℕ
+
+-- What one command leaves over a source that may tell its bytes: `Same` says that the sink is what it was.
+pub record IsRun (c : Command) (status : ℕ) (bytes : Option (List ℕ)) (source sink report_counts given : Counts) (written told : Held) (Same : Type 0) : Type 0 where
+  pub ends : (file : List ℕ) → bytes ≡ Some file →
+      (wanted : ℕ) × (lines : List Line) × EndsBy (OutcomeOf c file) ⊤ wanted lines written.old written.new × Reports wanted lines status told.old told.new
+  pub read : status ≡ 2 → Rose source.before source.now
+  pub write : status ≡ 3 → Rose sink.before sink.now
+  pub reported : status ≡ 7 → Rose report_counts.before report_counts.now
+  pub sure_sink : (file : List ℕ) → bytes ≡ Some file → (o : Answer) → OutcomeOf c file o → (n : ℕ) → written.room ≡ Some n → length o.out ≤ n → status ≡ 3 → ⊥
+  pub sure_report : (file : List ℕ) → bytes ≡ Some file → (o : Answer) → OutcomeOf c file o → DidNotRise source.before source.now → DidNotRise sink.before sink.now →
+      (n : ℕ) → told.room ≡ Some n → 7 ≤ n → length (report o.lines) ≤ n → status ≡ 7 → ⊥
+  pub memory : status ≡ 4 → Same
+  pub file_refused : status ≡ 5 → Same
+  pub idle : WritesNowhere c → Same
+  pub by_index : (k : ℕ) → c ≡ frame k true → (file : List ℕ) → bytes ≡ Some file → given.now ≤ given.before + most_given (frame_bytes (accepted file))
+  pub any_source : (k : ℕ) → c ≡ frame k true → given.now ≤ given.before + most_given longest_sound
+  pub least_status : status ≢ 1
+  pub most_status : status ≤ 7

@@ -36,7 +36,8 @@ pub(crate) fn open_coded<S: Source>(
     }
 }
 
-fn fault_of_opening(fault: OpenFault) -> ToolFault
+/// The fault of a file that wasn't opened.
+pub(crate) fn fault_of_opening(fault: OpenFault) -> ToolFault
     ensures { result ≡ of_opening fault }
 {
     match fault {

@@ -1,26 +1,29 @@
 // The top call: words in, a status out.
-ghost use Rattle.std.specs.Prelude.{◌≡◌, ◌⊎◌, ◌+◌, ◌<◌, ◌≤◌, ℕ, List, [], ◌∷◌, length, map, Option, Some, None, Err};
+ghost use Rattle.std.specs.Prelude.{◌≡◌, ◌≢◌, ◌⊎◌, ◌+◌, ◌<◌, ◌≤◌, true, ℕ, List, [], ◌∷◌, length, map, Option, Some, None, Err};
 ghost use Rattle.std.specs.String.{string_bytes};
 ghost use Rattle.dst_spec.specs.declared.faults.FrameFault.{FrameFault};
 ghost use Rattle.dst_streams.specs.Causes.{Rose};
 ghost use Rattle.dst_streams.specs.Told.{IsCutShort, and_then};
 ghost use Rattle.dsdiff_spec.specs.declared.faults.FileFault.{FileFault};
+ghost use Rattle.dsdiff_spec.specs.Form.{frame_bytes};
+ghost use Rattle.dsdiff_spec.specs.Rules.{accepted};
 ghost use Rattle.dsdiff_spec.specs.Lines as reports;
 ghost use Rattle.dsdiff_spec.specs.Rows.{command_of};
+ghost use Rattle.dsdiff_spec.specs.Words as asked;
 ghost use Rattle.dsdiff_spec.specs.Outcome.{Answer, Outcome, frame_refused};
-ghost use Rattle.dst_tool.specs.Answers.{status_of, line_of};
-ghost use Rattle.dst_tool.specs.Runs.{DidNotRise, Ends, EndsAs, Reports, IsRefused, NoFrameIsRefused};
+ghost use Rattle.dst_tool.specs.Runs.{DidNotRise, Ends, EndsAs, Reports, IsRefused, NoFrameIsRefused, WritesNowhere, most_given, longest_sound};
 
-use crate::decode::decode_file;
-use crate::faults::{Summary, ToolFault};
+use crate::command::{report_line, run_command};
 use dst_streams::{Sink, Source};
-use dst_words::{Command, lines, read_words};
+use dst_words::{lines, read_words};
 use std::alloc::Global;
+use std::thread::Threads;
 
 /// Runs the command of these words: reads `source`, writes `sink`, and reports lines of text to `report`. It answers the
 /// status: 0 done, 1 words not understood, 2 read fault, 3 write fault, 4 memory, 5 file refused, 6 frame refused, 7
 /// report fault.
-pub fn dst_run<S: Source, K: Sink, R: Sink>(
+pub fn dst_run<E: Threads + Sync, S: Source, K: Sink, R: Sink>(
+    rt: &E,
     alloc: Global,
     words: &[String],
     source: &mut S,
@@ -46,6 +49,8 @@ pub fn dst_run<S: Source, K: Sink, R: Sink>(
     ensures words { command_of (map string_bytes words.now) ≡ None → (result ≡ 1) ⊎ (result ≡ 7) }
     ensures only_words { result ≡ 1 → command_of (map string_bytes words.now) ≡ None }
     ensures untouched { command_of (map string_bytes words.now) ≡ None → (source.new ≡ source.old) × (sink.new ≡ sink.old) }
+    // A command that writes no file makes no call on the sink.
+    ensures no_call { (c : asked.Command) → command_of (map string_bytes words.now) ≡ Some c → WritesNowhere c → sink.new ≡ sink.old }
     // Devices fail by their own cause.
     ensures read { result ≡ 2 → Rose (S.faults source.old) (S.faults source.new) }
     ensures write { result ≡ 3 → Rose (K.faults sink.old) (K.faults sink.new) }
@@ -68,45 +73,15 @@ pub fn dst_run<S: Source, K: Sink, R: Sink>(
         (k : ℕ) × (fault : FrameFault) × (out : List ℕ) × Outcome (map string_bytes words.now) file (frame_refused k fault out)
         × (K.written sink.new ≡ and_then (K.written sink.old) out)
         × (R.written report.new ≡ and_then (R.written report.old) (reports.report (reports.frame_fault_line k fault ∷ []))) }
+    // A frame that is found by the index takes few bytes of the source: a frame's sound having so many, or the most.
+    ensures by_index { (k : ℕ) → command_of (map string_bytes words.now) ≡ Some (asked.frame k true) → (file : List ℕ) → S.bytes source.old ≡ Some file →
+        S.given source.new ≤ S.given source.old + most_given (frame_bytes (accepted file)) }
+    ensures any_source { (k : ℕ) → command_of (map string_bytes words.now) ≡ Some (asked.frame k true) →
+        S.given source.new ≤ S.given source.old + most_given longest_sound }
     ensures status { result ≤ 7 }
 {
     match read_words(words) {
         None => report_line(report, 1, lines::words_not_understood()),
-        Some(Command::Decode { .. }) => {
-            let (status, line) = told(decode_file(alloc, source, sink));
-            report_line(report, status, line)
-        }
-    }
-}
-
-// The status and the line of what a command answered.
-fn told(answer: Result<Summary, ToolFault>) -> (u8, lines::Line)
-    requires { answer ≡ Err ToolFault.Report → ⊥ }
-    ensures status { result.0 ≡ status_of answer }
-    ensures line { result.1.bytes ≡ reports.report (line_of answer ∷ []) }
-{
-    match answer {
-        Ok(done) => (0, lines::decoded(done.frames, done.bytes)),
-        Err(ToolFault::Read) => (2, lines::read_fault()),
-        Err(ToolFault::Write) => (3, lines::write_fault()),
-        Err(ToolFault::Memory) => (4, lines::memory()),
-        Err(ToolFault::File(fault)) => (5, lines::file_refused(fault)),
-        Err(ToolFault::Frame { frame, fault }) => (6, lines::frame_refused(frame, fault)),
-        Err(ToolFault::Report) => unreachable!(),
-    }
-}
-
-// Reports a line; the status is its own, or 7 where the report failed.
-fn report_line<R: Sink>(report: &mut R, status: u8, line: lines::Line) -> u8
-    requires { status < 7 }
-    ensures reported { (result ≡ status) ⊎ (result ≡ 7) }
-    ensures whole { result ≡ status → R.written report.new ≡ and_then (R.written report.old) line.bytes }
-    ensures cut_short { result ≡ 7 → IsCutShort (R.written report.old) line.bytes (R.written report.new) }
-    ensures cause { result ≡ 7 → Rose (R.faults report.old) (R.faults report.new) }
-    ensures sure { result ≡ 7 → (room : ℕ) → R.room report.old ≡ Some room → length line.bytes ≤ room → ⊥ }
-{
-    match report.append(line.as_bytes()) {
-        Ok(()) => status,
-        Err(_) => 7,
+        Some(command) => run_command(rt, alloc, command, source, sink, report),
     }
 }

@@ -3,11 +3,16 @@ use super::*;
 use dst_streams::{MemorySink, MemorySource};
 use std::alloc::{AllocError, Global};
 use std::process::Abort;
+use std::thread::Threads;
 
+mod calls;
+mod crew;
 mod devices;
 mod files;
+mod reading;
 mod refused;
 mod sounds;
+mod workers;
 
 fn split(alloc: Global, text: &str) -> Result<Vec<String>, AllocError> {
     let mut words = Vec::new(alloc);
@@ -23,23 +28,47 @@ fn decode_words(alloc: Global) -> Result<Vec<String>, AllocError> {
 
 // Decodes the file by whole reads and by reads of one byte: status, output and report are these.
 fn gives(
-    rt: &impl Abort,
+    rt: &(impl Abort + Threads + Sync),
     alloc: Global,
     file: &[u8],
     status: u8,
     written: &[u8],
     line: &str,
 ) -> Result<(), AllocError> {
-    let words = decode_words(alloc)?;
+    answers(
+        rt,
+        alloc,
+        "decode in.dff out.dff",
+        file,
+        status,
+        written,
+        line,
+    )
+}
+
+// The same of any words.
+fn answers(
+    rt: &(impl Abort + Threads + Sync),
+    alloc: Global,
+    text: &str,
+    file: &[u8],
+    status: u8,
+    written: &[u8],
+    lines: &str,
+) -> Result<(), AllocError> {
+    let words = split(alloc, text)?;
     let pieces: [&[usize]; 2] = [&[], &[1]];
     for pieces in &pieces {
         let mut source = MemorySource::new(file, pieces, &[]);
         let mut sink = MemorySink::new(alloc, 10_000, &[])?;
-        let mut report = MemorySink::new(alloc, 100, &[])?;
-        let answer = dst_run(alloc, &words, &mut source, &mut sink, &mut report);
-        assert!(rt; report.written() == line.as_bytes(), "the report of {line}");
-        assert_eq!(rt; answer, status, "the status of {line}");
-        assert!(rt; sink.written() == written, "the output of {line}");
+        let mut report = MemorySink::new(alloc, 200, &[])?;
+        let answer = dst_run(rt, alloc, &words, &mut source, &mut sink, &mut report);
+        assert!(rt;
+            report.written() == lines.as_bytes(),
+            "{text}: the report of {lines}"
+        );
+        assert_eq!(rt; answer, status, "{text}: the status of {lines}");
+        assert!(rt; sink.written() == written, "{text}: the output of {lines}");
     }
     Ok(())
 }

@@ -6,6 +6,7 @@ use dst_streams::{HonestSource, MemorySink, MemorySource, ShortFlowSink};
 use std::alloc::{AllocError, Global};
 use std::process::Abort;
 use std::test::Fail;
+use std::thread::Threads;
 
 // More than the calls on a device in any of these runs.
 const CALLS: u64 = 2_000;
@@ -14,7 +15,7 @@ const DONE: &str = "decoded 2 frames into 4705 bytes\n";
 
 // A read that fails: a prefix of the plain file is written. The calls that fail are told.
 fn reads_fail(
-    rt: &impl Abort,
+    rt: &(impl Abort + Threads + Sync),
     alloc: Global,
     pieces: &[usize],
     file: &[u8],
@@ -27,7 +28,7 @@ fn reads_fail(
         let mut source = MemorySource::new(file, pieces, &fails);
         let mut sink = MemorySink::new(alloc, 10_000, &[])?;
         let mut report = MemorySink::new(alloc, 100, &[])?;
-        let status = dst_run(alloc, &words, &mut source, &mut sink, &mut report);
+        let status = dst_run(rt, alloc, &words, &mut source, &mut sink, &mut report);
         if status == 0 {
             assert!(rt; sink.written() == whole);
             assert!(rt; report.written() == line.as_bytes());
@@ -77,7 +78,7 @@ fn an_append_that_fails_leaves_the_front_of_the_output(rt: HostRuntime) -> Resul
         let mut source = HonestSource::new(&file);
         let mut sink = MemorySink::new(alloc, 10_000, &fails)?;
         let mut report = MemorySink::new(alloc, 100, &[])?;
-        let status = dst_run(alloc, &words, &mut source, &mut sink, &mut report);
+        let status = dst_run(&rt, alloc, &words, &mut source, &mut sink, &mut report);
         if status == 0 {
             assert!(rt; sink.written() == whole.as_slice());
             ended = call;
@@ -106,7 +107,7 @@ fn a_report_that_fails_leaves_the_output_whole(rt: HostRuntime) -> Result<(), Fa
         let mut source = HonestSource::new(&file);
         let mut sink = MemorySink::new(alloc, 10_000, &[])?;
         let mut report = MemorySink::new(alloc, 100, fails)?;
-        let status = dst_run(alloc, &words, &mut source, &mut sink, &mut report);
+        let status = dst_run(&rt, alloc, &words, &mut source, &mut sink, &mut report);
         assert_eq!(rt; status, *wanted);
         assert!(rt; sink.written() == whole.as_slice());
         assert!(rt; report.written() == line.as_bytes());
@@ -116,7 +117,7 @@ fn a_report_that_fails_leaves_the_output_whole(rt: HostRuntime) -> Result<(), Fa
 
 // A sink that is full behind so many bytes holds just them.
 fn fills(
-    rt: &impl Abort,
+    rt: &(impl Abort + Threads + Sync),
     alloc: Global,
     file: &[u8],
     whole: &[u8],
@@ -126,7 +127,7 @@ fn fills(
     let mut source = HonestSource::new(file);
     let mut sink = ShortFlowSink::new(prefix.min(65_536));
     let mut report = MemorySink::new(alloc, 100, &[])?;
-    let status = dst_run(alloc, &words, &mut source, &mut sink, &mut report);
+    let status = dst_run(rt, alloc, &words, &mut source, &mut sink, &mut report);
     assert_eq!(rt; status, 3, "at {prefix}");
     assert_eq!(rt; sink.written().len(), prefix);
     assert!(rt; whole.starts_with(sink.written()), "at {prefix}");

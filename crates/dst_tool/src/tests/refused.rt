@@ -9,6 +9,7 @@ use dst_streams::{HonestSource, MemorySink, MemorySource};
 use std::alloc::{AllocError, Global};
 use std::process::Abort;
 use std::test::Fail;
+use std::thread::Threads;
 
 #[test]
 fn a_file_is_refused_by_its_first_rule(rt: HostRuntime) -> Result<(), Fail> {
@@ -55,7 +56,7 @@ fn a_file_that_ends_early_is_refused(rt: HostRuntime) -> Result<(), Fail> {
 
 // What the file of one frame gives, whose front and rest these are.
 fn one_frame_gives(
-    rt: &impl Abort,
+    rt: &(impl Abort + Threads + Sync),
     alloc: Global,
     front: &[u8],
     rest: &[u8],
@@ -76,7 +77,7 @@ fn a_frame_is_refused_by_its_first_fault(rt: HostRuntime) -> Result<(), Fail> {
     let head = &plain_file[..plain_file.len().min(126)];
     // The front of the frame, how much sound is behind it, and the fault.
     let cases: [(&[u8], usize, &str); 4] = [
-        (b"\xfc\0\0\x05\xff\xf8", 0, "90 CodedNotYet at bit 0"),
+        (b"\xfc\0\0\x05\xff\xfc", 0, "9 FirstCodeBit at bit 45"),
         (b"\x01", 4704, "2 PlainStuffing at bit 2"),
         (b"", 0, "1 Truncated at bit 0"),
         (b"\0", 4703, "1 Truncated at bit 8"),
@@ -95,7 +96,7 @@ fn the_first_refused_frame_is_told_behind_the_earlier_sounds(rt: HostRuntime) ->
     let file = two_frames(alloc)?;
     let plain_file = odd_plain(alloc)?;
     assert_eq!(rt; plain_file.len(), 4832);
-    // The first byte of each frame, how much is written, and the frame that is told with its fault.
+    // The first bytes of each frame, how much is written, and the frame that is told with its fault.
     let cases: [(&[u8], &[u8], usize, &str); 4] = [
         (
             b"\x01",
@@ -105,7 +106,7 @@ fn the_first_refused_frame_is_told_behind_the_earlier_sounds(rt: HostRuntime) ->
         ),
         (
             b"\x01",
-            b"\xfc",
+            b"\xfc\0\0\x05\xff\xfc",
             126,
             "frame 0 refused: 2 PlainStuffing at bit 2\n",
         ),
@@ -117,9 +118,9 @@ fn the_first_refused_frame_is_told_behind_the_earlier_sounds(rt: HostRuntime) ->
         ),
         (
             b"\0",
-            b"\xfc",
+            b"\xfc\0\0\x05\xff\xfc",
             4830,
-            "frame 1 refused: 90 CodedNotYet at bit 0\n",
+            "frame 1 refused: 9 FirstCodeBit at bit 45\n",
         ),
     ];
     for (first, second, written, line) in &cases {
@@ -147,7 +148,7 @@ fn other_words_are_not_understood_and_touch_nothing(rt: HostRuntime) -> Result<(
         let mut source = MemorySource::new(EXAMPLE, &[], &[0]);
         let mut sink = MemorySink::new(alloc, 10_000, &[0])?;
         let mut report = MemorySink::new(alloc, 100, &[])?;
-        let answer = dst_run(alloc, &words, &mut source, &mut sink, &mut report);
+        let answer = dst_run(&rt, alloc, &words, &mut source, &mut sink, &mut report);
         assert_eq!(rt; answer, 1, "{text}");
         assert!(rt; sink.written().is_empty(), "{text}");
         assert!(rt;
@@ -158,7 +159,7 @@ fn other_words_are_not_understood_and_touch_nothing(rt: HostRuntime) -> Result<(
     let mut source = HonestSource::new(EXAMPLE);
     let mut sink = MemorySink::new(alloc, 10_000, &[])?;
     let mut report = MemorySink::new(alloc, 100, &[0])?;
-    let answer = dst_run(alloc, &[], &mut source, &mut sink, &mut report);
+    let answer = dst_run(&rt, alloc, &[], &mut source, &mut sink, &mut report);
     assert_eq!(rt; answer, 7);
     assert!(rt; report.written() == b"words not ".as_slice());
     Ok(())

@@ -27,9 +27,21 @@ fn a_sound_comes_back(rt: HostRuntime) -> Result<(), Fail> {
     let mut source = HonestSource::new(&stored);
     let mut sink = MemorySink::new(alloc, 4830, &[])?;
     let mut report = MemorySink::new(alloc, 100, &[])?;
-    let answer = dst_run(alloc, &words, &mut source, &mut sink, &mut report);
+    let answer = dst_run(&rt, alloc, &words, &mut source, &mut sink, &mut report);
     assert_eq!(rt; answer, 0);
     assert!(rt; sink.written() == plain_file.as_slice());
+    Ok(())
+}
+
+#[test]
+fn the_sound_of_a_coded_frame_comes_back(rt: HostRuntime) -> Result<(), Fail> {
+    let alloc = rt.alloc();
+    let sound = vec![in alloc; 0xff; 4704]?;
+    let stored = one_frame(alloc, &[b"\xfc\0\0\x05\xff\xf8"])?;
+    let plain_file = plain(alloc, &sound, 0)?;
+    assert_eq!(rt; (stored.len(), plain_file.len()), (158, 4830));
+    let line = "decoded 1 frames into 4704 bytes\n";
+    gives(&rt, alloc, &stored, 0, &plain_file, line)?;
     Ok(())
 }
 

@@ -1,104 +1,126 @@
--- Words that aren't understood, and decoding.
-use Rattle.std.proofs.Common.{lit<, inr, ◌≤◌, [], ◌∷◌, length, map, refl, ap, sym, subst, ◌∙◌}
+-- Words that aren't understood, and commands.
+use Rattle.std.proofs.Common.{inr, ◌≡◌, Some, None, [], ◌∷◌, map, option_map, refl, ap, sym, subst, ◌∙◌}
 use Rattle.std.specs.String.{string_bytes}
-use Rattle.dst_streams.specs.Told.{and_then}
 use Rattle.dsdiff_spec.specs.Lines.{words_line, report}
-use Rattle.dsdiff_spec.specs.Words.{decode}
-use Rattle.dsdiff_spec.specs.Outcome.{frame_refused}
-use Rattle.dst_tool.specs.Answers.{status_of, line_of}
-use Rattle.dst_tool.proofs.Runs.{status_is_write, status_is_file, status_is_frame, is_decode, is_answer, run_ends, reported, run_headline, run_completes, line_fits, no_command, none_headline, of_words, of_command, status_told, line_told}
+use Rattle.dsdiff_spec.specs.Rows.{command_of}
+use Rattle.dst_words.specs.Commands.{command_seen}
+use Rattle.dst_tool.specs.Runs.{WritesNowhere}
+use Rattle.dst_tool.proofs.Runs.{of_command, same_command, some_command, ends_of_words, run_headline, run_completes, run_refused, run_refused_frame, no_command, only_words_line, none_headline, reported}
 use Rattle.dst_tool.proofs.run.dst_run.Goals as goal
 
 pub returns-in-None-clause-headline : goal.returns-in-None-clause-headline
 returns-in-None-clause-headline g c file told no_read no_write no_report =
-    none_headline (map string_bytes c.args.words.now) file c.report_line.result _ _ _ _ (sym c.in-None.ensures) c.words_not_understood.ensures c.report_line.ensures.reported c.report_line.ensures.whole (λ e. no_report (c.report_line.ensures.cause e))
+    none_headline (map string_bytes c.args.words.now) file c.report_line.result _ _ _ _ (sym c.in-None.ensures.command) c.words_not_understood.ensures c.report_line.ensures.reported c.report_line.ensures.whole (λ e. no_report (c.report_line.ensures.cause e))
 
 pub returns-in-None-clause-ends : goal.returns-in-None-clause-ends
 returns-in-None-clause-ends g c file told = (
   1,
   words_line ∷ [],
-  inr (inr (inr (no_command (map string_bytes c.args.words.now) file (g.K.Sink.written c.args.sink.now) (g.K.Sink.written c.args.sink.now) (sym c.in-None.ensures) refl))),
-  reported 1 1 c.report_line.result words_line _ _ _ refl c.words_not_understood.ensures c.report_line.ensures.reported c.report_line.ensures.whole c.report_line.ensures.cut_short,
+  inr (inr (inr (no_command (map string_bytes c.args.words.now) file (g.K.Sink.written c.args.sink.now) (sym c.in-None.ensures.command)))),
+  reported 1 c.report_line.result words_line _ _ _ c.words_not_understood.ensures c.report_line.ensures.reported c.report_line.ensures.whole c.report_line.ensures.cut_short,
 )
 
-pub returns-in-Some-Decode-clause-headline : goal.returns-in-Some-Decode-clause-headline
-returns-in-Some-Decode-clause-headline g c file told no_read no_write no_report =
-    let r = c.decode_file.result in
+pub returns-in-Some-clause-headline : goal.returns-in-Some-clause-headline
+returns-in-Some-clause-headline g c file told no_read no_write no_report =
     let words = map string_bytes c.args.words.now in
-    let e = is_decode words _ c.in-Some-Decode.ensures in
-    let a = is_answer r (g.S.Source.bytes c.args.source.now) file (g.K.Sink.written c.args.sink.now) (g.K.Sink.written c.decode_file.new.sink) told c.decode_file.ensures.decoded c.decode_file.ensures.file
-    (λ fault is. ap g.K.Sink.written (c.decode_file.ensures.untouched fault is)) c.decode_file.ensures.frame c.decode_file.ensures.cut_short (λ is. ap g.K.Sink.written (c.decode_file.ensures.memory is)) c.decode_file.ensures.no_report in
-    let reports = reported (status_of r) c.told-status.result.0 c.report_line-in-Some-Decode.result (line_of r) c.told-status.result.1.bytes (g.R.Sink.written c.args.report.now) (g.R.Sink.written c.report_line-in-Some-Decode.new.report)
-    c.told-status.ensures.status c.told-status.ensures.line c.report_line-in-Some-Decode.ensures.reported c.report_line-in-Some-Decode.ensures.whole c.report_line-in-Some-Decode.ensures.cut_short in
-    run_headline r words file c.report_line-in-Some-Decode.result (g.K.Sink.written c.args.sink.now) (g.K.Sink.written c.decode_file.new.sink) (g.R.Sink.written c.args.report.now) (g.R.Sink.written c.report_line-in-Some-Decode.new.report) e a reports
-    (λ is. no_report (c.report_line-in-Some-Decode.ensures.cause is)) (λ is. no_read (c.decode_file.ensures.read is)) (λ is. no_write (c.decode_file.ensures.write is))
+    let asks = command_seen c.in-Some.command in
+    let e : command_of words ≡ Some asks = sym c.in-Some.ensures.command in
+    let r = c.run_command.ensures in
+    run_headline words asks file c.run_command.result _ _ _ _ _ _ _ _ e r told no_read no_write no_report
 
-pub returns-in-Some-Decode-clause-complete : goal.returns-in-Some-Decode-clause-complete
-returns-in-Some-Decode-clause-complete g c file told none no_read no_write no_report =
-    let r = c.decode_file.result in
+pub returns-in-Some-clause-complete : goal.returns-in-Some-clause-complete
+returns-in-Some-clause-complete g c file told none no_read no_write no_report =
     let words = map string_bytes c.args.words.now in
-    let e = is_decode words _ c.in-Some-Decode.ensures in
-    let a = is_answer r (g.S.Source.bytes c.args.source.now) file (g.K.Sink.written c.args.sink.now) (g.K.Sink.written c.decode_file.new.sink) told c.decode_file.ensures.decoded c.decode_file.ensures.file
-    (λ fault is. ap g.K.Sink.written (c.decode_file.ensures.untouched fault is)) c.decode_file.ensures.frame c.decode_file.ensures.cut_short (λ is. ap g.K.Sink.written (c.decode_file.ensures.memory is)) c.decode_file.ensures.no_report in
-    let reports = reported (status_of r) c.told-status.result.0 c.report_line-in-Some-Decode.result (line_of r) c.told-status.result.1.bytes (g.R.Sink.written c.args.report.now) (g.R.Sink.written c.report_line-in-Some-Decode.new.report)
-    c.told-status.ensures.status c.told-status.ensures.line c.report_line-in-Some-Decode.ensures.reported c.report_line-in-Some-Decode.ensures.whole c.report_line-in-Some-Decode.ensures.cut_short in
-    let headline = run_headline r words file c.report_line-in-Some-Decode.result (g.K.Sink.written c.args.sink.now) (g.K.Sink.written c.decode_file.new.sink) (g.R.Sink.written c.args.report.now) (g.R.Sink.written c.report_line-in-Some-Decode.new.report) e a reports
-    (λ is. no_report (c.report_line-in-Some-Decode.ensures.cause is)) (λ is. no_read (c.decode_file.ensures.read is)) (λ is. no_write (c.decode_file.ensures.write is)) in
-    run_completes words file c.report_line-in-Some-Decode.result (g.K.Sink.written c.args.sink.now) (g.K.Sink.written c.decode_file.new.sink) (g.R.Sink.written c.args.report.now) (g.R.Sink.written c.report_line-in-Some-Decode.new.report) e none headline
+    let asks = command_seen c.in-Some.command in
+    let e : command_of words ≡ Some asks = sym c.in-Some.ensures.command in
+    let r = c.run_command.ensures in
+    run_completes words asks file c.run_command.result _ _ _ _ e none (run_headline words asks file c.run_command.result _ _ _ _ _ _ _ _ e r told no_read no_write no_report)
 
-pub returns-in-Some-Decode-clause-ends : goal.returns-in-Some-Decode-clause-ends
-returns-in-Some-Decode-clause-ends g c file told =
-    let r = c.decode_file.result in
+pub returns-in-Some-clause-ends : goal.returns-in-Some-clause-ends
+returns-in-Some-clause-ends g c file told =
     let words = map string_bytes c.args.words.now in
-    let e = is_decode words _ c.in-Some-Decode.ensures in
-    let a = is_answer r (g.S.Source.bytes c.args.source.now) file (g.K.Sink.written c.args.sink.now) (g.K.Sink.written c.decode_file.new.sink) told c.decode_file.ensures.decoded c.decode_file.ensures.file
-    (λ fault is. ap g.K.Sink.written (c.decode_file.ensures.untouched fault is)) c.decode_file.ensures.frame c.decode_file.ensures.cut_short (λ is. ap g.K.Sink.written (c.decode_file.ensures.memory is)) c.decode_file.ensures.no_report in
-    let reports = reported (status_of r) c.told-status.result.0 c.report_line-in-Some-Decode.result (line_of r) c.told-status.result.1.bytes (g.R.Sink.written c.args.report.now) (g.R.Sink.written c.report_line-in-Some-Decode.new.report)
-    c.told-status.ensures.status c.told-status.ensures.line c.report_line-in-Some-Decode.ensures.reported c.report_line-in-Some-Decode.ensures.whole c.report_line-in-Some-Decode.ensures.cut_short in
-    (status_of r, line_of r ∷ [], run_ends r words file (g.K.Sink.written c.args.sink.now) (g.K.Sink.written c.decode_file.new.sink) e a, reports)
+    let asks = command_seen c.in-Some.command in
+    let e : command_of words ≡ Some asks = sym c.in-Some.ensures.command in
+    let r = c.run_command.ensures in
+    let ends = r.ends file told in
+    (ends.0, ends.1, ends_of_words words asks file ends.0 ends.1 _ _ e ends.2, ends.3)
 
-pub returns-in-Some-Decode-clause-sure_sink : goal.returns-in-Some-Decode-clause-sure_sink
-returns-in-Some-Decode-clause-sure_sink g c file told o is room known fits three =
-    let r = c.decode_file.result in
+pub returns-in-Some-clause-sure_sink : goal.returns-in-Some-clause-sure_sink
+returns-in-Some-clause-sure_sink g c file told o is room known fits three =
     let words = map string_bytes c.args.words.now in
-    let e = is_decode words _ c.in-Some-Decode.ensures in
-    let status = status_told (status_of r) c.told-status.result.0 c.report_line-in-Some-Decode.result 3 c.told-status.ensures.status c.report_line-in-Some-Decode.ensures.reported three (lit< tt) in
-    c.decode_file.ensures.sure (status_is_write r status) file told o (of_command words file o e is) room known fits
+    let asks = command_seen c.in-Some.command in
+    let e : command_of words ≡ Some asks = sym c.in-Some.ensures.command in
+    let r = c.run_command.ensures in
+    r.sure_sink file told o (of_command words asks file o e is) room known fits three
 
-pub returns-in-Some-Decode-clause-sure_report : goal.returns-in-Some-Decode-clause-sure_report
-returns-in-Some-Decode-clause-sure_report g c file told o is no_read no_write room known least fits seven =
-    let r = c.decode_file.result in
+pub returns-in-Some-clause-sure_report : goal.returns-in-Some-clause-sure_report
+returns-in-Some-clause-sure_report g c file told o is no_read no_write room known least fits seven =
     let words = map string_bytes c.args.words.now in
-    let e = is_decode words _ c.in-Some-Decode.ensures in
-    let a = is_answer r (g.S.Source.bytes c.args.source.now) file (g.K.Sink.written c.args.sink.now) (g.K.Sink.written c.decode_file.new.sink) told c.decode_file.ensures.decoded c.decode_file.ensures.file
-    (λ fault is. ap g.K.Sink.written (c.decode_file.ensures.untouched fault is)) c.decode_file.ensures.frame c.decode_file.ensures.cut_short (λ is. ap g.K.Sink.written (c.decode_file.ensures.memory is)) c.decode_file.ensures.no_report in
-    let bytes = g.met.S.Source.told_are_bytes c.args.source.now file told in
-    let short = line_fits r words file (g.K.Sink.written c.args.sink.now) (g.K.Sink.written c.decode_file.new.sink) o room bytes e a is (λ is. no_read (c.decode_file.ensures.read is)) (λ is. no_write (c.decode_file.ensures.write is)) least fits in
-    c.report_line-in-Some-Decode.ensures.sure seven room known (subst (λ w. length w ≤ room) (sym c.told-status.ensures.line) short)
+    let asks = command_seen c.in-Some.command in
+    let e : command_of words ≡ Some asks = sym c.in-Some.ensures.command in
+    let r = c.run_command.ensures in
+    r.sure_report file told o (of_command words asks file o e is) no_read no_write room known least fits seven
 
-pub returns-in-Some-Decode-clause-refused : goal.returns-in-Some-Decode-clause-refused
-returns-in-Some-Decode-clause-refused g c five file told =
-    let r = c.decode_file.result in
+pub returns-in-Some-clause-refused : goal.returns-in-Some-clause-refused
+returns-in-Some-clause-refused g c five file told =
     let words = map string_bytes c.args.words.now in
-    let e = is_decode words _ c.in-Some-Decode.ensures in
-    let a = is_answer r (g.S.Source.bytes c.args.source.now) file (g.K.Sink.written c.args.sink.now) (g.K.Sink.written c.decode_file.new.sink) told c.decode_file.ensures.decoded c.decode_file.ensures.file
-    (λ fault is. ap g.K.Sink.written (c.decode_file.ensures.untouched fault is)) c.decode_file.ensures.frame c.decode_file.ensures.cut_short (λ is. ap g.K.Sink.written (c.decode_file.ensures.memory is)) c.decode_file.ensures.no_report in
-    let status = status_told (status_of r) c.told-status.result.0 c.report_line-in-Some-Decode.result 5 c.told-status.ensures.status c.report_line-in-Some-Decode.ensures.reported five (lit< tt) in
-    let f = status_is_file r status in
-    let line = line_told c.told-status.result.0 c.report_line-in-Some-Decode.result 5 (line_of r) c.told-status.result.1.bytes (g.R.Sink.written c.args.report.now) (g.R.Sink.written c.report_line-in-Some-Decode.new.report) c.told-status.ensures.line
-    c.report_line-in-Some-Decode.ensures.reported c.report_line-in-Some-Decode.ensures.whole five (lit< tt) in
-    (f.0, (decode 1, e, a.file_is f.0 f.1), line ∙ ap (λ r. and_then (g.R.Sink.written c.args.report.now) (report (line_of r ∷ []))) f.1)
+    let asks = command_seen c.in-Some.command in
+    let e : command_of words ≡ Some asks = sym c.in-Some.ensures.command in
+    let r = c.run_command.ensures in
+    run_refused words asks file c.run_command.result _ _ _ _ _ _ _ _ e r told five
 
-pub returns-in-Some-Decode-clause-frame : goal.returns-in-Some-Decode-clause-frame
-returns-in-Some-Decode-clause-frame g c six file told =
-    let r = c.decode_file.result in
+pub returns-in-Some-clause-frame : goal.returns-in-Some-clause-frame
+returns-in-Some-clause-frame g c six file told =
     let words = map string_bytes c.args.words.now in
-    let e = is_decode words _ c.in-Some-Decode.ensures in
-    let a = is_answer r (g.S.Source.bytes c.args.source.now) file (g.K.Sink.written c.args.sink.now) (g.K.Sink.written c.decode_file.new.sink) told c.decode_file.ensures.decoded c.decode_file.ensures.file
-    (λ fault is. ap g.K.Sink.written (c.decode_file.ensures.untouched fault is)) c.decode_file.ensures.frame c.decode_file.ensures.cut_short (λ is. ap g.K.Sink.written (c.decode_file.ensures.memory is)) c.decode_file.ensures.no_report in
-    let status = status_told (status_of r) c.told-status.result.0 c.report_line-in-Some-Decode.result 6 c.told-status.ensures.status c.report_line-in-Some-Decode.ensures.reported six (lit< tt) in
-    let f = status_is_frame r status in
-    let out = a.frame_is f.0 f.1 f.2 in
-    let line = line_told c.told-status.result.0 c.report_line-in-Some-Decode.result 6 (line_of r) c.told-status.result.1.bytes (g.R.Sink.written c.args.report.now) (g.R.Sink.written c.report_line-in-Some-Decode.new.report) c.told-status.ensures.line
-    c.report_line-in-Some-Decode.ensures.reported c.report_line-in-Some-Decode.ensures.whole six (lit< tt) in
-    (f.0, f.1, out.0, of_words words file (frame_refused f.0 f.1 out.0) e out.1, out.2, line ∙ ap (λ r. and_then (g.R.Sink.written c.args.report.now) (report (line_of r ∷ []))) f.2)
+    let asks = command_seen c.in-Some.command in
+    let e : command_of words ≡ Some asks = sym c.in-Some.ensures.command in
+    let r = c.run_command.ensures in
+    run_refused_frame words asks file c.run_command.result _ _ _ _ _ _ _ _ e r told six
+
+pub returns-in-Some-clause-by_index : goal.returns-in-Some-clause-by_index
+returns-in-Some-clause-by_index g c k is file told =
+    let words = map string_bytes c.args.words.now in
+    let asks = command_seen c.in-Some.command in
+    let e : command_of words ≡ Some asks = sym c.in-Some.ensures.command in
+    let r = c.run_command.ensures in
+    r.by_index k (same_command words asks _ e is) file told
+
+pub returns-in-Some-clause-any_source : goal.returns-in-Some-clause-any_source
+returns-in-Some-clause-any_source g c k is =
+    let words = map string_bytes c.args.words.now in
+    let asks = command_seen c.in-Some.command in
+    let e : command_of words ≡ Some asks = sym c.in-Some.ensures.command in
+    let r = c.run_command.ensures in
+    r.any_source k (same_command words asks _ e is)
+
+pub returns-in-Some-clause-no_call : goal.returns-in-Some-clause-no_call
+returns-in-Some-clause-no_call g c d is nowhere =
+    let words = map string_bytes c.args.words.now in
+    let asks = command_seen c.in-Some.command in
+    let e : command_of words ≡ Some asks = sym c.in-Some.ensures.command in
+    let r = c.run_command.ensures in
+    r.idle (subst WritesNowhere (sym (same_command words asks d e is)) nowhere)
+
+pub returns-in-Some-clause-words : goal.returns-in-Some-clause-words
+returns-in-Some-clause-words g c none =
+    let words = map string_bytes c.args.words.now in
+    let asks = command_seen c.in-Some.command in
+    let e : command_of words ≡ Some asks = sym c.in-Some.ensures.command in
+    let r = c.run_command.ensures in
+    absurd (some_command words asks e none)
+
+pub returns-in-Some-clause-untouched : goal.returns-in-Some-clause-untouched
+returns-in-Some-clause-untouched g c none =
+    let words = map string_bytes c.args.words.now in
+    let asks = command_seen c.in-Some.command in
+    let e : command_of words ≡ Some asks = sym c.in-Some.ensures.command in
+    let r = c.run_command.ensures in
+    absurd (some_command words asks e none)
+
+pub returns-in-Some-clause-only_words : goal.returns-in-Some-clause-only_words
+returns-in-Some-clause-only_words g c one =
+    let words = map string_bytes c.args.words.now in
+    let asks = command_seen c.in-Some.command in
+    let e : command_of words ≡ Some asks = sym c.in-Some.ensures.command in
+    let r = c.run_command.ensures in
+    absurd (r.least_status one)

@@ -1,0 +1,183 @@
+-- A command that reports one line: what it answered, and what the run leaves.
+use Rattle.std.proofs.Common.{◌≡◌, ◌⊎◌, inl, inr, ℕ, ◌+◌, ◌*◌, ◌<◌, ◌≤◌, true, List, [], ◌∷◌, length, Option, Some, None, Result, Ok, Err, refl, ap, sym, subst, ◌∙◌, arith, IfOk}
+use Rattle.std.specs.Prelude.{⊤}
+use Rattle.dst_spec.specs.Bits.{AreBytes}
+use Rattle.dst_spec.specs.declared.faults.FrameFault.{FrameFault}
+use Rattle.dst_streams.specs.Causes.{Rose}
+use Rattle.dst_streams.specs.Told.{and_then, IsCutShort}
+use Rattle.dsdiff_spec.specs.declared.faults.FileFault.{FileFault}
+use Rattle.dsdiff_spec.specs.Form.{frame_bytes}
+use Rattle.dsdiff_spec.specs.Rules.{accepted}
+use Rattle.dsdiff_spec.specs.Words.{Command, decode, frame, check, show, show_frame, index}
+use Rattle.dsdiff_spec.specs.Refusal.{refusal}
+use Rattle.dsdiff_spec.specs.Lines.{Line, report}
+use Rattle.dsdiff_spec.specs.Outcome.{Answer, done, file_refused, frame_refused, OfCommand}
+use Rattle.dsdiff_spec.proofs.Stopping.{One}
+use Rattle.dsdiff_spec.proofs.OneAnswer.{ReadsCoded, command_has_one_outcome}
+use Rattle.dst_tool.specs.declared.faults.Summary.{Summary}
+use Rattle.dst_tool.specs.declared.faults.ToolFault.{ToolFault}
+use Rattle.dst_tool.specs.declared.faults.ToolFault.TheVariants.{Read, Write, Memory, Report, File, Frame}
+use Rattle.dst_tool.specs.Answers.{status_of, done_line, fault_line, line_of}
+use Rattle.dst_tool.specs.Commands.{OutcomeOf}
+use Rattle.dst_tool.specs.Runs.{DidNotRise, EndsAsOne, EndsBy, Reports, WritesNowhere, most_given, longest_sound, Counts, Held, IsRun}
+use Rattle.dst_tool.proofs.Statuses.{status_is_read, status_is_write, status_is_memory, status_is_file, status_is_not_words, status_is_below}
+use Rattle.dst_tool.proofs.Writing.{and_then-nothing}
+
+pub record IsAnswer (c : Command) (r : Result Summary ToolFault) (file : List ℕ) (old new : Option (List ℕ)) : Type 0 where
+  pub finished : IfOk r (λ s. (out : List ℕ) × OutcomeOf c file (done out (done_line c s ∷ [])) × (new ≡ and_then old out))
+  pub file_is : (fault : FileFault) → r ≡ Err (File fault) → refusal c file ≡ Some fault
+  pub untouched : (fault : FileFault) → r ≡ Err (File fault) → new ≡ old
+  pub frame_is : (k : ℕ) (fault : FrameFault) → r ≡ Err (Frame k fault) → (out : List ℕ) × OutcomeOf c file (frame_refused k fault out) × (new ≡ and_then old out)
+  pub cut_short : (r ≡ Err Read) ⊎ (r ≡ Err Write) → (o : Answer) × OutcomeOf c file o × IsCutShort old o.out new
+  pub memory : r ≡ Err Memory → new ≡ old
+  pub no_report : r ≡ Err Report → ⊥
+
+-- what holds of every file that is told holds of this one
+pub at_file : (r : Result Summary ToolFault) (P : Summary → List ℕ → Type 0) (bytes : Option (List ℕ)) (file : List ℕ) → bytes ≡ Some file → IfOk r (λ s. (xs : List ℕ) → bytes ≡ Some xs → P s xs) → IfOk r (λ s. P s file)
+at_file (Ok s) P bytes file told h = h file told
+at_file (Err fault) P bytes file told h = tt {0}
+
+-- ---- how it ends
+pub refusal_is : (c : Command) (file : List ℕ) (fault : FileFault) → refusal c file ≡ Some fault → OutcomeOf c file (file_refused fault)
+refusal_is c file fault e = subst (λ q. OfCommand c file q (file_refused fault)) (sym e) refl
+
+done_ends : (c : Command) (s : Summary) (file : List ℕ) (old new : Option (List ℕ)) → IsAnswer c (Ok s) file old new → EndsAsOne (OutcomeOf c file) 0 (line_of c (Ok s) ∷ []) old new
+done_ends c s file old new a = (done a.finished.0 (done_line c s ∷ []), a.finished.1, refl, refl, a.finished.2)
+
+file_ends : (c : Command) (fault : FileFault) (file : List ℕ) (old new : Option (List ℕ)) → IsAnswer c (Err (File fault)) file old new → EndsAsOne (OutcomeOf c file) 5 (fault_line (File fault) ∷ []) old new
+file_ends c fault file old new a = (file_refused fault, refusal_is c file fault (a.file_is fault refl), refl, refl, a.untouched fault refl ∙ sym (and_then-nothing old))
+
+frame_ends : (c : Command) (k : ℕ) (fault : FrameFault) (file : List ℕ) (old new : Option (List ℕ)) → IsAnswer c (Err (Frame k fault)) file old new → EndsAsOne (OutcomeOf c file) 6 (fault_line (Frame k fault) ∷ []) old new
+frame_ends c k fault file old new a =
+    let f = a.frame_is k fault refl in
+    (frame_refused k fault f.0, f.1, refl, refl, f.2)
+
+pub answer_ends : (c : Command) (r : Result Summary ToolFault) (file : List ℕ) (old new : Option (List ℕ)) → IsAnswer c r file old new → EndsBy (OutcomeOf c file) ⊤ (status_of r) (line_of c r ∷ []) old new
+answer_ends c (Ok s) file old new a = inr (inr (inr (done_ends c s file old new a)))
+answer_ends c (Err Read) file old new a = inl (refl, refl, a.cut_short (inl refl))
+answer_ends c (Err Write) file old new a = inr (inl (refl, refl, a.cut_short (inr refl)))
+answer_ends c (Err Memory) file old new a = inr (inr (inl (refl, refl, tt, a.memory refl)))
+answer_ends c (Err (File fault)) file old new a = inr (inr (inr (file_ends c fault file old new a)))
+answer_ends c (Err (Frame k fault)) file old new a = inr (inr (inr (frame_ends c k fault file old new a)))
+answer_ends c (Err Report) file old new a = absurd (a.no_report refl)
+
+-- ---- a report that is sure to take the outcome's lines takes the line
+pub same_lines : (c : Command) (file : List ℕ) (status : ℕ) (lines : List Line) (old new : Option (List ℕ)) (o : Answer) → ReadsCoded c → AreBytes file → OutcomeOf c file o → EndsAsOne (OutcomeOf c file) status lines old new → o.lines ≡ lines
+same_lines c file status lines old new o reads bytes h (p, is, st, same, w) =
+    let one = command_has_one_outcome c file reads bytes in
+    ap (λ (a : Answer). a.lines) (one.2 o h ∙ sym (one.2 p is)) ∙ same
+
+line_fits : (c : Command) (r : Result Summary ToolFault) (file : List ℕ) (old new : Option (List ℕ)) (o : Answer) (n : ℕ) → ReadsCoded c → AreBytes file → IsAnswer c r file old new → OutcomeOf c file o →
+    (r ≡ Err Read → ⊥) → (r ≡ Err Write → ⊥) → 7 ≤ n → length (report o.lines) ≤ n → length (report (line_of c r ∷ [])) ≤ n
+line_fits c (Ok s) file old new o n reads bytes a h no_read no_write least fits = subst (λ lines. length (report lines) ≤ n) (same_lines c file 0 (line_of c (Ok s) ∷ []) old new o reads bytes h (done_ends c s file old new a)) fits
+line_fits c (Err Read) file old new o n reads bytes a h no_read no_write least fits = absurd (no_read refl)
+line_fits c (Err Write) file old new o n reads bytes a h no_read no_write least fits = absurd (no_write refl)
+line_fits c (Err Memory) file old new o n reads bytes a h no_read no_write least fits = least
+line_fits c (Err (File fault)) file old new o n reads bytes a h no_read no_write least fits = subst (λ lines. length (report lines) ≤ n) (same_lines c file 5 (fault_line (File fault) ∷ []) old new o reads bytes h (file_ends c fault file old new a)) fits
+line_fits c (Err (Frame k fault)) file old new o n reads bytes a h no_read no_write least fits =
+    subst (λ lines. length (report lines) ≤ n) (same_lines c file 6 (fault_line (Frame k fault) ∷ []) old new o reads bytes h (frame_ends c k fault file old new a)) fits
+line_fits c (Err Report) file old new o n reads bytes a h no_read no_write least fits = absurd (a.no_report refl)
+
+-- ---- the line is reported, or the report failed
+pub reports_line : (status result : ℕ) (line : Line) (old new : Option (List ℕ)) → (result ≡ status) ⊎ (result ≡ 7) → (result ≡ status → new ≡ and_then old (report (line ∷ []))) → (result ≡ 7 → IsCutShort old (report (line ∷ [])) new) →
+    Reports status (line ∷ []) result old new
+reports_line status result line old new (inl e) whole cut = inl (e, whole e)
+reports_line status result line old new (inr e) whole cut = inr (e, cut e)
+
+-- a status below 7 is that of the answer
+pub status_told : (status result want : ℕ) → (result ≡ status) ⊎ (result ≡ 7) → result ≡ want → want < 7 → status ≡ want
+status_told status result want (inl e) is below = sym e ∙ is
+status_told status result want (inr e) is below = absurd (omega arith)
+
+pub record TellsLine (status : ℕ) (line : Line) (result : ℕ) (counts : Counts) (told : Held) : Type 0 where
+  pub reported : (result ≡ status) ⊎ (result ≡ 7)
+  pub whole : result ≡ status → told.new ≡ and_then told.old (report (line ∷ []))
+  pub cut_short : result ≡ 7 → IsCutShort told.old (report (line ∷ [])) told.new
+  pub cause : result ≡ 7 → Rose counts.before counts.now
+  pub sure : result ≡ 7 → (n : ℕ) → told.room ≡ Some n → length (report (line ∷ [])) ≤ n → ⊥
+
+-- ---- the run
+pub record HasCauses (c : Command) (r : Result Summary ToolFault) (bytes : Option (List ℕ)) (source sink given : Counts) (written : Held) (Same : Type 0) : Type 0 where
+  pub read : r ≡ Err Read → Rose source.before source.now
+  pub write : r ≡ Err Write → Rose sink.before sink.now
+  pub sure : r ≡ Err Write → (file : List ℕ) → bytes ≡ Some file → (o : Answer) → OutcomeOf c file o → (n : ℕ) → written.room ≡ Some n → length o.out ≤ n → ⊥
+  pub memory : r ≡ Err Memory → Same
+  pub untouched : (fault : FileFault) → r ≡ Err (File fault) → Same
+  pub idle : WritesNowhere c → Same
+  pub by_index : (k : ℕ) → c ≡ frame k true → (file : List ℕ) → bytes ≡ Some file → given.now ≤ given.before + most_given (frame_bytes (accepted file))
+  pub any_source : (k : ℕ) → c ≡ frame k true → given.now ≤ given.before + most_given longest_sound
+  pub no_report : r ≡ Err Report → ⊥
+
+pub run_of_answer : (c : Command) (r : Result Summary ToolFault) (result : ℕ) (bytes : Option (List ℕ)) (source sink counts given : Counts) (written told : Held) (Same : Type 0) → ReadsCoded c →
+    ((file : List ℕ) → bytes ≡ Some file → AreBytes file) → ((file : List ℕ) → bytes ≡ Some file → IsAnswer c r file written.old written.new) →
+    HasCauses c r bytes source sink given written Same → TellsLine (status_of r) (line_of c r) result counts told → IsRun c result bytes source sink counts given written told Same
+run_of_answer c r result bytes source sink counts given written told Same reads are answer h t = record {
+  ends = λ file e. (status_of r, line_of c r ∷ [], answer_ends c r file written.old written.new (answer file e), reports_line (status_of r) result (line_of c r) told.old told.new t.reported t.whole t.cut_short);
+  read = λ e. h.read (status_is_read r (status_told (status_of r) result 2 t.reported e (omega arith)));
+  write = λ e. h.write (status_is_write r (status_told (status_of r) result 3 t.reported e (omega arith)));
+  reported = t.cause;
+  sure_sink = λ file e o is n room fits three. h.sure (status_is_write r (status_told (status_of r) result 3 t.reported three (omega arith))) file e o is n room fits;
+  sure_report = λ file e o is no_read no_write n room least fits seven.
+      t.sure seven n room (line_fits c r file written.old written.new o n reads (are file e) (answer file e) is (λ q. no_read (h.read q)) (λ q. no_write (h.write q)) least fits);
+  memory = λ e. h.memory (status_is_memory r (status_told (status_of r) result 4 t.reported e (omega arith)));
+  file_refused = λ e. let f = status_is_file r (status_told (status_of r) result 5 t.reported e (omega arith)) in h.untouched f.0 f.1;
+  idle = h.idle;
+  by_index = h.by_index;
+  any_source = h.any_source;
+  least_status = λ e. status_is_not_words r (status_told (status_of r) result 1 t.reported e (omega arith));
+  most_status = most t.reported;
+}
+  where
+    most : (result ≡ status_of r) ⊎ (result ≡ 7) → result ≤ 7
+    most (inl e) = let below = status_is_below r h.no_report in omega arith
+    most (inr e) = omega arith
+
+-- a run of one command is a run of the same one
+pub same_run : {a c : Command} {result : ℕ} {bytes : Option (List ℕ)} {source sink counts given : Counts} {written told : Held} {Same : Type 0} → a ≡ c → IsRun c result bytes source sink counts given written told Same → IsRun a result bytes source sink counts given written told Same
+same_run {a} {c} {result} {bytes} {source} {sink} {counts} {given} {written} {told} {Same} e h = subst (λ c. IsRun c result bytes source sink counts given written told Same) (sym e) h
+
+pub decoding_is_no_frame : (workers k : ℕ) → decode workers ≡ frame k true → ⊥
+decoding_is_no_frame workers k e = absurd cc
+
+pub checking_is_no_frame : (workers k : ℕ) → check workers ≡ frame k true → ⊥
+checking_is_no_frame workers k e = absurd cc
+
+pub showing_is_no_frame : (k : ℕ) → show ≡ frame k true → ⊥
+showing_is_no_frame k e = absurd cc
+
+pub showing_one_is_no_frame : (j k : ℕ) → show_frame j ≡ frame k true → ⊥
+showing_one_is_no_frame j k e = absurd cc
+
+pub listing_is_no_frame : (k : ℕ) → index ≡ frame k true → ⊥
+listing_is_no_frame k e = absurd cc
+
+-- what a command that writes nowhere answers of the sink
+pub nothing_added : (old : Option (List ℕ)) → old ≡ and_then old []
+nothing_added old = sym (and_then-nothing old)
+
+pub nothing_cut : (old : Option (List ℕ)) (bytes : List ℕ) → IsCutShort old bytes old
+nothing_cut old bytes = record { kept = 0; within = omega arith; written = nothing_added old }
+
+-- a finished command that writes nothing
+pub finished_alone : (c : Command) (r : Result Summary ToolFault) (old : Option (List ℕ)) (file : List ℕ) → IfOk r (λ s. OutcomeOf c file (done [] (done_line c s ∷ []))) → IfOk r (λ s. (out : List ℕ) × OutcomeOf c file (done out (done_line c s ∷ [])) × (old ≡ and_then old out))
+finished_alone c (Ok s) old file h = ([], h, nothing_added old)
+finished_alone c (Err fault) old file h = tt {0}
+
+pub not_both_faults : (r : Result Summary ToolFault) (a b : ToolFault) → r ≡ Err a → r ≡ Err b → a ≡ b
+not_both_faults r a b e f = same (sym e ∙ f)
+  where
+    same : ◌≡◌ {A = Result Summary ToolFault} (Err a) (Err b) → a ≡ b
+    same h = cc
+
+-- where the source failed nothing is written; where the sink did, a prefix
+pub cut_or_nothing : (c : Command) (r : Result Summary ToolFault) (file : List ℕ) (old new : Option (List ℕ)) → One (OutcomeOf c file) → (r ≡ Err Read → new ≡ old) → (r ≡ Err Write → (o : Answer) × OutcomeOf c file o × IsCutShort old o.out new) →
+    (r ≡ Err Read) ⊎ (r ≡ Err Write) → (o : Answer) × OutcomeOf c file o × IsCutShort old o.out new
+cut_or_nothing c r file old new one nothing cut (inl e) = (one.0, one.1, subst (λ w. IsCutShort old one.0.out w) (sym (nothing e)) (nothing_cut old one.0.out))
+cut_or_nothing c r file old new one nothing cut (inr e) = cut e
+
+-- ---- bytes of the source that one frame takes
+pub few_given : (now before size : ℕ) → now ≤ before + 208974 + 2 * size → now ≤ before + most_given size
+few_given now before size h = omega arith
+
+pub most_for_any : (now before : ℕ) → now ≤ before + 208974 + 225792 → now ≤ before + most_given longest_sound
+most_for_any now before h = omega arith

@@ -1,0 +1,148 @@
+// Frames that several workers decode and check.
+use super::files::{SILENT, chunk, coded, frame, odd_plain, one_frame, two_frames, with_bytes};
+use crate::{Summary, ToolFault, check_file, decode_file};
+use dsdiff_spec::FileFault;
+use dst_spec::{FrameFault, Reason};
+use dst_streams::{HonestSource, MemorySink};
+use frame_crew::{Gate, OpenGate};
+use std::alloc::{AllocError, Global};
+use std::sync::atomic::{AtomicBool, Ordering};
+use std::test::Fail;
+use std::thread::Threads;
+
+// Holds the first job until the second has passed.
+#[derive(Drop)]
+struct Holding {
+    second: AtomicBool,
+    ran_out: AtomicBool,
+}
+
+impl Holding {
+    fn new() -> Holding {
+        Holding {
+            second: AtomicBool::new(false),
+            ran_out: AtomicBool::new(false),
+        }
+    }
+}
+
+impl Gate for Holding {
+    fn pass(&self, place: usize) {
+        if place == 1 {
+            self.second.store(true, Ordering::SeqCst);
+            return;
+        }
+        for _ in 0..100_000_000u64 {
+            if self.second.load(Ordering::SeqCst) {
+                return;
+            }
+        }
+        self.ran_out.store(true, Ordering::SeqCst);
+    }
+}
+
+#[test]
+fn two_frames_are_decoded_and_checked_at_once(rt: HostRuntime) -> Result<(), Fail> {
+    let alloc = rt.alloc();
+    let file = two_frames(alloc)?;
+    let whole = odd_plain(alloc)?;
+    let gate = Holding::new();
+    let mut source = HonestSource::new(&file);
+    let mut sink = MemorySink::new(alloc, 10_000, &[])?;
+    let decoded = decode_file(&rt, alloc, &mut source, &mut sink, 2, &gate);
+    let summary = Summary {
+        frames: 2,
+        bytes: 4705,
+        unread: 0,
+    };
+    assert_eq!(rt; decoded, Ok(summary));
+    assert!(rt; sink.written() == whole.as_slice());
+    assert!(rt; !gate.ran_out.load(Ordering::SeqCst));
+    let gate = Holding::new();
+    let checked = check_file(&rt, alloc, &mut source, 2, &gate);
+    assert_eq!(rt;
+        checked,
+        Ok(Summary {
+            bytes: 0,
+            ..summary
+        })
+    );
+    assert!(rt; !gate.ran_out.load(Ordering::SeqCst));
+    Ok(())
+}
+
+const STUFFING: FrameFault = FrameFault {
+    reason: Reason::PlainStuffing,
+    bit: 2,
+};
+
+#[test]
+fn the_earlier_of_two_refused_frames_is_told(rt: HostRuntime) -> Result<(), Fail> {
+    let alloc = rt.alloc();
+    let file = two_frames(alloc)?;
+    let whole = odd_plain(alloc)?;
+    assert_eq!(rt; whole.len(), 4832);
+    // The first bytes of each frame, how much is written, and the frame that is told.
+    let cases: [(&[u8], &[u8], usize, u32); 2] = [
+        (b"\x01", b"\xfc\0\0\x05\xff\xfc", 126, 0),
+        (b"\0", b"\x01", 4830, 1),
+    ];
+    for (first, second, written, frame) in &cases {
+        let file = with_bytes(alloc, &file, 152, first)?;
+        let file = with_bytes(alloc, &file, 4870, second)?;
+        let refused = Err(ToolFault::Frame {
+            frame: *frame,
+            fault: STUFFING,
+        });
+        let mut source = HonestSource::new(&file);
+        let mut sink = MemorySink::new(alloc, 10_000, &[])?;
+        let decoded = decode_file(&rt, alloc, &mut source, &mut sink, 2, &OpenGate);
+        assert_eq!(rt; decoded, refused);
+        let written = (*written).min(whole.len());
+        assert!(rt; sink.written() == &whole[..written], "frame {frame}");
+        assert_eq!(rt; check_file(&rt, alloc, &mut source, 2, &OpenGate), refused);
+    }
+    Ok(())
+}
+
+fn check<R: Threads + Sync>(rt: &R, alloc: Global, file: &[u8]) -> Result<(u32, u64), ToolFault> {
+    let mut source = HonestSource::new(file);
+    match check_file(rt, alloc, &mut source, 1, &OpenGate) {
+        Ok(summary) => Ok((summary.frames, summary.unread)),
+        Err(fault) => Err(fault),
+    }
+}
+
+// A coded file of one frame, with an index of these bytes.
+fn indexed(alloc: Global, entries: &[u8]) -> Result<Vec<u8>, AllocError> {
+    let frame = frame(alloc, &[b"\xfc\0\0\x05\xff\xf8"])?;
+    let index = chunk(alloc, b"DSTI", &[entries], 0)?;
+    coded(alloc, 1, &[&frame], &index)
+}
+
+#[test]
+fn a_file_is_checked_by_its_index_and_its_frames(rt: HostRuntime) -> Result<(), Fail> {
+    let alloc = rt.alloc();
+    let sound = [0x69u8; 4704];
+    let longer = one_frame(alloc, &[b"\0", &sound, &[1, 2, 3]])?;
+    let two = two_frames(alloc)?;
+    let second_off = with_bytes(alloc, &two, 9607, b"\x07")?;
+    let both_off = with_bytes(alloc, &second_off, 9595, b"\x99")?;
+    let right = indexed(alloc, b"\0\0\0\0\0\0\0\x98\0\0\0\x06")?;
+    let missing = indexed(alloc, b"")?;
+    let bad = |entry: u32| Err(ToolFault::File(FileFault::IndexBad { entry }));
+    let cases: [(&[u8], Result<(u32, u64), ToolFault>); 7] = [
+        (SILENT, Ok((0, 0))),
+        (&longer, Ok((1, 3))),
+        (&two, Ok((2, 0))),
+        (&second_off, bad(1)),
+        (&both_off, bad(0)),
+        (&right, Ok((1, 0))),
+        (&missing, bad(1)),
+    ];
+    for (file, wanted) in &cases {
+        let bytes = file.len();
+        assert_eq!(rt; check(&rt, alloc, file), *wanted, "{bytes} bytes");
+    }
+    Ok(())
+}
