@@ -48,9 +48,10 @@ pub(crate) fn narrow(range: u64, symbol: bool, p: u64, entry: Entry) -> Part
     let high = range - scale * p;
     let part = select(symbol, high, scale * entry.scaled);
     let short = part < 2048;
+    let last = u64::from(short);
     Part {
         start: select(symbol, 0, high),
         range: part + select(short, part, 0),
-        doublings: select(symbol, 0, entry.shift) + u64::from(short),
+        doublings: select(symbol, last, entry.shift + last),
     }
 }
