@@ -15,7 +15,7 @@ first_value kept next = bit_or (kept * 4503599627370496 % 18446744073709551616) 
 
 pub record IsBegun (bytes : List ℕ) (first value : ℕ) : Type 0 where
   pub used_is : first + 45 + trailing_zeros w64 value - 51 - first ≡ 13
-  pub registers : AreRegisters bytes first (first + 45 + trailing_zeros w64 value - 51 - first) (first + 45) value 18442240474082181120
+  pub registers : AreRegisters bytes first (first + 45 + trailing_zeros w64 value - 51 - first) (first + 45) value 4095
   pub stands : StandsFor (record { bytes = bytes; first = first; range = 4095; kept = value / 2 ^ 52; used = first + 45 + trailing_zeros w64 value - 51 - first }) []
 
 pub begun : (bytes : List ℕ) (first kept next : ℕ) → length bytes ≤ 2 ^ 50 → first < 2 ^ 61 → kept ≡ number_from (bits bytes) (first + 1) 12 → (kept ≡ 4095 → ⊥) →
@@ -47,7 +47,7 @@ begun bytes first kept next short early kept_is other next_is =
         early = early;
         near = omega arith;
         some = omega arith;
-        in_range = record { whole = refl; least = omega arith; most = omega arith };
+        in_range = record { least = omega arith; most = omega arith };
         below = omega (arith, kept_again);
         holds = rw kept_again holds;
       });

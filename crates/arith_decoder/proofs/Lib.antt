@@ -1,5 +1,4 @@
 pub mod Begun
-pub mod Entries
 pub mod Faults
 pub mod Masks
 pub mod Ready
@@ -7,3 +6,4 @@ pub mod Registers
 pub mod Standing
 pub mod Stepping
 pub mod Steps
+pub mod Tables

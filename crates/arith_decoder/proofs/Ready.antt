@@ -1,5 +1,5 @@
 -- A decoder's fields before a symbol, refilled where that is needed, and behind it.
-use Rattle.std.proofs.Common.{◌≡◌, ℕ, ◌+◌, ◌-◌, ◌/◌, ◌%◌, ◌^◌, ◌<◌, ◌≤◌, Bool, List, [], ◌∷◌, ◌++◌, length, arith}
+use Rattle.std.proofs.Common.{◌≡◌, ℕ, ◌+◌, ◌-◌, ◌*◌, ◌/◌, ◌%◌, ◌^◌, ◌<◌, ◌≤◌, Bool, List, [], ◌∷◌, ◌++◌, length, arith}
 use Rattle.std.specs.Int.{trailing_zeros, w64}
 use Rattle.dst_spec.specs.Bits.{bits}
 use Rattle.dst_spec.proofs.Numbers.{AreBits-bits}
@@ -11,7 +11,7 @@ use Rattle.arith_decoder.proofs.Stepping.{stepped, decoding}
 
 -- the registers hold enough bits for a symbol
 pub record IsReady (bytes : List ℕ) (first used place value range : ℕ) : Type 0 where
-  pub below : value < range
+  pub below : value < range * 2 ^ 52
   pub holds : IsValue (bits bytes) (first + used) place (value / 2 ^ 52) value
   pub enough : 8 ≤ holds.ahead
 
@@ -30,8 +30,7 @@ ready_refilled bytes first used place value range more r v =
     let was = r.holds.reach in
     let were = r.holds.full in
     let below = r.below in
-    let whole = r.in_range in
-    (kept, record { below = omega (arith, whole.whole); holds = rw kept v; enough = omega arith })
+    (kept, record { below = omega arith; holds = rw kept v; enough = omega arith })
 
 -- behind a symbol
 pub record IsBehind (bytes : List ℕ) (first used place : ℕ) (before after : Decoding) (p : ℕ) (symbol : Bool) (value range : ℕ) : Type 0 where
@@ -45,7 +44,7 @@ pub behind : (bytes : List ℕ) (first used place value range p : ℕ) (symbol :
     length bytes ≤ 2 ^ 50 → first < 2 ^ 61 → 13 ≤ used → used ≤ 2 ^ 40 → value_after < 18446744073709551616 → IsRange range → IsReady bytes first used place value range →
     IsStep p value range symbol value_after range_after →
     IsBehind bytes first used place (decoding bytes first range value used)
-    (record { bytes = bytes; first = first; range = range_after / 2 ^ 52; kept = value_after / 2 ^ 52; used = place + trailing_zeros w64 value_after - 51 - first })
+    (record { bytes = bytes; first = first; range = range_after; kept = value_after / 2 ^ 52; used = place + trailing_zeros w64 value_after - 51 - first })
     p symbol value_after range_after
 behind bytes first used place value range p symbol value_after range_after short early some small fits in_range r s =
     let t = stepped bytes first used place value range p symbol value_after range_after in_range r.holds r.enough s in

@@ -1,8 +1,7 @@
--- What the registers of a decoder hold. A number and a range of twelve bits stand in the highest bits of their registers.
-use Rattle.std.specs.Prelude.{◌≡◌, ℕ, ◌+◌, ◌-◌, ◌*◌, ◌/◌, ◌%◌, ◌^◌, ◌<◌, ◌≤◌, Bool, if◌then◌else◌, nat_lt, List, length, get_or}
+-- What the registers of a decoder hold. The kept number stands in the twelve highest bits of its register.
+use Rattle.std.specs.Prelude.{◌≡◌, ℕ, ◌+◌, ◌-◌, ◌*◌, ◌/◌, ◌%◌, ◌^◌, ◌<◌, ◌≤◌, Bool, if◌then◌else◌, nat_lt, List, [], length, get_or}
 use Rattle.dst_spec.specs.Bits.{bits, number_from}
 use Rattle.dst_spec.specs.Interval.{scale}
-use Rattle.arith_decoder.specs.declared.entry.Entry.{Entry}
 
 -- The value: the kept number, the next bits of the code, which begin at a place, a bit 1, and zeros.
 pub record IsValue (xs : List ℕ) (start place kept value : ℕ) : Type 0 where
@@ -12,48 +11,66 @@ pub record IsValue (xs : List ℕ) (start place kept value : ℕ) : Type 0 where
   pub reach : start + ahead ≡ place
   pub is : value ≡ kept * 2 ^ 52 + (2 * number_from xs start ahead + 1) * 2 ^ zeros
 
--- the range
-pub record IsRange (range : ℕ) : Type 0 where
-  pub whole : range % 2 ^ 52 ≡ 0
-  pub least : 2048 ≤ range / 2 ^ 52
-  pub most : range / 2 ^ 52 ≤ 4095
+-- A doubling can be due: where the range is below 2048, it and the value are doubled before the next symbol.
+abbrev pub due : ℕ → ℕ → ℕ
+due range x = if nat_lt range 2048 then (2 * x) else x
 
--- all registers of a decoder that has used some bits of its code, which begins at a place
+-- a range with no doubling due
+pub record IsRange (range : ℕ) : Type 0 where
+  pub least : 2048 ≤ range
+  pub most : range ≤ 4095
+
+-- all registers, with no doubling due, of a decoder that has used some bits of its code, which begins at a place
 pub record AreRegisters (bytes : List ℕ) (first used place value range : ℕ) : Type 0 where
   pub short : length bytes ≤ 2 ^ 50
   pub early : first < 2 ^ 61
   pub near : place < 2 ^ 62
   pub some : 13 ≤ used
   pub in_range : IsRange range
-  pub below : value < range
+  pub below : value < range * 2 ^ 52
   pub holds : IsValue (bits bytes) (first + used) place (value / 2 ^ 52) value
 
--- what a symbol of a probability needs: the probability, also times the power of 2 with which it has eight bits
-pub record IsEntry (p : ℕ) (e : Entry) : Type 0 where
-  pub part : e.part ≡ p * 2 ^ 52
-  pub scaled : e.scaled ≡ p * e.factor * 2 ^ 52
-  pub shift : ℕ
-  pub power : e.factor ≡ 2 ^ shift
-  pub few : shift ≤ 7
-  pub least : 128 ≤ p * e.factor
-  pub most : p * e.factor < 256
+-- the scale of the ranges that have the same six highest bits, doubled where that is due
+abbrev pub scale_at : ℕ → ℕ
+scale_at six = scale (due (64 * six) (64 * six))
 
-abbrev pub no_entry : Entry
-no_entry = record { part = 0; scaled = 0; factor = 0 }
+abbrev pub AreScales : List ℕ → Type 0
+AreScales scales = (six : ℕ) → 16 ≤ six → six < 64 → get_or scales six 0 ≡ scale_at six
+
+-- the parts of symbol 0 of a probability
+abbrev pub IsRow : ℕ → List ℕ → Type 0
+IsRow p row = (six : ℕ) → 16 ≤ six → six < 64 → get_or row six 0 ≡ scale_at six * p
+
+-- the rows of all probabilities, that of 128 in front of the others
+abbrev pub AreParts : List (List ℕ) → Type 0
+AreParts parts = (p : ℕ) → 1 ≤ p → p ≤ 128 → IsRow p (get_or parts (p % 128) [])
+
+-- a power of 2 with which a probability has eight bits
+pub record IsFactor (p factor : ℕ) : Type 0 where
+  pub shift : ℕ
+  pub power : factor ≡ 2 ^ shift
+  pub few : shift ≤ 7
+  pub least : 128 ≤ p * factor
+  pub most : p * factor < 256
+
+-- the factors of all probabilities, that of 128 in front of the others
+abbrev pub AreFactors : List ℕ → Type 0
+AreFactors factors = (p : ℕ) → 1 ≤ p → p ≤ 128 → IsFactor p (get_or factors (p % 128) 0)
+
+-- what a symbol of a probability needs for a range
+pub record IsCut (p range part factor : ℕ) : Type 0 where
+  pub part_is : part ≡ scale range * p
+  pub factor_is : IsFactor p factor
 
 -- One symbol: the value and the range become those of its part, doubled until the range is at least half of what fits.
 abbrev pub high_end : ℕ → ℕ → ℕ
-high_end range p = range - scale (range / 2 ^ 52) * p * 2 ^ 52
+high_end range p = range - scale range * p
 
 pub record IsStep (p value range : ℕ) (symbol : Bool) (value_after range_after : ℕ) : Type 0 where
-  pub chosen : symbol ≡ nat_lt value (high_end range p)
+  pub chosen : symbol ≡ nat_lt (value / 2 ^ 52) (high_end range p)
   pub doublings : ℕ
   pub few : doublings ≤ 8
-  pub value_is : value_after ≡ (if symbol then value else (value - high_end range p)) * 2 ^ doublings
-  pub range_is : range_after ≡ (if symbol then high_end range p else (scale (range / 2 ^ 52) * p * 2 ^ 52)) * 2 ^ doublings
+  pub value_is : value_after ≡ (if symbol then value else (value - high_end range p * 2 ^ 52)) * 2 ^ doublings
+  pub range_is : range_after ≡ (if symbol then high_end range p else (scale range * p)) * 2 ^ doublings
   pub after : IsRange range_after
-  pub below : value_after < range_after
-
--- the entries of all probabilities, that of 128 in front of the others
-abbrev pub AreEntries : List Entry → Type 0
-AreEntries entries = (p : ℕ) → 1 ≤ p → p ≤ 128 → IsEntry p (get_or entries (p % 128) no_entry)
+  pub below : value_after < range_after * 2 ^ 52

@@ -5,8 +5,8 @@ ghost use Rattle.dst_spec.specs.Fields.{read};
 ghost use Rattle.arith_decoder.specs.Decoding.{StandsFor, IsCodeFault, code_fields};
 ghost use Rattle.arith_decoder.specs.Registers.{IsValue};
 
-use crate::entry::{Entry, entries};
-use crate::step::step;
+use crate::parts::{factors, parts};
+use crate::step::{doubled, step};
 use bit_io::{BitReader, BitSlice};
 use dst_num::{FrameFault, Prob, Reason};
 use std::marker::Model;
@@ -20,31 +20,34 @@ pub struct ArithDecoder<'a> {
     place: u64,
     // the kept number in the twelve highest bits, the next bits of the code, a bit 1
     value: u64,
-    // the range in the twelve highest bits
+    // a range below 2048 and its value are doubled ahead of the next symbol
     range: u64,
-    entries: [Entry; 128],
+    parts: [[u16; 64]; 128],
+    factors: [u16; 128],
 }
 
 impl<'a> Model for ArithDecoder<'a> {
     ghost use Rattle.std.specs.Prelude.{◌+◌, ◌-◌, ◌/◌, ◌^◌, ◌≤◌, ◌<◌, length};
     ghost use Rattle.std.specs.Int.{trailing_zeros, w64};
     ghost use Rattle.arith_decoder.specs.Decoding.{Decoding};
+    ghost use Rattle.arith_decoder.specs.Registers.{due};
 
     ghost Value = { Decoding };
 
     ghost view = { λ d. record {
       bytes = d.bytes.now;
       first = d.first;
-      range = d.range / 2 ^ 52;
-      kept = d.value / 2 ^ 52;
-      used = d.place + trailing_zeros w64 d.value - 51 - d.first;
+      range = due d.range d.range;
+      kept = due d.range d.value / 2 ^ 52;
+      used = d.place + trailing_zeros w64 (due d.range d.value) - 51 - d.first;
     } };
 
-    ghost use Rattle.arith_decoder.specs.Registers.{AreRegisters, AreEntries};
+    ghost use Rattle.arith_decoder.specs.Registers.{AreRegisters, AreParts, AreFactors};
 
     ghost invariant = { λ d. record {
-      registers : AreRegisters d.bytes.now d.first (d.place + trailing_zeros w64 d.value - 51 - d.first) d.place d.value d.range;
-      entries : AreEntries d.entries;
+      registers : AreRegisters d.bytes.now d.first (d.place + trailing_zeros w64 (due d.range d.value) - 51 - d.first) d.place (due d.range d.value) (due d.range d.range);
+      parts : AreParts d.parts;
+      factors : AreFactors d.factors;
     } };
 }
 
@@ -103,8 +106,9 @@ impl<'a> ArithDecoder<'a> {
             first: code.first,
             place: code.first + 45,
             value: kept << 52 | (2 * next + 1) << 19,
-            range: 4095 << 52,
-            entries: entries(),
+            range: 4095,
+            parts: parts(),
+            factors: factors(),
         })
     }
 
@@ -119,12 +123,15 @@ impl<'a> ArithDecoder<'a> {
         ensures least { 1 ≤ p }
         ensures most { p ≤ 128 }
     {
-        if self.value % (1 << 32) == 0 {
-            self.value = refilled(self.bytes, self.place, self.value);
+        let row = (p.value() % 128) as usize;
+        let part = u64::from(self.parts[row][(self.range >> 6) as usize]);
+        let factor = u64::from(self.factors[row]);
+        let (mut value, range) = doubled(self.value, self.range);
+        if value % (1 << 32) == 0 {
+            value = refilled(self.bytes, self.place, value);
             self.place += 32;
         }
-        let entry = self.entries[(p.value() % 128) as usize];
-        let (value, range, symbol) = step(self.value, self.range, entry);
+        let (value, range, symbol) = step(value, range, part, factor);
         self.value = value;
         self.range = range;
         symbol
@@ -134,6 +141,7 @@ impl<'a> ArithDecoder<'a> {
     pub fn used(&self) -> u64
         ensures used { result ≡ self.now.used }
     {
-        self.place + u64::from(self.value.trailing_zeros()) - 51 - self.first
+        let (value, _) = doubled(self.value, self.range);
+        self.place + u64::from(value.trailing_zeros()) - 51 - self.first
     }
 }

@@ -1,20 +1,6 @@
 // One symbol, without a branch.
-ghost use Rattle.std.specs.Prelude.{◌≡◌, ◌+◌, ◌*◌, ◌/◌, ◌%◌, ◌^◌, ◌<◌, ◌≤◌, ℕ, if◌then◌else◌};
-ghost use Rattle.dst_spec.specs.Interval.{scale as scale_of};
-ghost use Rattle.arith_decoder.specs.Registers.{IsRange, IsEntry, IsStep};
-
-use crate::entry::Entry;
-
-// The scale of the range in the twelve highest bits.
-#[inline(always)]
-fn scale(range: u64) -> u64
-    requires { IsRange range }
-    ensures scale { result ≡ scale_of (range / 2 ^ 52) }
-    ensures least { 8 ≤ result }
-    ensures most { result ≤ 15 }
-{
-    range >> 60 | range >> 59 & 1
-}
+ghost use Rattle.std.specs.Prelude.{◌≡◌, ◌+◌, ◌*◌, ◌/◌, ◌^◌, ◌<◌, ◌≤◌, ℕ, if◌then◌else◌};
+ghost use Rattle.arith_decoder.specs.Registers.{IsRange, IsCut, IsStep, due};
 
 // The first of two numbers where the test is true, by a mask.
 #[inline(always)]
@@ -25,23 +11,33 @@ fn select(test: bool, first: u64, second: u64) -> u64
     second ^ ((second ^ first) & ones)
 }
 
-// The registers after a symbol of a probability, and the symbol. A range is doubled once at most behind the entry's factor.
+// The value and the range, doubled where that is due.
 #[inline(always)]
-pub(crate) fn step(value: u64, range: u64, entry: Entry) -> (u64, u64, bool)
-    requires range { IsRange range }
-    requires below { value < range }
-    requires entry { (p : ℕ) × (1 ≤ p) × (p ≤ 128) × IsEntry p entry }
-    ensures { (p : ℕ) → IsEntry p entry → IsStep p value range result.2 result.0 result.1 }
+pub(crate) fn doubled(value: u64, range: u64) -> (u64, u64)
+    requires most { range ≤ 4095 }
+    requires fits { due range value < 2 ^ 64 }
+    ensures value { result.0 ≡ due range value }
+    ensures range { result.1 ≡ due range range }
 {
-    let scale = scale(range);
-    let high = range - scale * entry.part;
-    let symbol = value < high;
-    let range = select(symbol, high, scale * entry.scaled);
-    let value = (value - select(symbol, 0, high)) * select(symbol, 1, entry.factor);
-    let short = range < 1 << 63;
+    let times = 2 - (range >> 11);
+    (value * times, range * times)
+}
+
+// The registers after a symbol, and the symbol, from its part of the range. One doubling at most is due then.
+#[inline(always)]
+pub(crate) fn step(value: u64, range: u64, part: u64, factor: u64) -> (u64, u64, bool)
+    requires range { IsRange range }
+    requires below { value < range * 2 ^ 52 }
+    requires cut { (p : ℕ) × (1 ≤ p) × (p ≤ 128) × IsCut p range part factor }
+    ensures { (p : ℕ) → 1 ≤ p → p ≤ 128 → IsCut p range part factor
+        → IsStep p value range result.2 (due result.1 result.0) (due result.1 result.1) }
+{
+    let high = range - part;
+    let symbol = value >> 52 < high;
+    let rest = value.wrapping_sub(high << 52).wrapping_mul(factor);
     (
-        value + select(short, value, 0),
-        range + select(short, range, 0),
+        select(symbol, value, rest),
+        select(symbol, high, part * factor),
         symbol,
     )
 }

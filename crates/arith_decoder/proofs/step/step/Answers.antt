@@ -1,27 +1,29 @@
-use Rattle.std.proofs.Common.{◌-◌, ◌*◌, refl, ap₂, arith}
-use Rattle.arith_decoder.proofs.Steps.{step_is, product_fits, step_fits, same_prob}
+use Rattle.std.proofs.Common.{◌≡◌, ◌∙◌, ◌+◌, ◌-◌, ◌*◌, ◌/◌, ◌%◌, ◌^◌, ◌≤◌, Bool, true, false, nat_lt, if◌then◌else◌, refl, arith}
+use Rattle.arith_decoder.proofs.Steps.{before, above_high, product_fits, wrapped, step_is, value_behind}
 use Rattle.arith_decoder.proofs.step.step.Goals as goal
 
-pub overflow_mul-value : goal.overflow_mul-value
-overflow_mul-value c =
-    let n = c.requires.entry in
-    let fits = product_fits n.0 c.args.value c.args.range c.args.entry c.scale-scale.result n.1 n.2 c.requires.range c.requires.below n.3 c.scale-scale.ensures.scale _ refl in
-    rw (c.select.ensures, c.select-2.ensures) (omega (arith, fits))
+pub overflow_sub-high : goal.overflow_sub-high
+overflow_sub-high c =
+    let n = c.requires.cut in
+    let b = before n.0 c.args.value c.args.range c.args.part c.args.factor n.2 c.requires.range n.3 in
+    omega (arith, b.small)
 
-pub overflow_add-result : goal.overflow_add-result
-overflow_add-result c =
-    let n = c.requires.entry in
-    let y = (c.args.value - c.select.result) * c.select-2.result in
-    let is = step_is n.0 c.args.value c.args.range c.args.entry c.scale-scale.result n.1 n.2 c.requires.range c.requires.below n.3 c.scale-scale.ensures.scale _ refl
-    c.select-range.result y c.select-range.ensures (ap₂ (λ a b. (c.args.value - a) * b) c.select.ensures c.select-2.ensures) _ refl in
-    let fits = step_fits n.0 c.args.value c.args.range _ _ _ is in
-    rw c.select-3.ensures (omega (arith, fits))
+pub overflow_mul-part : goal.overflow_mul-part
+overflow_mul-part c =
+    let n = c.requires.cut in
+    let b = before n.0 c.args.value c.args.range c.args.part c.args.factor n.2 c.requires.range n.3 in
+    omega (arith, b.most)
 
 pub returns : goal.returns
-returns c p n =
-    let lawful = c.requires.entry in
-    let y = (c.args.value - c.select.result) * c.select-2.result in
-    let same = same_prob p lawful.0 c.args.entry n lawful.3 in
-    let is = step_is lawful.0 c.args.value c.args.range c.args.entry c.scale-scale.result lawful.1 lawful.2 c.requires.range c.requires.below lawful.3 c.scale-scale.ensures.scale _ refl
-    c.select-range.result y c.select-range.ensures (ap₂ (λ a b. (c.args.value - a) * b) c.select.ensures c.select-2.ensures) _ refl in
-    rw (same, c.select-3.ensures, c.select-4.ensures) is
+returns c p least most n =
+    let high = c.args.range - c.args.part in
+    let small : high ≤ 4095 = omega (arith, c.requires.range.most) in
+    let shifted : high * 4503599627370496 % 18446744073709551616 ≡ high * 4503599627370496 = omega arith in
+    step_is p c.args.value c.args.range c.args.part c.args.factor most c.requires.range c.requires.below n (nat_lt (c.args.value / 2 ^ 52) high) refl
+    c.select.result c.select-2.result (c.select.ensures ∙ rw shifted (behind _ refl)) c.select-2.ensures
+  where
+    behind : (e : Bool) → nat_lt (c.args.value / 2 ^ 52) (c.args.range - c.args.part) ≡ e →
+        (if e then c.args.value else ((c.args.value + (18446744073709551616 - (c.args.range - c.args.part) * 4503599627370496)) % 18446744073709551616 * c.args.factor % 18446744073709551616)) ≡ value_behind e c.args.value (c.args.range - c.args.part) c.args.factor
+    behind true is = refl
+    behind false is = wrapped c.args.value ((c.args.range - c.args.part) * 2 ^ 52) c.args.factor c.ranges.value.fits (above_high c.args.value (c.args.range - c.args.part) is)
+        (product_fits p c.args.value c.args.range c.args.part c.args.factor most c.requires.range c.requires.below n is)
