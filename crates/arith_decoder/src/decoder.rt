@@ -52,8 +52,7 @@ impl<'a> Model for ArithDecoder<'a> {
 }
 
 // The value with 32 more bits of the code behind its last, in place of the bit 1 there and zeros.
-#[cold]
-#[inline(never)]
+#[inline(always)]
 fn refilled(bytes: &[u8], place: u64, value: u64) -> u64
     requires short { length bytes.now ≤ 2 ^ 50 }
     requires early { place < 2 ^ 62 }
@@ -123,14 +122,15 @@ impl<'a> ArithDecoder<'a> {
         ensures least { 1 ≤ p }
         ensures most { p ≤ 128 }
     {
-        let row = (p.value() % 128) as usize;
-        let part = u64::from(self.parts[row][(self.range >> 6) as usize]);
-        let factor = u64::from(self.factors[row]);
+        let six = (self.range >> 6) as usize;
         let (mut value, range) = doubled(self.value, self.range);
         if value % (1 << 32) == 0 {
             value = refilled(self.bytes, self.place, value);
             self.place += 32;
         }
+        let row = (p.value() % 128) as usize;
+        let part = u64::from(self.parts[row][six]);
+        let factor = u64::from(self.factors[row]);
         let (value, range, symbol) = step(value, range, part, factor);
         self.value = value;
         self.range = range;

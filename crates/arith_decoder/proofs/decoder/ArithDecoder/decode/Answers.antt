@@ -70,12 +70,12 @@ made i j filled p symbol value range r f small s =
       used = omega arith;
     })
 
-cut_at : (i : Inside) (p q : ℕ) → AreParts i.parts → AreFactors i.factors → q ≡ p → 1 ≤ p → p ≤ 128 → IsRange (range_of i) → (part factor : ℕ) →
-    part ≡ get_or (get_or i.parts (q % 128) []) (i.range / 64) 0 → factor ≡ get_or i.factors (q % 128) 0 → IsCut p (range_of i) part factor
-cut_at i p q parts factors same h k r part factor part_is factor_is =
+cut_at : (i j : Inside) (value p q : ℕ) → AreParts i.parts → AreFactors i.factors → IsFilled i j value → q ≡ p → 1 ≤ p → p ≤ 128 → IsRange (range_of i) → (part factor : ℕ) →
+    part ≡ get_or (get_or j.parts (q % 128) []) (i.range / 64) 0 → factor ≡ get_or j.factors (q % 128) 0 → IsCut p (range_of i) part factor
+cut_at i j value p q parts factors f same h k r part factor part_is factor_is =
     let bounds = bounds_of i.range r in
     let scale_is = scale_of_range i.range in
-    rw (part_is, factor_is, same) (record {
+    rw (part_is, factor_is, same, f.parts, f.factors) (record {
       part_is = parts p h k (i.range / 64) (omega (arith, bounds.0)) (omega (arith, bounds.1)) ∙ ap (λ s. s * p) (sym scale_is);
       factor_is = factors p h k;
     })
@@ -94,8 +94,13 @@ step-value-requires-clause-below c =
 pub step-value-requires-clause-cut : goal.step-value-requires-clause-cut
 step-value-requires-clause-cut c =
     let i = c.self.inside in
+    let j = c.if-value-eq0.self-inside in
     let r = c.self.invariant.registers in
-    let cut = cut_at i c.args.p c.value.result c.self.invariant.parts c.self.invariant.factors c.value.ensures.value c.value.ensures.least c.value.ensures.most r.in_range c.from-part.result c.from-factor.result c.from-part.ensures c.from-factor.ensures in
+    let f : IsFilled i j c.if-value-eq0.value = elim c.if-value-eq0.branch [
+      | then-value-eq0 w ↦ filled_up i j _ c.doubled-value.result.0 w.refilled-value.result r c.doubled-value.ensures.value w.refilled-value.ensures w.value-is w.self-inside-is
+      | else-value-eq0 w ↦ filled_before i j _ r (rw w.value-is w.if-value-eq0.false) (w.value-is ∙ c.doubled-value.ensures.value) w.self-inside-is
+    ] in
+    let cut = cut_at i j c.if-value-eq0.value c.args.p c.value.result c.self.invariant.parts c.self.invariant.factors f c.value.ensures.value c.value.ensures.least c.value.ensures.most r.in_range c.from-part.result c.from-factor.result c.from-part.ensures c.from-factor.ensures in
     (c.args.p, c.value.ensures.least, c.value.ensures.most, rw c.doubled-value.ensures.range cut)
 
 pub invariant_of-self : goal.invariant_of-self
@@ -107,7 +112,7 @@ invariant_of-self c =
       | then-value-eq0 w ↦ filled_up i j _ c.doubled-value.result.0 w.refilled-value.result r c.doubled-value.ensures.value w.refilled-value.ensures w.value-is w.self-inside-is
       | else-value-eq0 w ↦ filled_before i j _ r (rw w.value-is w.if-value-eq0.false) (w.value-is ∙ c.doubled-value.ensures.value) w.self-inside-is
     ] in
-    let cut = cut_at i c.args.p c.value.result c.self.invariant.parts c.self.invariant.factors c.value.ensures.value c.value.ensures.least c.value.ensures.most r.in_range c.from-part.result c.from-factor.result c.from-part.ensures c.from-factor.ensures in
+    let cut = cut_at i j c.if-value-eq0.value c.args.p c.value.result c.self.invariant.parts c.self.invariant.factors f c.value.ensures.value c.value.ensures.least c.value.ensures.most r.in_range c.from-part.result c.from-factor.result c.from-part.ensures c.from-factor.ensures in
     let small = rw (← c.self.view_is) at c.requires.early in
     let s = c.step-value.ensures c.args.p c.value.ensures.least c.value.ensures.most (rw c.doubled-value.ensures.range cut) in
     let m = made i j c.if-value-eq0.value c.args.p c.step-value.result.2 c.step-value.result.0 c.step-value.result.1 r f small (rw c.doubled-value.ensures.range at s) in
@@ -122,7 +127,7 @@ returns-clause-stands c =
       | then-value-eq0 w ↦ filled_up i j _ c.doubled-value.result.0 w.refilled-value.result r c.doubled-value.ensures.value w.refilled-value.ensures w.value-is w.self-inside-is
       | else-value-eq0 w ↦ filled_before i j _ r (rw w.value-is w.if-value-eq0.false) (w.value-is ∙ c.doubled-value.ensures.value) w.self-inside-is
     ] in
-    let cut = cut_at i c.args.p c.value.result c.self.invariant.parts c.self.invariant.factors c.value.ensures.value c.value.ensures.least c.value.ensures.most r.in_range c.from-part.result c.from-factor.result c.from-part.ensures c.from-factor.ensures in
+    let cut = cut_at i j c.if-value-eq0.value c.args.p c.value.result c.self.invariant.parts c.self.invariant.factors f c.value.ensures.value c.value.ensures.least c.value.ensures.most r.in_range c.from-part.result c.from-factor.result c.from-part.ensures c.from-factor.ensures in
     let small = rw (← c.self.view_is) at c.requires.early in
     let s = c.step-value.ensures c.args.p c.value.ensures.least c.value.ensures.most (rw c.doubled-value.ensures.range cut) in
     let m = made i j c.if-value-eq0.value c.args.p c.step-value.result.2 c.step-value.result.0 c.step-value.result.1 r f small (rw c.doubled-value.ensures.range at s) in
@@ -137,7 +142,7 @@ returns-clause-used c =
       | then-value-eq0 w ↦ filled_up i j _ c.doubled-value.result.0 w.refilled-value.result r c.doubled-value.ensures.value w.refilled-value.ensures w.value-is w.self-inside-is
       | else-value-eq0 w ↦ filled_before i j _ r (rw w.value-is w.if-value-eq0.false) (w.value-is ∙ c.doubled-value.ensures.value) w.self-inside-is
     ] in
-    let cut = cut_at i c.args.p c.value.result c.self.invariant.parts c.self.invariant.factors c.value.ensures.value c.value.ensures.least c.value.ensures.most r.in_range c.from-part.result c.from-factor.result c.from-part.ensures c.from-factor.ensures in
+    let cut = cut_at i j c.if-value-eq0.value c.args.p c.value.result c.self.invariant.parts c.self.invariant.factors f c.value.ensures.value c.value.ensures.least c.value.ensures.most r.in_range c.from-part.result c.from-factor.result c.from-part.ensures c.from-factor.ensures in
     let small = rw (← c.self.view_is) at c.requires.early in
     let s = c.step-value.ensures c.args.p c.value.ensures.least c.value.ensures.most (rw c.doubled-value.ensures.range cut) in
     let m = made i j c.if-value-eq0.value c.args.p c.step-value.result.2 c.step-value.result.0 c.step-value.result.1 r f small (rw c.doubled-value.ensures.range at s) in
