@@ -22,12 +22,14 @@ pub struct ArithDecoder<'a> {
     value: u64,
     // a range below 2048 and its value are doubled ahead of the next symbol
     range: u64,
+    // the six highest bits of the range, at hand for the next look-up
+    six: usize,
     parts: [[u16; 64]; 128],
     factors: [u16; 128],
 }
 
 impl<'a> Model for ArithDecoder<'a> {
-    ghost use Rattle.std.specs.Prelude.{◌+◌, ◌-◌, ◌/◌, ◌^◌, ◌≤◌, ◌<◌, length};
+    ghost use Rattle.std.specs.Prelude.{◌≡◌, ◌+◌, ◌-◌, ◌/◌, ◌^◌};
     ghost use Rattle.std.specs.Int.{trailing_zeros, w64};
     ghost use Rattle.arith_decoder.specs.Decoding.{Decoding};
     ghost use Rattle.arith_decoder.specs.Registers.{due};
@@ -46,6 +48,7 @@ impl<'a> Model for ArithDecoder<'a> {
 
     ghost invariant = { λ d. record {
       registers : AreRegisters d.bytes.now d.first (d.place + trailing_zeros w64 (due d.range d.value) - 51 - d.first) d.place (due d.range d.value) (due d.range d.range);
+      six : d.six ≡ d.range / 64;
       parts : AreParts d.parts;
       factors : AreFactors d.factors;
     } };
@@ -106,6 +109,7 @@ impl<'a> ArithDecoder<'a> {
             place: code.first + 45,
             value: kept << 52 | (2 * next + 1) << 19,
             range: 4095,
+            six: 63,
             parts: parts(),
             factors: factors(),
         })
@@ -122,18 +126,18 @@ impl<'a> ArithDecoder<'a> {
         ensures least { 1 ≤ p }
         ensures most { p ≤ 128 }
     {
-        let six = (self.range >> 6) as usize;
         let (mut value, range) = doubled(self.value, self.range);
         if value % (1 << 32) == 0 {
             value = refilled(self.bytes, self.place, value);
             self.place += 32;
         }
         let row = (p.value() % 128) as usize;
-        let part = u64::from(self.parts[row][six]);
+        let part = u64::from(self.parts[row][self.six]);
         let factor = u64::from(self.factors[row]);
         let (value, range, symbol) = step(value, range, part, factor);
         self.value = value;
         self.range = range;
+        self.six = (range >> 6) as usize;
         symbol
     }
 

@@ -26,6 +26,7 @@ RegistersOf i = AreRegisters i.bytes.now i.first (used_of i) i.place (value_of i
 record IsFilled (i j : Inside) (value : ℕ) : Type 0 where
   bytes : j.bytes ≡ i.bytes
   first : j.first ≡ i.first
+  six : j.six ≡ i.six
   parts : j.parts ≡ i.parts
   factors : j.factors ≡ i.factors
   kept : value / 2 ^ 52 ≡ value_of i / 2 ^ 52
@@ -39,18 +40,18 @@ filled_up i j value doubled more r same refill value_is is =
     let refill_here = subst Refill same refill in
     let v = refill_here (i.first + used_of i) r.holds in
     let ready = ready_refilled i.bytes.now i.first (used_of i) i.place (value_of i) (range_of i) more r v in
-    rw (is, value_is) (record { bytes = refl; first = refl; parts = refl; factors = refl; kept = ready.0; ready = ready.1 })
+    rw (is, value_is) (record { bytes = refl; first = refl; six = refl; parts = refl; factors = refl; kept = ready.0; ready = ready.1 })
 
 filled_before : (i j : Inside) (value : ℕ) → RegistersOf i → (value % 4294967296 ≡ 0 → ⊥) → value ≡ value_of i → j ≡ i → IsFilled i j value
 filled_before i j value r some same is =
     let ready = ready_as_it_is i.bytes.now i.first (used_of i) i.place (value_of i) (range_of i) r (rw same at some) in
-    rw (is, same) (record { bytes = refl; first = refl; parts = refl; factors = refl; kept = refl; ready = ready })
+    rw (is, same) (record { bytes = refl; first = refl; six = refl; parts = refl; factors = refl; kept = refl; ready = ready })
 
 abbrev view_of : Inside → Decoding
 view_of i = record { bytes = i.bytes.now; first = i.first; range = range_of i; kept = value_of i / 2 ^ 52; used = used_of i }
 
 abbrev after : Inside → ℕ → ℕ → Inside
-after j value range = record j { value = value; range = range }
+after j value range = record j { value = value; range = range; six = range / 64 }
 
 -- what a step makes of the fields
 record Made (i j : Inside) (p : ℕ) (symbol : Bool) (value range : ℕ) : Type 0 where
@@ -70,12 +71,12 @@ made i j filled p symbol value range r f small s =
       used = omega arith;
     })
 
-cut_at : (i j : Inside) (value p q : ℕ) → AreParts i.parts → AreFactors i.factors → IsFilled i j value → q ≡ p → 1 ≤ p → p ≤ 128 → IsRange (range_of i) → (part factor : ℕ) →
-    part ≡ get_or (get_or j.parts (q % 128) []) (i.range / 64) 0 → factor ≡ get_or j.factors (q % 128) 0 → IsCut p (range_of i) part factor
-cut_at i j value p q parts factors f same h k r part factor part_is factor_is =
+cut_at : (i j : Inside) (value p q : ℕ) → i.six ≡ i.range / 64 → AreParts i.parts → AreFactors i.factors → IsFilled i j value → q ≡ p → 1 ≤ p → p ≤ 128 → IsRange (range_of i) → (part factor : ℕ) →
+    part ≡ get_or (get_or j.parts (q % 128) []) j.six 0 → factor ≡ get_or j.factors (q % 128) 0 → IsCut p (range_of i) part factor
+cut_at i j value p q six parts factors f same h k r part factor part_is factor_is =
     let bounds = bounds_of i.range r in
     let scale_is = scale_of_range i.range in
-    rw (part_is, factor_is, same, f.parts, f.factors) (record {
+    rw (part_is, factor_is, same, f.parts, f.factors, f.six, six) (record {
       part_is = parts p h k (i.range / 64) (omega (arith, bounds.0)) (omega (arith, bounds.1)) ∙ ap (λ s. s * p) (sym scale_is);
       factor_is = factors p h k;
     })
@@ -100,7 +101,7 @@ step-value-requires-clause-cut c =
       | then-value-eq0 w ↦ filled_up i j _ c.doubled-value.result.0 w.refilled-value.result r c.doubled-value.ensures.value w.refilled-value.ensures w.value-is w.self-inside-is
       | else-value-eq0 w ↦ filled_before i j _ r (rw w.value-is w.if-value-eq0.false) (w.value-is ∙ c.doubled-value.ensures.value) w.self-inside-is
     ] in
-    let cut = cut_at i j c.if-value-eq0.value c.args.p c.value.result c.self.invariant.parts c.self.invariant.factors f c.value.ensures.value c.value.ensures.least c.value.ensures.most r.in_range c.from-part.result c.from-factor.result c.from-part.ensures c.from-factor.ensures in
+    let cut = cut_at i j c.if-value-eq0.value c.args.p c.value.result c.self.invariant.six c.self.invariant.parts c.self.invariant.factors f c.value.ensures.value c.value.ensures.least c.value.ensures.most r.in_range c.from-part.result c.from-factor.result c.from-part.ensures c.from-factor.ensures in
     (c.args.p, c.value.ensures.least, c.value.ensures.most, rw c.doubled-value.ensures.range cut)
 
 pub invariant_of-self : goal.invariant_of-self
@@ -112,11 +113,11 @@ invariant_of-self c =
       | then-value-eq0 w ↦ filled_up i j _ c.doubled-value.result.0 w.refilled-value.result r c.doubled-value.ensures.value w.refilled-value.ensures w.value-is w.self-inside-is
       | else-value-eq0 w ↦ filled_before i j _ r (rw w.value-is w.if-value-eq0.false) (w.value-is ∙ c.doubled-value.ensures.value) w.self-inside-is
     ] in
-    let cut = cut_at i j c.if-value-eq0.value c.args.p c.value.result c.self.invariant.parts c.self.invariant.factors f c.value.ensures.value c.value.ensures.least c.value.ensures.most r.in_range c.from-part.result c.from-factor.result c.from-part.ensures c.from-factor.ensures in
+    let cut = cut_at i j c.if-value-eq0.value c.args.p c.value.result c.self.invariant.six c.self.invariant.parts c.self.invariant.factors f c.value.ensures.value c.value.ensures.least c.value.ensures.most r.in_range c.from-part.result c.from-factor.result c.from-part.ensures c.from-factor.ensures in
     let small = rw (← c.self.view_is) at c.requires.early in
     let s = c.step-value.ensures c.args.p c.value.ensures.least c.value.ensures.most (rw c.doubled-value.ensures.range cut) in
     let m = made i j c.if-value-eq0.value c.args.p c.step-value.result.2 c.step-value.result.0 c.step-value.result.1 r f small (rw c.doubled-value.ensures.range at s) in
-    record { registers = m.registers; parts = rw f.parts c.self.invariant.parts; factors = rw f.factors c.self.invariant.factors }
+    record { registers = m.registers; six = refl; parts = rw f.parts c.self.invariant.parts; factors = rw f.factors c.self.invariant.factors }
 
 pub returns-clause-stands : goal.returns-clause-stands
 returns-clause-stands c =
@@ -127,7 +128,7 @@ returns-clause-stands c =
       | then-value-eq0 w ↦ filled_up i j _ c.doubled-value.result.0 w.refilled-value.result r c.doubled-value.ensures.value w.refilled-value.ensures w.value-is w.self-inside-is
       | else-value-eq0 w ↦ filled_before i j _ r (rw w.value-is w.if-value-eq0.false) (w.value-is ∙ c.doubled-value.ensures.value) w.self-inside-is
     ] in
-    let cut = cut_at i j c.if-value-eq0.value c.args.p c.value.result c.self.invariant.parts c.self.invariant.factors f c.value.ensures.value c.value.ensures.least c.value.ensures.most r.in_range c.from-part.result c.from-factor.result c.from-part.ensures c.from-factor.ensures in
+    let cut = cut_at i j c.if-value-eq0.value c.args.p c.value.result c.self.invariant.six c.self.invariant.parts c.self.invariant.factors f c.value.ensures.value c.value.ensures.least c.value.ensures.most r.in_range c.from-part.result c.from-factor.result c.from-part.ensures c.from-factor.ensures in
     let small = rw (← c.self.view_is) at c.requires.early in
     let s = c.step-value.ensures c.args.p c.value.ensures.least c.value.ensures.most (rw c.doubled-value.ensures.range cut) in
     let m = made i j c.if-value-eq0.value c.args.p c.step-value.result.2 c.step-value.result.0 c.step-value.result.1 r f small (rw c.doubled-value.ensures.range at s) in
@@ -142,7 +143,7 @@ returns-clause-used c =
       | then-value-eq0 w ↦ filled_up i j _ c.doubled-value.result.0 w.refilled-value.result r c.doubled-value.ensures.value w.refilled-value.ensures w.value-is w.self-inside-is
       | else-value-eq0 w ↦ filled_before i j _ r (rw w.value-is w.if-value-eq0.false) (w.value-is ∙ c.doubled-value.ensures.value) w.self-inside-is
     ] in
-    let cut = cut_at i j c.if-value-eq0.value c.args.p c.value.result c.self.invariant.parts c.self.invariant.factors f c.value.ensures.value c.value.ensures.least c.value.ensures.most r.in_range c.from-part.result c.from-factor.result c.from-part.ensures c.from-factor.ensures in
+    let cut = cut_at i j c.if-value-eq0.value c.args.p c.value.result c.self.invariant.six c.self.invariant.parts c.self.invariant.factors f c.value.ensures.value c.value.ensures.least c.value.ensures.most r.in_range c.from-part.result c.from-factor.result c.from-part.ensures c.from-factor.ensures in
     let small = rw (← c.self.view_is) at c.requires.early in
     let s = c.step-value.ensures c.args.p c.value.ensures.least c.value.ensures.most (rw c.doubled-value.ensures.range cut) in
     let m = made i j c.if-value-eq0.value c.args.p c.step-value.result.2 c.step-value.result.0 c.step-value.result.1 r f small (rw c.doubled-value.ensures.range at s) in

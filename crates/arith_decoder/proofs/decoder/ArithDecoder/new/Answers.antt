@@ -41,7 +41,7 @@ invariant_of-result c =
     let next = c.from-next.ensures ∙ rw (c.read_or_zero-2.ensures.bytes, c.read_or_zero-2.ensures.place, c.read_or_zero.ensures.bytes, c.read_or_zero.ensures.place, c.over-reader.ensures.bytes, c.over-reader.ensures.place) at c.read_or_zero-3.ensures.number in
     let place : code.first + 1 + 12 ≡ code.first + 13 = omega arith in
     let b = begun code.bytes.now code.first c.from-kept.result c.from-next.result c.requires.short c.requires.early kept c.if-kept-eq4095.false (next ∙ ap (λ k. number_from (bits code.bytes.now) k 32) place) in
-    record { registers = b.registers; parts = c.parts.ensures; factors = c.factors.ensures }
+    record { registers = b.registers; six = refl; parts = c.parts.ensures; factors = c.factors.ensures }
 
 pub returns-clause-used : goal.returns-clause-used
 returns-clause-used c =
