@@ -14,9 +14,9 @@ use arith_decoder::ArithDecoder;
 use byte_predictor::laws::samples_before;
 
 // The next sample of a channel. An early one has the probability 128. The entry of the sample behind it is looked up before
-// it is known, for both its values.
+// it is known, for both its values, since a channel alone needs it at once.
 #[inline(always)]
-fn decode_sample(
+fn decode_alone(
     decoder: &mut ArithDecoder,
     tables: &ChannelTables,
     state: &mut ChannelState,
@@ -46,6 +46,67 @@ fn decode_sample(
     state.ahead.push(sample);
     state.next = if sample { next_1 } else { next_0 };
     sample
+}
+
+// The same, where other channels' samples come before the sample behind it: one look-up, of the value that is known.
+#[inline(always)]
+fn decode_among(
+    decoder: &mut ArithDecoder,
+    tables: &ChannelTables,
+    state: &mut ChannelState,
+    place: usize,
+    early: bool,
+) -> bool
+    requires place { place < 8 }
+    requires room { decoder.old.used ≤ 2 ^ 40 }
+    ensures ready { (filter : List ℤ) (probs samples : List ℕ) (half : Bool) → IsBuilt filter probs half tables.now
+        → IsReady filter probs place samples state.old
+        → IsReady filter probs (place + 1) (bit_of result ∷ samples) state.new }
+    ensures symbol { (filter : List ℤ) (probs samples : List ℕ) (pairs : List (Bool × ℕ))
+        → IsReady filter probs place samples state.old → StandsFor decoder.old pairs
+        → StandsFor decoder.new (pairs ++ symbol_after filter probs early samples result ∷ []) }
+    ensures bytes { decoder.new.bytes ≡ decoder.old.bytes }
+    ensures first { decoder.new.first ≡ decoder.old.first }
+    ensures used { decoder.new.used ≤ decoder.old.used + 8 }
+{
+    let entry = state.next;
+    let low = if early { 0 } else { entry % 128 };
+    let symbol = decoder.decode(prob_within(low));
+    let guess = entry >= 128;
+    let sample = symbol == guess;
+    let behind = state.ahead.upward_after(&tables.filter, place, sample);
+    state.ahead.push(sample);
+    state.next = tables.entries[behind as usize];
+    sample
+}
+
+// The same, of a channel alone or among others.
+#[inline(always)]
+fn decode_sample(
+    decoder: &mut ArithDecoder,
+    tables: &ChannelTables,
+    state: &mut ChannelState,
+    place: usize,
+    early: bool,
+    alone: bool,
+) -> bool
+    requires place { place < 8 }
+    requires room { decoder.old.used ≤ 2 ^ 40 }
+    ensures ready { (filter : List ℤ) (probs samples : List ℕ) (half : Bool) → IsBuilt filter probs half tables.now
+        → IsReady filter probs place samples state.old
+        → IsReady filter probs (place + 1) (bit_of result ∷ samples) state.new }
+    ensures symbol { (filter : List ℤ) (probs samples : List ℕ) (pairs : List (Bool × ℕ))
+        → IsReady filter probs place samples state.old → StandsFor decoder.old pairs
+        → StandsFor decoder.new (pairs ++ symbol_after filter probs early samples result ∷ []) }
+    ensures bytes { decoder.new.bytes ≡ decoder.old.bytes }
+    ensures first { decoder.new.first ≡ decoder.old.first }
+    ensures used { decoder.new.used ≤ decoder.old.used + 8 }
+{
+    if alone {
+        decode_alone(decoder, tables, state, place, early)
+    } else {
+        decode_among(decoder, tables, state, place, early)
+    }
 }
 
 // The next sample of each channel.
@@ -78,7 +139,14 @@ fn decode_step(
     for c in 0..channels {
         let channel = &tables[c];
         let early = channel.is_early(byte, place, head);
-        decode_sample(decoder, channel, &mut states[c], place, early);
+        decode_sample(
+            decoder,
+            channel,
+            &mut states[c],
+            place,
+            early,
+            channels == 1,
+        );
     }
 }
 

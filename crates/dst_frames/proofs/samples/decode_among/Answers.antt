@@ -1,4 +1,4 @@
-use Rattle.std.proofs.Common.{◌≡◌, ◌+◌, ◌%◌, true, false, [], ◌∷◌, ◌++◌, if◌then◌else◌, ap, sym, subst, ◌∙◌}
+use Rattle.std.proofs.Common.{◌≡◌, ◌+◌, ◌%◌, true, false, [], ◌∷◌, ◌++◌, if◌then◌else◌, get_or, refl, ap, sym, subst, ◌∙◌}
 use lib.Dec.{leb}
 use mathlib.Core.Bool.{beq}
 use Rattle.dst_spec.specs.Header.{bit_of}
@@ -7,8 +7,8 @@ use Rattle.byte_predictor.specs.SumsAhead.{IsAhead}
 use Rattle.arith_decoder.specs.Decoding.{StandsFor}
 use Rattle.dst_frames.specs.Tables.{IsEntry}
 use Rattle.dst_frames.proofs.Symbols.{symbol_is, entry_behind}
-use Rattle.dst_frames.proofs.samples.decode_sample.Goals as goal
-use Rattle.dst_frames.proofs.samples.decode_sample.Goals.{then-early, else-early, then-sample, else-sample}
+use Rattle.dst_frames.proofs.samples.decode_among.Goals as goal
+use Rattle.dst_frames.proofs.samples.decode_among.Goals.{then-early, else-early}
 
 pub returns-clause-ready : goal.returns-clause-ready
 returns-clause-ready c = λ filter probs samples half built ready.
@@ -16,14 +16,8 @@ returns-clause-ready c = λ filter probs samples half built ready.
     let sample = beq c.decode-symbol.result (leb 128 c.args.state.now.next) in
     let before : IsAhead tables.filter c.args.place samples c.args.state.now.ahead = subst (λ coefs. IsAhead coefs c.args.place samples c.args.state.now.ahead) (sym built.filter_is) ready.ahead in
     let pushed = c.push.ensures tables.filter c.args.place samples c.requires.place before in
-    let long = ready.ahead.long in
-    let next : IsEntry (signed_sum filter (bit_of sample ∷ samples)) probs c.if-sample.state =
-    elim c.if-sample.branch [
-      | then-sample w ↦
-          entry_behind filter probs samples half true sample tables c.upward_after-behind_1.result c.if-sample.state built long (c.upward_after-behind_1.ensures samples before) w.state-is w.if-sample.true
-      | else-sample w ↦
-          entry_behind filter probs samples half false sample tables c.upward_after-behind_0.result c.if-sample.state built long (c.upward_after-behind_0.ensures samples before) w.state-is w.if-sample.false
-    ] in
+    let next : IsEntry (signed_sum filter (bit_of sample ∷ samples)) probs (get_or tables.entries c.upward_after-behind.result 0) =
+    entry_behind filter probs samples half sample sample tables c.upward_after-behind.result (get_or tables.entries c.upward_after-behind.result 0) built ready.ahead.long (c.upward_after-behind.ensures samples before) refl refl in
     record { ahead = subst (λ coefs. IsAhead coefs (c.args.place + 1) (bit_of sample ∷ samples) c.push.new.self) built.filter_is pushed; next = next }
 
 pub returns-clause-symbol : goal.returns-clause-symbol
