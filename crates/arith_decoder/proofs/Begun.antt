@@ -6,7 +6,7 @@ use Rattle.dst_spec.specs.Bits.{bits, number_from}
 use Rattle.dst_spec.specs.Interval.{interval_from}
 use Rattle.dst_spec.proofs.Numbers.{AreBits-bits, number_from-below}
 use Rattle.arith_decoder.specs.Decoding.{StandsFor}
-use Rattle.arith_decoder.specs.Registers.{IsValue, AreRegisters}
+use Rattle.arith_decoder.specs.Registers.{IsValue, AreRegisters, value_below}
 use Rattle.arith_decoder.proofs.Registers.{kept_of, zeros_of, value_fits}
 
 -- the first twelve bits, the next 32 and a bit 1
@@ -14,6 +14,7 @@ abbrev pub first_value : ℕ → ℕ → ℕ
 first_value kept next = bit_or (kept * 4503599627370496 % 18446744073709551616) ((2 * next + 1) * 524288 % 18446744073709551616)
 
 pub record IsBegun (bytes : List ℕ) (first value : ℕ) : Type 0 where
+  pub below : value ≤ 4095 * 2 ^ 52
   pub used_is : first + 45 + trailing_zeros w64 value - 51 - first ≡ 13
   pub registers : AreRegisters bytes first (first + 45 + trailing_zeros w64 value - 51 - first) (first + 45) value 4095
   pub stands : StandsFor (record { bytes = bytes; first = first; range = 4095; kept = value / 2 ^ 52; used = first + 45 + trailing_zeros w64 value - 51 - first }) []
@@ -41,6 +42,7 @@ begun bytes first kept next short early kept_is other next_is =
     let kept_again = kept_of xs (first + 13) (first + 45) kept (first_value kept next) (AreBits-bits bytes) holds in
     let used_is : first + 45 + trailing_zeros w64 (first_value kept next) - 51 - first ≡ 13 = omega arith in
     record {
+      below = omega arith;
       used_is = used_is;
       registers = rw used_is (record {
         short = short;
@@ -58,3 +60,7 @@ begun bytes first kept next short early kept_is other next_is =
         used = refl;
       });
     }
+
+-- the gap of the first value
+pub first_gap : (value : ℕ) → value ≤ 4095 * 2 ^ 52 → value_below 4095 (4095 * 2 ^ 52 - value) ≡ value
+first_gap value h = omega arith

@@ -1,5 +1,5 @@
 -- One symbol by registers.
-use Rattle.std.proofs.Common.{◌≡◌, ℕ, ◌+◌, ◌-◌, ◌*◌, ◌/◌, ◌%◌, ◌^◌, ◌<◌, ◌≤◌, Bool, true, false, nat_lt, if◌then◌else◌, refl, ap, sym, ◌∙◌, arith, ltb-true, ltb-false}
+use Rattle.std.proofs.Common.{◌≡◌, ℕ, ◌+◌, ◌-◌, ◌*◌, ◌/◌, ◌^◌, ◌<◌, ◌≤◌, Bool, true, false, nat_lt, if◌then◌else◌, refl, ap, sym, ◌∙◌, arith, ltb-true, ltb-false}
 use Rattle.std.proofs.lemmas.Nat.{pow-add, pow_pos, mul-le}
 use Rattle.dst_spec.specs.Interval.{scale}
 use Rattle.dst_spec.proofs.Intervals.{scale-least, scale-below}
@@ -143,21 +143,6 @@ step_is p value range part factor k in_range below n symbol chosen y r y_is r_is
     let q = partial p value range part factor in_range below b symbol chosen in
     let d = doubled_once (range_behind symbol (range - part) (part * factor)) (value_behind symbol value (range - part) factor) q.least q.most q.below in
     rw (y_is, r_is) (finished p value range part factor symbol _ _ n b.high (sym chosen) d)
-
--- so nothing is lost at the register's end
-pub product_fits : (p value range part factor : ℕ) → p ≤ 128 → IsRange range → value < range * 2 ^ 52 → IsCut p range part factor →
-    nat_lt (value / 2 ^ 52) (range - part) ≡ false → (value - (range - part) * 2 ^ 52) * factor < 18446744073709551616
-product_fits p value range part factor k in_range below n chosen =
-    let b = before p value range part factor k in_range n in
-    let q = partial p value range part factor in_range below b false chosen in
-    omega (arith, q.most, q.below)
-
--- what wraps around comes back
-pub wrapped : (value high factor : ℕ) → value < 18446744073709551616 → high ≤ value → (value - high) * factor < 18446744073709551616 →
-    (value + (18446744073709551616 - high)) % 18446744073709551616 * factor % 18446744073709551616 ≡ (value - high) * factor
-wrapped value high factor fits le small =
-    let back : (value + (18446744073709551616 - high)) % 18446744073709551616 ≡ value - high = omega arith in
-    rw back (omega arith)
 
 pub step_fits : (p value range : ℕ) (symbol : Bool) (y r : ℕ) → IsStep p value range symbol y r → y < 18446744073709551616
 step_fits p value range symbol y r s =

@@ -1,9 +1,14 @@
 -- The scales of ranges, and the parts and factors of probabilities.
-use Rattle.std.proofs.Common.{◌≡◌, ℕ, suc, ◌+◌, ◌-◌, ◌*◌, ◌/◌, ◌%◌, ◌^◌, ◌<◌, ◌≤◌, bit_or, if◌then◌else◌, refl, ap, ap₂, sym, ◌∙◌, arith, Bool, true, false, nat_lt, ltb-true, ltb-false, lt-ltb, le-ltb}
-use Rattle.std.proofs.lemmas.Nat.{leading_top, one_shl, pow-add, pow_below, pow_pos, mul-le}
+use Rattle.std.proofs.Common.{◌≡◌, ℕ, suc, ◌+◌, ◌-◌, ◌*◌, ◌/◌, ◌%◌, ◌^◌, ◌<◌, ◌≤◌, bit_or, if◌then◌else◌, refl, ap, ap₂, sym, ◌∙◌, arith, Bool, true, false, List, map, take, drop, length, nat_lt, nat_eq, get_or, ltb-true, ltb-false, lt-ltb, le-ltb}
+use Rattle.std.proofs.lemmas.Bool.{eqb-true, eqb-false, ne_eqb}
+use Rattle.std.proofs.Math.Seq.{take-length}
+use Rattle.std.proofs.lemmas.List.{length-drop, get_or-drop}
+use Rattle.std.specs.List.{range_with_len}
+use Rattle.std.proofs.lemmas.List.FromFn.{get_or-map-range_with_len}
+use Rattle.std.proofs.lemmas.Nat.{leading_top, pow-add, pow_below, pow_pos, mul-le}
 use Rattle.dst_spec.specs.Interval.{scale}
 use Rattle.dst_spec.proofs.Intervals.{scale-below}
-use Rattle.arith_decoder.specs.Registers.{IsRange, IsFactor, due, scale_at}
+use Rattle.arith_decoder.specs.Registers.{IsRange, IsFactor, AreEntries, due, scale_at}
 use lib.Count.{count_leading_zeros}
 
 -- the scale of a range by its five highest bits
@@ -69,10 +74,7 @@ has_top p h k =
             absurd (omega arith)
         go false e = ltb-false 7 t e
 
-pub leading_most : (p : ℕ) → 1 ≤ p → p ≤ 128 → 8 ≤ count_leading_zeros 16 p
-leading_most p h k = let t = has_top p h k in t.many
-
-pub factor_of : (p : ℕ) → 1 ≤ p → p ≤ 128 → IsFactor p (1 * 2 ^ (count_leading_zeros 16 p - 8) % 65536)
+pub factor_of : (p : ℕ) → 1 ≤ p → p ≤ 128 → IsFactor p (2 ^ (count_leading_zeros 16 p - 8))
 factor_of p h k =
     let t = has_top p h k in
     let s = 7 - t.top in
@@ -84,8 +86,7 @@ factor_of p h k =
     let some = pow_pos s in
     let most : p * 2 ^ s < 256 = omega (arith, times_lt p (2 ^ suc t.top) (2 ^ s) t.most some) in
     let least : 128 ≤ p * 2 ^ s = omega (arith, mul-le (2 ^ t.top) (2 ^ s) p (2 ^ s) t.least (omega arith)) in
-    let one = one_shl s 16 (omega (arith, t.low)) in
-    rw (is, one) (record {
+    rw is (record {
       shift = s;
       power = refl;
       few = omega arith;
@@ -104,8 +105,47 @@ bounds_of range r = go (nat_lt range 2048) refl r.least r.most
     go true is least most = (omega arith, omega arith)
     go false is least most = (omega arith, most)
 
--- a part is small
-pub part_small : (six p : ℕ) → six < 64 → p ≤ 128 → scale_at six * p ≤ 1920
-part_small six p h k =
-    let s = scale_at-below six h in
-    omega (arith, mul-le (scale_at six) p 15 128 (omega arith) k)
+-- the probability at a place of the tables
+abbrev prob_at : ℕ → ℕ
+prob_at i = if nat_eq i 0 then 128 else i
+
+prob_at-is : (p : ℕ) → 1 ≤ p → p ≤ 128 → prob_at (p % 128) ≡ p
+prob_at-is p h k = go (nat_eq (p % 128) 0) refl
+  where
+    go : (e : Bool) → nat_eq (p % 128) 0 ≡ e → (if e then 128 else (p % 128)) ≡ p
+    go true is = let none : p % 128 ≡ 0 = eqb-true (p % 128) 0 is in omega arith
+    go false is = let some = eqb-false (p % 128) 0 is in omega arith
+
+-- what the columns have at each place
+abbrev entry_at : ℕ → ℕ → ℕ
+entry_at p column = if nat_eq column 0 then (2 ^ (count_leading_zeros 16 p - 8)) else if nat_lt column 16 then 0 else (scale_at column * p)
+
+abbrev pub all_entries : List ℕ
+all_entries = map (λ i. entry_at (prob_at (i % 128)) (i / 128)) (range_with_len 0 8192)
+
+entry_is : (p column : ℕ) → 1 ≤ p → p ≤ 128 → column < 64 → get_or all_entries (p % 128 + column * 128) 0 ≡ entry_at p column
+entry_is p column least most few =
+    let i = p % 128 + column * 128 in
+    let at : i % 128 ≡ p % 128 = omega arith in
+    let of : i / 128 ≡ column = omega arith in
+    get_or-map-range_with_len (λ i. entry_at (prob_at (i % 128)) (i / 128)) 0 8192 i i 0 (omega arith) (omega arith)
+    ∙ ap₂ (λ x y. entry_at (prob_at x) y) at of ∙ ap (λ q. entry_at q column) (prob_at-is p least most)
+
+pub are_entries : (p : ℕ) (flat : List ℕ) → 1 ≤ p → p ≤ 128 → flat ≡ all_entries → AreEntries p (take (length flat - p % 128) (drop (p % 128) flat))
+are_entries p flat least most is =
+    let many : length flat ≡ 8192 = ap length is in
+    let short = length-drop (p % 128) flat in
+    let whole : take (length flat - p % 128) (drop (p % 128) flat) ≡ drop (p % 128) flat = ap (λ n. take n (drop (p % 128) flat)) (sym short) ∙ take-length (drop (p % 128) flat) in
+    rw whole (record {
+      long = omega arith;
+      factor = rw (at 0 (omega arith)) (factor_of p least most);
+      part = λ six some few. at six few ∙ part_is six some;
+    })
+  where
+    at : (column : ℕ) → column < 64 → get_or (drop (p % 128) flat) (column * 128) 0 ≡ entry_at p column
+    at column few = get_or-drop (p % 128) flat (column * 128) 0 ∙ ap (λ xs. get_or xs (p % 128 + column * 128) 0) is ∙ entry_is p column least most few
+
+    part_is : (six : ℕ) → 16 ≤ six → entry_at p six ≡ scale_at six * p
+    part_is six some =
+        let other : nat_eq six 0 ≡ false = ne_eqb six 0 (omega arith) in
+        rw (other, le-ltb six 16 some) refl

@@ -1,5 +1,5 @@
 -- What the registers of a decoder hold. The kept number stands in the twelve highest bits of its register.
-use Rattle.std.specs.Prelude.{◌≡◌, ℕ, ◌+◌, ◌-◌, ◌*◌, ◌/◌, ◌%◌, ◌^◌, ◌<◌, ◌≤◌, Bool, if◌then◌else◌, nat_lt, List, [], length, get_or}
+use Rattle.std.specs.Prelude.{◌≡◌, ℕ, ◌+◌, ◌-◌, ◌*◌, ◌/◌, ◌^◌, ◌<◌, ◌≤◌, Bool, if◌then◌else◌, nat_lt, List, length, get_or}
 use Rattle.dst_spec.specs.Bits.{bits, number_from}
 use Rattle.dst_spec.specs.Interval.{scale}
 
@@ -30,20 +30,13 @@ pub record AreRegisters (bytes : List ℕ) (first used place value range : ℕ) 
   pub below : value < range * 2 ^ 52
   pub holds : IsValue (bits bytes) (first + used) place (value / 2 ^ 52) value
 
+-- the value whose gap this is: how far it lies below the end of the range
+abbrev pub value_below : ℕ → ℕ → ℕ
+value_below range gap = range * 2 ^ 52 - gap
+
 -- the scale of the ranges that have the same six highest bits, doubled where that is due
 abbrev pub scale_at : ℕ → ℕ
 scale_at six = scale (due (64 * six) (64 * six))
-
-abbrev pub AreScales : List ℕ → Type 0
-AreScales scales = (six : ℕ) → 16 ≤ six → six < 64 → get_or scales six 0 ≡ scale_at six
-
--- the parts of symbol 0 of a probability
-abbrev pub IsRow : ℕ → List ℕ → Type 0
-IsRow p row = (six : ℕ) → 16 ≤ six → six < 64 → get_or row six 0 ≡ scale_at six * p
-
--- the rows of all probabilities, that of 128 in front of the others
-abbrev pub AreParts : List (List ℕ) → Type 0
-AreParts parts = (p : ℕ) → 1 ≤ p → p ≤ 128 → IsRow p (get_or parts (p % 128) [])
 
 -- a power of 2 with which a probability has eight bits
 pub record IsFactor (p factor : ℕ) : Type 0 where
@@ -53,9 +46,11 @@ pub record IsFactor (p factor : ℕ) : Type 0 where
   pub least : 128 ≤ p * factor
   pub most : p * factor < 256
 
--- the factors of all probabilities, that of 128 in front of the others
-abbrev pub AreFactors : List ℕ → Type 0
-AreFactors factors = (p : ℕ) → 1 ≤ p → p ≤ 128 → IsFactor p (get_or factors (p % 128) 0)
+-- the entries of a probability: its factor, and its part for each six highest bits of a range
+pub record AreEntries (p : ℕ) (entries : List ℕ) : Type 0 where
+  pub long : 63 * 128 < length entries
+  pub factor : IsFactor p (get_or entries 0 0)
+  pub part : (six : ℕ) → 16 ≤ six → six < 64 → get_or entries (six * 128) 0 ≡ scale_at six * p
 
 -- what a symbol of a probability needs for a range
 pub record IsCut (p range part factor : ℕ) : Type 0 where

@@ -3,9 +3,9 @@ ghost use Rattle.std.specs.Prelude.{◌≡◌, ◌≢◌, ℕ, ◌+◌, ◌*◌,
 ghost use Rattle.dst_spec.specs.Bits.{bits, number_from};
 ghost use Rattle.dst_spec.specs.Fields.{read};
 ghost use Rattle.arith_decoder.specs.Decoding.{StandsFor, IsCodeFault, code_fields};
-ghost use Rattle.arith_decoder.specs.Registers.{IsValue};
+ghost use Rattle.arith_decoder.specs.Registers.{IsValue, value_below};
 
-use crate::parts::{factors, parts};
+use crate::entries::entries;
 use crate::step::{doubled, step};
 use bit_io::{BitReader, BitSlice};
 use dst_num::{FrameFault, Prob, Reason};
@@ -18,21 +18,18 @@ pub struct ArithDecoder<'a> {
     first: u64,
     // the place of the first bit that isn't in the value yet
     place: u64,
-    // the kept number in the twelve highest bits, the next bits of the code, a bit 1
-    value: u64,
-    // a range below 2048 and its value are doubled ahead of the next symbol
+    // how far the value lies below the end of the range: the value has the kept number in its twelve highest bits, then the
+    // next bits of the code, a bit 1, and zeros
+    gap: u64,
+    // a range below 2048 and its gap are doubled ahead of the next symbol
     range: u64,
-    // the six highest bits of the range, at hand for the next look-up
-    six: usize,
-    parts: [[u16; 64]; 128],
-    factors: [u16; 128],
 }
 
 impl<'a> Model for ArithDecoder<'a> {
-    ghost use Rattle.std.specs.Prelude.{◌≡◌, ◌+◌, ◌-◌, ◌/◌, ◌^◌};
+    ghost use Rattle.std.specs.Prelude.{◌+◌, ◌-◌, ◌*◌, ◌/◌, ◌^◌, ◌≤◌};
     ghost use Rattle.std.specs.Int.{trailing_zeros, w64};
     ghost use Rattle.arith_decoder.specs.Decoding.{Decoding};
-    ghost use Rattle.arith_decoder.specs.Registers.{due};
+    ghost use Rattle.arith_decoder.specs.Registers.{due, value_below};
 
     ghost Value = { Decoding };
 
@@ -40,37 +37,36 @@ impl<'a> Model for ArithDecoder<'a> {
       bytes = d.bytes.now;
       first = d.first;
       range = due d.range d.range;
-      kept = due d.range d.value / 2 ^ 52;
-      used = d.place + trailing_zeros w64 (due d.range d.value) - 51 - d.first;
+      kept = due d.range (value_below d.range d.gap) / 2 ^ 52;
+      used = d.place + trailing_zeros w64 (due d.range (value_below d.range d.gap)) - 51 - d.first;
     } };
 
-    ghost use Rattle.arith_decoder.specs.Registers.{AreRegisters, AreParts, AreFactors};
+    ghost use Rattle.arith_decoder.specs.Registers.{AreRegisters};
 
     ghost invariant = { λ d. record {
-      registers : AreRegisters d.bytes.now d.first (d.place + trailing_zeros w64 (due d.range d.value) - 51 - d.first) d.place (due d.range d.value) (due d.range d.range);
-      six : d.six ≡ d.range / 64;
-      parts : AreParts d.parts;
-      factors : AreFactors d.factors;
+      registers : AreRegisters d.bytes.now d.first (d.place + trailing_zeros w64 (due d.range (value_below d.range d.gap)) - 51 - d.first) d.place (due d.range (value_below d.range d.gap)) (due d.range d.range);
+      within : d.gap ≤ d.range * 2 ^ 52;
     } };
 }
 
-// The value with 32 more bits of the code behind its last, in place of the bit 1 there and zeros.
+// The gap of the value with 32 more bits of the code behind its last, in place of the bit 1 there and zeros.
 #[inline(always)]
-fn refilled(bytes: &[u8], place: u64, value: u64) -> u64
+fn refilled(bytes: &[u8], place: u64, gap: u64) -> u64
     requires short { length bytes.now ≤ 2 ^ 50 }
     requires early { place < 2 ^ 62 }
-    requires low { value % 2 ^ 32 ≡ 0 }
-    requires held { (start : ℕ) × IsValue (bits bytes.now) start place (value / 2 ^ 52) value }
-    ensures { (start : ℕ) → IsValue (bits bytes.now) start place (value / 2 ^ 52) value
-        → IsValue (bits bytes.now) start (place + 32) (value / 2 ^ 52) result }
+    requires low { gap % 2 ^ 32 ≡ 0 }
+    requires held { (range start : ℕ) × (range ≤ 4095) × (gap ≤ range * 2 ^ 52) × IsValue (bits bytes.now) start place (value_below range gap / 2 ^ 52) (value_below range gap) }
+    ensures { (range start : ℕ) → range ≤ 4095 → gap ≤ range * 2 ^ 52
+        → IsValue (bits bytes.now) start place (value_below range gap / 2 ^ 52) (value_below range gap)
+        → (result ≤ range * 2 ^ 52) × IsValue (bits bytes.now) start (place + 32) (value_below range gap / 2 ^ 52) (value_below range result) }
 {
-    let behind = value.trailing_zeros();
+    let behind = gap.trailing_zeros();
     let mut reader = BitReader::over(BitSlice {
         bytes,
         first: place,
     });
     let more = u64::from(reader.read_or_zero(32));
-    value - (1 << behind) + ((2 * more + 1) << (behind - 32))
+    gap + (1 << behind) - ((2 * more + 1) << (behind - 32))
 }
 
 impl<'a> ArithDecoder<'a> {
@@ -107,11 +103,8 @@ impl<'a> ArithDecoder<'a> {
             bytes: code.bytes,
             first: code.first,
             place: code.first + 45,
-            value: kept << 52 | (2 * next + 1) << 19,
+            gap: (4095 << 52) - (kept << 52 | (2 * next + 1) << 19),
             range: 4095,
-            six: 63,
-            parts: parts(),
-            factors: factors(),
         })
     }
 
@@ -126,18 +119,17 @@ impl<'a> ArithDecoder<'a> {
         ensures least { 1 ≤ p }
         ensures most { p ≤ 128 }
     {
-        let (mut value, range) = doubled(self.value, self.range);
-        if value % (1 << 32) == 0 {
-            value = refilled(self.bytes, self.place, value);
+        let entries = entries(p.value());
+        let part = u64::from(entries[(self.range / 64 * 128) as usize]);
+        let factor = u64::from(entries[0]);
+        let (mut gap, range) = doubled(self.gap, self.range);
+        if gap % (1 << 32) == 0 {
+            gap = refilled(self.bytes, self.place, gap);
             self.place += 32;
         }
-        let row = (p.value() % 128) as usize;
-        let part = u64::from(self.parts[row][self.six]);
-        let factor = u64::from(self.factors[row]);
-        let (value, range, symbol) = step(value, range, part, factor);
-        self.value = value;
+        let (gap, range, symbol) = step(gap, range, part, factor);
+        self.gap = gap;
         self.range = range;
-        self.six = (range >> 6) as usize;
         symbol
     }
 
@@ -145,7 +137,7 @@ impl<'a> ArithDecoder<'a> {
     pub fn used(&self) -> u64
         ensures used { result ≡ self.now.used }
     {
-        let (value, _) = doubled(self.value, self.range);
-        self.place + u64::from(value.trailing_zeros()) - 51 - self.first
+        let (gap, _) = doubled(self.gap, self.range);
+        self.place + u64::from(gap.trailing_zeros()) - 51 - self.first
     }
 }

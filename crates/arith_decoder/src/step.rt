@@ -1,6 +1,6 @@
 // One symbol, without a branch.
-ghost use Rattle.std.specs.Prelude.{◌≡◌, ◌+◌, ◌*◌, ◌/◌, ◌^◌, ◌<◌, ◌≤◌, ℕ, if◌then◌else◌};
-ghost use Rattle.arith_decoder.specs.Registers.{IsRange, IsCut, IsStep, due};
+ghost use Rattle.std.specs.Prelude.{◌≡◌, ◌+◌, ◌*◌, ◌/◌, ◌%◌, ◌^◌, ◌<◌, ◌≤◌, ℕ, if◌then◌else◌};
+ghost use Rattle.arith_decoder.specs.Registers.{IsRange, IsCut, IsStep, due, value_below};
 
 // The first of two numbers where the test is true, by a mask.
 #[inline(always)]
@@ -11,33 +11,34 @@ fn select(test: bool, first: u64, second: u64) -> u64
     second ^ ((second ^ first) & ones)
 }
 
-// The value and the range, doubled where that is due.
+// The gap and the range, doubled where that is due.
 #[inline(always)]
-pub(crate) fn doubled(value: u64, range: u64) -> (u64, u64)
+pub(crate) fn doubled(gap: u64, range: u64) -> (u64, u64)
     requires most { range ≤ 4095 }
-    requires fits { due range value < 2 ^ 64 }
-    ensures value { result.0 ≡ due range value }
+    requires fits { due range gap < 2 ^ 64 }
+    ensures gap { result.0 ≡ due range gap }
     ensures range { result.1 ≡ due range range }
 {
     let times = 2 - (range >> 11);
-    (value * times, range * times)
+    (gap * times, range * times)
 }
 
-// The registers after a symbol, and the symbol, from its part of the range. One doubling at most is due then.
+// The registers after a symbol, and the symbol, from its part of the range. One doubling at most is due then. Symbol 0 has
+// the part of the range at its top, so it is the symbol where the gap is less.
 #[inline(always)]
-pub(crate) fn step(value: u64, range: u64, part: u64, factor: u64) -> (u64, u64, bool)
+pub(crate) fn step(gap: u64, range: u64, part: u64, factor: u64) -> (u64, u64, bool)
     requires range { IsRange range }
-    requires below { value < range * 2 ^ 52 }
+    requires within { gap ≤ range * 2 ^ 52 }
+    requires some { 0 < gap % 2 ^ 52 }
     requires cut { (p : ℕ) × (1 ≤ p) × (p ≤ 128) × IsCut p range part factor }
-    ensures { (p : ℕ) → 1 ≤ p → p ≤ 128 → IsCut p range part factor
-        → IsStep p value range result.2 (due result.1 result.0) (due result.1 result.1) }
+    ensures within { result.0 ≤ result.1 * 2 ^ 52 }
+    ensures step { (p : ℕ) → 1 ≤ p → p ≤ 128 → IsCut p range part factor
+        → IsStep p (value_below range gap) range result.2 (due result.1 (value_below result.1 result.0)) (due result.1 result.1) }
 {
-    let high = range - part;
-    let symbol = value >> 52 < high;
-    let rest = value.wrapping_sub(high << 52).wrapping_mul(factor);
+    let (rest, zero) = gap.overflowing_sub(part << 52);
     (
-        select(symbol, value, rest),
-        select(symbol, high, part * factor),
-        symbol,
+        select(zero, gap.wrapping_mul(factor), rest),
+        select(zero, part * factor, range - part),
+        !zero,
     )
 }

@@ -1,29 +1,36 @@
-use Rattle.std.proofs.Common.{◌≡◌, ◌∙◌, ◌+◌, ◌-◌, ◌*◌, ◌/◌, ◌%◌, ◌^◌, ◌≤◌, Bool, true, false, nat_lt, if◌then◌else◌, refl, arith}
-use Rattle.arith_decoder.proofs.Steps.{before, above_high, product_fits, wrapped, step_is, value_behind}
+use Rattle.std.proofs.Common.{◌∙◌, ◌≤◌, arith}
+use Rattle.arith_decoder.proofs.Steps.{before}
+use Rattle.arith_decoder.proofs.Parting.{less, gap_is, within_left, parted}
 use Rattle.arith_decoder.proofs.step.step.Goals as goal
-
-pub overflow_sub-high : goal.overflow_sub-high
-overflow_sub-high c =
-    let n = c.requires.cut in
-    let b = before n.0 c.args.value c.args.range c.args.part c.args.factor n.2 c.requires.range n.3 in
-    omega (arith, b.small)
 
 pub overflow_mul-part : goal.overflow_mul-part
 overflow_mul-part c =
     let n = c.requires.cut in
-    let b = before n.0 c.args.value c.args.range c.args.part c.args.factor n.2 c.requires.range n.3 in
+    let b = before n.0 0 c.args.range c.args.part c.args.factor n.2 c.requires.range n.3 in
     omega (arith, b.most)
 
-pub returns : goal.returns
-returns c p least most n =
-    let high = c.args.range - c.args.part in
-    let small : high ≤ 4095 = omega (arith, c.requires.range.most) in
-    let shifted : high * 4503599627370496 % 18446744073709551616 ≡ high * 4503599627370496 = omega arith in
-    step_is p c.args.value c.args.range c.args.part c.args.factor most c.requires.range c.requires.below n (nat_lt (c.args.value / 2 ^ 52) high) refl
-    c.select.result c.select-2.result (c.select.ensures ∙ rw shifted (behind _ refl)) c.select-2.ensures
-  where
-    behind : (e : Bool) → nat_lt (c.args.value / 2 ^ 52) (c.args.range - c.args.part) ≡ e →
-        (if e then c.args.value else ((c.args.value + (18446744073709551616 - (c.args.range - c.args.part) * 4503599627370496)) % 18446744073709551616 * c.args.factor % 18446744073709551616)) ≡ value_behind e c.args.value (c.args.range - c.args.part) c.args.factor
-    behind true is = refl
-    behind false is = wrapped c.args.value ((c.args.range - c.args.part) * 2 ^ 52) c.args.factor c.ranges.value.fits (above_high c.args.value (c.args.range - c.args.part) is)
-        (product_fits p c.args.value c.args.range c.args.part c.args.factor most c.requires.range c.requires.below n is)
+pub overflow_sub-range : goal.overflow_sub-range
+overflow_sub-range c =
+    let n = c.requires.cut in
+    let b = before n.0 0 c.args.range c.args.part c.args.factor n.2 c.requires.range n.3 in
+    omega (arith, b.small)
+
+pub returns-clause-within : goal.returns-clause-within
+returns-clause-within c =
+    let n = c.requires.cut in
+    let b = before n.0 0 c.args.range c.args.part c.args.factor n.2 c.requires.range n.3 in
+    let some : c.args.part ≤ c.args.range = omega (arith, b.small) in
+    let small : c.args.part ≤ 4095 = omega (arith, b.small, c.requires.range.most) in
+    let zero = c.overflowing_sub-rest.result.1 in
+    let is = less zero c.args.gap c.args.part small c.overflowing_sub-rest.ensures.overflow in
+    let gap = c.select.ensures ∙ gap_is zero c.args.gap c.args.part c.args.factor c.overflowing_sub-rest.result.0 small b.most c.ranges.gap.fits (omega arith) is c.overflowing_sub-rest.ensures.value in
+    rw (gap, c.select-2.ensures) (within_left zero c.args.range c.args.gap c.args.part c.args.factor some c.requires.within is)
+
+pub returns-clause-step : goal.returns-clause-step
+returns-clause-step c p least most cut =
+    let b = before p 0 c.args.range c.args.part c.args.factor most c.requires.range cut in
+    let small : c.args.part ≤ 4095 = omega (arith, b.small, c.requires.range.most) in
+    let zero = c.overflowing_sub-rest.result.1 in
+    let is = less zero c.args.gap c.args.part small c.overflowing_sub-rest.ensures.overflow in
+    let gap = c.select.ensures ∙ gap_is zero c.args.gap c.args.part c.args.factor c.overflowing_sub-rest.result.0 small b.most c.ranges.gap.fits (omega arith) is c.overflowing_sub-rest.ensures.value in
+    parted p c.args.range c.args.gap c.args.part c.args.factor zero most c.requires.range c.requires.within c.requires.some cut is c.select.result c.select-2.result gap c.select-2.ensures
