@@ -5,7 +5,7 @@ ghost use Rattle.dst_spec.specs.Spell.{code_spelling};
 ghost use Rattle.bit_io.specs.Writing.{to_byte_end};
 ghost use Rattle.arith_encoder.specs.Encoding.{StandsFor};
 
-use crate::entry::{Entry, entries};
+use crate::entry::entries;
 use crate::held::Held;
 use crate::narrow::narrow;
 use bit_io::BitWriter;
@@ -22,7 +22,6 @@ pub struct ArithEncoder {
     range: u64,
     // how many `count` may become
     left: u64,
-    entries: [Entry; 128],
 }
 
 impl Model for ArithEncoder {
@@ -41,12 +40,9 @@ impl Model for ArithEncoder {
       };
     } };
 
-    ghost use Rattle.arith_encoder.specs.Registers.{AreRegisters, AreEntries};
+    ghost use Rattle.arith_encoder.specs.Registers.{AreRegisters};
 
-    ghost invariant = { λ e. record {
-      registers : AreRegisters e.held e.low e.count e.range e.left;
-      entries : AreEntries e.entries;
-    } };
+    ghost invariant = { λ e. AreRegisters e.held e.low e.count e.range e.left };
 }
 
 impl ArithEncoder {
@@ -69,7 +65,6 @@ impl ArithEncoder {
             count: 0,
             range: 4095,
             left: room - 13,
-            entries: entries(),
         })
     }
 
@@ -93,7 +88,7 @@ impl ArithEncoder {
             self.count -= 32;
             self.left -= 32;
         }
-        let entry = self.entries[(p.value() % 128) as usize];
+        let entry = entries()[(p.value() % 128) as usize];
         let part = narrow(self.range, symbol, u64::from(p.value()), entry);
         let count = self.count + part.doublings;
         if count > self.left {

@@ -1,6 +1,5 @@
 // What a symbol needs of its probability.
-ghost use Rattle.std.specs.Prelude.{◌≡◌, ◌+◌, ◌<◌, ◌≤◌};
-ghost use Rattle.arith_encoder.specs.Registers.{IsEntry, AreEntries};
+ghost use Rattle.arith_encoder.specs.Registers.{AreEntries};
 
 // How far a probability is shifted to have eight bits, and what it is then.
 #[derive(Clone, Copy)]
@@ -9,27 +8,29 @@ pub(crate) struct Entry {
     pub(crate) shift: u64,
 }
 
-impl Entry {
-    fn new(p: u64) -> Entry
-        requires least { 1 ≤ p }
-        requires most { p ≤ 128 }
-        ensures { IsEntry p result }
-    {
-        let shift = p.leading_zeros() - 56;
-        Entry {
-            scaled: p << shift,
-            shift: u64::from(shift),
-        }
-    }
+macro_rules! entries {
+    ($($shift:literal: $($p:literal)*;)*) => {
+        [$($(Entry { scaled: $p << $shift, shift: $shift }),*),*]
+    };
 }
 
 // The entry of each probability from 1 to 127 at its place, that of 128 at place 0.
-pub(crate) fn entries() -> [Entry; 128]
-    ensures { AreEntries result }
+static ENTRIES: [Entry; 128] = entries! {
+    0: 128;
+    7: 1;
+    6: 2 3;
+    5: 4 5 6 7;
+    4: 8 9 10 11 12 13 14 15;
+    3: 16 17 18 19 20 21 22 23 24 25 26 27 28 29 30 31;
+    2: 32 33 34 35 36 37 38 39 40 41 42 43 44 45 46 47 48 49 50 51 52 53 54 55 56 57 58 59 60 61 62 63;
+    1: 64 65 66 67 68 69 70 71 72 73 74 75 76 77 78 79 80 81 82 83 84 85 86 87 88 89 90 91 92 93 94 95
+       96 97 98 99 100 101 102 103 104 105 106 107 108 109 110 111 112 113 114 115 116 117 118 119 120
+       121 122 123 124 125 126 127;
+};
+
+#[inline(always)]
+pub(crate) fn entries() -> &'static [Entry; 128]
+    ensures { AreEntries result.now }
 {
-    let mut entries = [Entry::new(128); 128];
-    for p in 1..128usize {
-        entries[p] = Entry::new(p as u64);
-    }
-    entries
+    &ENTRIES
 }

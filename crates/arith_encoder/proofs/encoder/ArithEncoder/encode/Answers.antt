@@ -23,7 +23,6 @@ record IsSame (i j : Inside) : Type 0 where
   room : j.held.room ≡ i.held.room
   reached : ReachedOf j ≡ ReachedOf i
   range : j.range ≡ i.range
-  entries : j.entries ≡ i.entries
   registers : RegistersOf j
   few : j.count < 32
 
@@ -34,10 +33,10 @@ some_left i j g r many number count before room is =
     let few = r.few in
     let one = one_shl (i.count - 20) 64 (omega arith) in
     let l = left_by i.held g i.low i.count i.range i.left r many number count room in
-    rw (is, one) (record { before = before; room = room; reached = l.reached; range = refl; entries = refl; registers = l.registers; few = omega arith })
+    rw (is, one) (record { before = before; room = room; reached = l.reached; range = refl; registers = l.registers; few = omega arith })
 
 none_left : (i j : Inside) → RegistersOf i → i.count < 32 → j ≡ i → IsSame i j
-none_left i j r few is = rw is (record { before = refl; room = refl; reached = refl; range = refl; entries = refl; registers = r; few = few })
+none_left i j r few is = rw is (record { before = refl; room = refl; reached = refl; range = refl; registers = r; few = few })
 
 -- the part of a symbol, of a probability that was read
 with_prob : (range p q : ℕ) (symbol : Bool) (start after d : ℕ) → q ≡ p → IsNarrowed range q symbol start after d → IsNarrowed range p symbol start after d
@@ -52,24 +51,24 @@ same_encoding a b r s i j e f g = ap (λ x. made x r i) e ∙ ap (λ x. made b x
 pub push-requires-clause-carry : goal.push-requires-clause-carry
 push-requires-clause-carry c =
     let i = c.self.inside in
-    leaves_below i.held i.low i.count i.range i.left c.self.invariant.registers (omega arith)
+    leaves_below i.held i.low i.count i.range i.left c.self.invariant (omega arith)
 
 pub invariant_of-self : goal.invariant_of-self
 invariant_of-self c =
     let i = c.self.inside in
     let j = c.if-self-ge32.self-inside in
-    let r = c.self.invariant.registers in
+    let r = c.self.invariant in
     let m : IsSame i j = elim c.if-self-ge32.branch [
       | then-self-ge32 w ↦ some_left i j w.push.new.self r w.if-self-ge32.true w.push.ensures.number w.push.ensures.count w.push.ensures.before w.push.ensures.room w.self-inside-is
       | else-self-ge32 w ↦ none_left i j r w.if-self-ge32.false w.self-inside-is
     ] in
-    record { registers = m.registers; entries = rw m.entries c.self.invariant.entries }
+    m.registers
 
 pub returns-then-count-self-clause-unchanged : goal.returns-then-count-self-clause-unchanged
 returns-then-count-self-clause-unchanged c unchanged =
     let i = c.self.inside in
     let j = c.if-self-ge32.self-inside in
-    let r = c.self.invariant.registers in
+    let r = c.self.invariant in
     let m : IsSame i j = elim c.if-self-ge32.branch [
       | then-self-ge32 w ↦ some_left i j w.push.new.self r w.if-self-ge32.true w.push.ensures.number w.push.ensures.count w.push.ensures.before w.push.ensures.room w.self-inside-is
       | else-self-ge32 w ↦ none_left i j r w.if-self-ge32.false w.self-inside-is
@@ -80,7 +79,7 @@ pub overflow_add-self : goal.overflow_add-self
 overflow_add-self c =
     let i = c.self.inside in
     let j = c.if-self-ge32.self-inside in
-    let r = c.self.invariant.registers in
+    let r = c.self.invariant in
     let m : IsSame i j = elim c.if-self-ge32.branch [
       | then-self-ge32 w ↦ some_left i j w.push.new.self r w.if-self-ge32.true w.push.ensures.number w.push.ensures.count w.push.ensures.before w.push.ensures.room w.self-inside-is
       | else-self-ge32 w ↦ none_left i j r w.if-self-ge32.false w.self-inside-is
@@ -96,7 +95,7 @@ pub invariant_of-self-2 : goal.invariant_of-self-2
 invariant_of-self-2 c =
     let i = c.self.inside in
     let j = c.if-self-ge32.self-inside in
-    let r = c.self.invariant.registers in
+    let r = c.self.invariant in
     let m : IsSame i j = elim c.if-self-ge32.branch [
       | then-self-ge32 w ↦ some_left i j w.push.new.self r w.if-self-ge32.true w.push.ensures.number w.push.ensures.count w.push.ensures.before w.push.ensures.room w.self-inside-is
       | else-self-ge32 w ↦ none_left i j r w.if-self-ge32.false w.self-inside-is
@@ -106,13 +105,13 @@ invariant_of-self-2 c =
     let n = with_prob j.range c.args.p c.from.result c.args.symbol part.start part.range part.doublings prob
     (record { narrowed_is = c.narrow-part.ensures.narrowed; in_range = c.narrow-part.ensures.range; few = c.narrow-part.ensures.few; within = c.narrow-part.ensures.within }) in
     let t = taken j.held j.low j.count j.range j.left c.args.p c.args.symbol part.start part.range part.doublings c.value-2.ensures.least c.value-2.ensures.most m.registers m.few n in
-    record { registers = rw t.low_is (t.registers (omega (arith, c.if-count-self.false))); entries = rw m.entries c.self.invariant.entries }
+    rw t.low_is (t.registers (omega (arith, c.if-count-self.false)))
 
 pub returns-clause-reached : goal.returns-clause-reached
 returns-clause-reached c done =
     let i = c.self.inside in
     let j = c.if-self-ge32.self-inside in
-    let r = c.self.invariant.registers in
+    let r = c.self.invariant in
     let m : IsSame i j = elim c.if-self-ge32.branch [
       | then-self-ge32 w ↦ some_left i j w.push.new.self r w.if-self-ge32.true w.push.ensures.number w.push.ensures.count w.push.ensures.before w.push.ensures.room w.self-inside-is
       | else-self-ge32 w ↦ none_left i j r w.if-self-ge32.false w.self-inside-is
@@ -128,7 +127,7 @@ pub returns-clause-stands : goal.returns-clause-stands
 returns-clause-stands c done pairs stands =
     let i = c.self.inside in
     let j = c.if-self-ge32.self-inside in
-    let r = c.self.invariant.registers in
+    let r = c.self.invariant in
     let m : IsSame i j = elim c.if-self-ge32.branch [
       | then-self-ge32 w ↦ some_left i j w.push.new.self r w.if-self-ge32.true w.push.ensures.number w.push.ensures.count w.push.ensures.before w.push.ensures.room w.self-inside-is
       | else-self-ge32 w ↦ none_left i j r w.if-self-ge32.false w.self-inside-is

@@ -64,12 +64,12 @@ whole before h low count range left pairs r is front =
 pub push-requires-clause-carry : goal.push-requires-clause-carry
 push-requires-clause-carry c =
     let i = c.self.inside in
-    leaves_below i.held i.low i.count i.range i.left c.self.invariant.registers (omega arith)
+    leaves_below i.held i.low i.count i.range i.left c.self.invariant (omega arith)
 
 pub finish-writer-requires-clause-carry : goal.finish-writer-requires-clause-carry
 finish-writer-requires-clause-carry c =
     let i = c.self.inside in
-    let r = c.self.invariant.registers in
+    let r = c.self.invariant in
     let l : IsLast i c.if-count-ge32.held c.if-count-ge32.low c.if-count-ge32.count = elim c.if-count-ge32.branch [
       | then-count-ge32 w ↦ some_left i c.if-count-ge32.held w.push.new.self c.if-count-ge32.low c.if-count-ge32.count r w.if-count-ge32.true w.push.ensures.number w.push.ensures.count w.push.ensures.before w.push.ensures.room w.held-is w.low-is w.count-is
       | else-count-ge32 w ↦ none_left i c.if-count-ge32.held c.if-count-ge32.low c.if-count-ge32.count r w.held-is w.low-is w.count-is
@@ -79,7 +79,7 @@ finish-writer-requires-clause-carry c =
 pub returns-clause-bits : goal.returns-clause-bits
 returns-clause-bits c pairs stands =
     let i = c.self.inside in
-    let r = c.self.invariant.registers in
+    let r = c.self.invariant in
     let l : IsLast i c.if-count-ge32.held c.if-count-ge32.low c.if-count-ge32.count = elim c.if-count-ge32.branch [
       | then-count-ge32 w ↦ some_left i c.if-count-ge32.held w.push.new.self c.if-count-ge32.low c.if-count-ge32.count r w.if-count-ge32.true w.push.ensures.number w.push.ensures.count w.push.ensures.before w.push.ensures.room w.held-is w.low-is w.count-is
       | else-count-ge32 w ↦ none_left i c.if-count-ge32.held c.if-count-ge32.low c.if-count-ge32.count r w.held-is w.low-is w.count-is
