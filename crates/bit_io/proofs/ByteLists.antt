@@ -6,6 +6,7 @@ use Rattle.dst_spec.specs.Bits.{bits, number_from, octets}
 use Rattle.dst_spec.proofs.Numbers.{length-bits, length-range, get_or-range}
 use Rattle.bit_io.specs.Writing.{to_byte_end}
 use Rattle.bit_io.proofs.Windows.{number_of_byte}
+use Rattle.dst_spec.proofs.Lists.{get_or-zeros}
 
 -- bytes are the bytes of their bits
 pub octets-bits : (bytes : List ℕ) → ((i : ℕ) → get_or bytes i 0 < 256) → octets (bits bytes) ≡ bytes
@@ -25,13 +26,8 @@ octets-bits bytes small =
     rw count same
 
 -- zero bits up to the byte's end change no byte
-zero_at : (k i : ℕ) → ◌≡◌ {A = ℕ} (get_or (replicate k 0) i 0) 0
-zero_at zero i = refl
-zero_at (suc k) zero = refl
-zero_at (suc k) (suc i) = zero_at k i
-
 bit_before_zeros : (xs : List ℕ) (k i : ℕ) → get_or (xs ++ replicate k 0) i 0 ≡ get_or xs i 0
-bit_before_zeros [] k i = zero_at k i
+bit_before_zeros [] k i = get_or-zeros k i
 bit_before_zeros (x ∷ xs) k zero = refl
 bit_before_zeros (x ∷ xs) k (suc i) = bit_before_zeros xs k i
 

@@ -1,4 +1,3 @@
 pub mod Windows
-pub mod BitLists
 pub mod ByteLists
 pub mod Buffers

@@ -44,7 +44,7 @@ fn no_bit_fits_in_no_bytes(rt: HostRuntime) -> Result<(), Fail> {
 }
 
 #[test]
-fn words_are_read_at_every_place(rt: HostRuntime) -> Result<(), Fail> {
+fn numbers_are_read_at_every_place(rt: HostRuntime) -> Result<(), Fail> {
     let bytes = [0x01, 0x23, 0x45, 0x67, 0x89, 0xab, 0xcd, 0xef, 0xff];
     let cases: [(u32, u32, Option<u32>, Option<i32>); 10] = [
         (0, 32, Some(0x0123_4567), Some(0x0123_4567)),

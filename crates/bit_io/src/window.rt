@@ -14,13 +14,13 @@ pub(crate) fn number_at(bytes: &[u8], place: u64, n: u32) -> u32
         return 0;
     }
     let skipped = (place % 8) as u32;
-    let word = word_at(bytes, (place / 8) as usize);
+    let window = window_at(bytes, (place / 8) as usize);
     let behind = 64 - skipped - n;
-    ((word >> behind) % (1 << n)) as u32
+    ((window >> behind) % (1 << n)) as u32
 }
 
 // The number of the eight bytes from `first` on. Bytes past the end are 0.
-fn word_at(bytes: &[u8], first: usize) -> u64
+fn window_at(bytes: &[u8], first: usize) -> u64
     requires early { first < 2 ^ 60 }
     requires short { length bytes.now ≤ 2 ^ 50 }
     ensures number { result ≡ number_from (bits bytes.now) (8 * first) 64 }
@@ -37,11 +37,11 @@ fn word_at(bytes: &[u8], first: usize) -> u64
             bytes[first + 7],
         ]);
     }
-    let mut word = 0;
+    let mut window = 0;
     for k in 0..8 {
-        word = word * 256 + u64::from(byte_or_zero(bytes, first + k));
+        window = window * 256 + u64::from(byte_or_zero(bytes, first + k));
     }
-    word
+    window
 }
 
 fn byte_or_zero(bytes: &[u8], place: usize) -> u8

@@ -86,9 +86,9 @@ impl BitWriter {
         if self.room() < u64::from(n) {
             return false;
         }
-        let word = u64::from(self.pending) << n | u64::from(value);
-        self.count = push_bytes(&mut self.bytes, word, self.count + n);
-        self.pending = (word % (1 << self.count)) as u8;
+        let number = u64::from(self.pending) << n | u64::from(value);
+        self.count = push_bytes(&mut self.bytes, number, self.count + n);
+        self.pending = (number % (1 << self.count)) as u8;
         true
     }
 
@@ -123,19 +123,19 @@ fn as_octets(bytes: &[u8]) -> &[u8]
     bytes
 }
 
-// Appends the whole bytes of a word of so many bits, and says how many bits are left behind them.
-fn push_bytes(bytes: &mut Vec<u8>, word: u64, count: u32) -> u32
+// Appends the whole bytes of a number of so many bits, and says how many bits are left behind them.
+fn push_bytes(bytes: &mut Vec<u8>, number: u64, count: u32) -> u32
     requires most { count ≤ 64 }
     requires room { vec_len bytes.old + count / 8 ≤ vec_capacity bytes.old }
     ensures rest { result ≡ count % 8 }
-    ensures bits { bits_of bytes.new.items ++ low_bits result word ≡ bits_of bytes.old.items ++ low_bits count word }
+    ensures bits { bits_of bytes.new.items ++ low_bits result number ≡ bits_of bytes.old.items ++ low_bits count number }
     ensures len { vec_len bytes.new ≡ vec_len bytes.old + count / 8 }
     ensures capacity { vec_capacity bytes.old ≤ vec_capacity bytes.new }
 {
     let mut rest = count;
     while rest >= 8 {
         rest -= 8;
-        let _ = bytes.push(((word >> rest) % 256) as u8);
+        let _ = bytes.push(((number >> rest) % 256) as u8);
     }
     rest
 }

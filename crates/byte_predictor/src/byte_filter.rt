@@ -41,7 +41,7 @@ impl ByteFilter {
             fill_part(&mut parts[j], coefs, 8 * j);
         }
         ByteFilter {
-            coefs: kept(coefs),
+            coefs: with_zeros(coefs),
             length: coefs.len(),
             parts,
         }
@@ -77,7 +77,7 @@ pub fn predict(filter: &ByteFilter, history: &History) -> i32
 }
 
 // The coefficients in front of an array.
-pub(crate) fn kept(coefs: &[i16]) -> [i16; 128]
+pub(crate) fn with_zeros(coefs: &[i16]) -> [i16; 128]
     requires { length coefs.now ≤ 128 }
     ensures { take (length coefs.now) result ≡ coefs.now }
 {

@@ -6,7 +6,7 @@ ghost use Rattle.byte_predictor.specs.Samples.{IsBefore, samples_of};
 
 use std::marker::Model;
 
-/// The latest 128 samples of a channel, the newest first, kept in sixteen bytes.
+/// The latest 128 samples of a channel, the newest first, in sixteen bytes.
 #[derive(Drop)]
 pub struct History {
     bytes: [u8; 16],

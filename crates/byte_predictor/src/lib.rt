@@ -16,7 +16,7 @@
 //! sum of the coefficients' sizes.
 //!
 //! ```text
-//! rows.build(&table);                    // a `RowFilter` that is kept from frame to frame
+//! rows.build(&table);                    // a `RowFilter` for frame after frame
 //! let mut ahead = Ahead::fresh(&rows);
 //! for byte in sound.iter_mut() {
 //!     for place in 0..8 {

@@ -4,7 +4,7 @@ ghost use Rattle.dst_spec.specs.Table.{filter_kind, IsTable, InRange};
 ghost use Rattle.byte_predictor.specs.Samples.{rising_bits, signed_sum};
 ghost use Rattle.byte_predictor.specs.Upward.{above_zero, upward_sum, size_sum, far, twice_ones};
 
-use crate::byte_filter::{coef_at, kept};
+use crate::byte_filter::{coef_at, with_zeros};
 use dst_num::FilterTable;
 use std::marker::Model;
 
@@ -50,7 +50,7 @@ impl RowFilter {
     {
         let coefs = table.coefs();
         let later = far_coefs(coefs);
-        self.coefs = kept(coefs);
+        self.coefs = with_zeros(coefs);
         self.length = coefs.len();
         self.size = size_of_all(coefs);
         fill_near(&mut self.near, coefs);

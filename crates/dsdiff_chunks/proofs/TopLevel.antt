@@ -1,6 +1,6 @@
 -- The chunks of a form, one after the other.
 use Rattle.std.proofs.Common.{◌≡◌, ℕ, zero, suc, ◌<◌, ◌≤◌, List, [], ◌∷◌, ◌++◌, Bool, true, false, Some, None, refl, sym, ap, ◌∙◌, arith, append_assoc}
-use Rattle.std.specs.Prelude.{nat_lt, nat_le, if◌then◌else◌, ◌&&◌, not}
+use Rattle.std.specs.Prelude.{nat_lt, nat_le, if◌then◌else◌, not}
 use Rattle.std.specs.List.{Contains}
 use Rattle.std.proofs.lemmas.Bool.{le-ltb, lt-ltb, leb-true}
 use Rattle.dsdiff_spec.specs.Bytes.{◌is◌}
@@ -10,6 +10,7 @@ use Rattle.dsdiff_spec.specs.declared.faults.FileFault.{FileFault}
 use Rattle.dsdiff_spec.specs.declared.faults.FileFault.TheVariants.{Overrun, TooManyChunks}
 use Rattle.dsdiff_chunks.specs.Lawful.{TileTo}
 use Rattle.dsdiff_chunks.specs.Opening.{may_lack_pad}
+use Rattle.dst_spec.proofs.Lists.{both_true as both_hold}
 
 -- chunks that were found, in front of those found from the next place on
 abbrev pub in_front : List Head → Found → Found
@@ -106,11 +107,6 @@ overrun_found m file end most place heads all f before lt refused =
     at false fit e = ap (λ found. found.fault) (overruns m file end most place (head_at file place) lt refl fit) ∙ e
 
 -- where a chunk fits, its body lies before the end, and its pad byte at most one byte behind
-both_hold : (a b : Bool) → (a && b) ≡ true → (a ≡ true) × (b ≡ true)
-both_hold true true e = (refl, refl)
-both_hold true false e = absurd cc
-both_hold false b e = absurd cc
-
 pub body_fits : (end : ℕ) (h : Head) → fits may_lack_pad end h ≡ true → body_end h ≤ end
 body_fits end h e = at (h.id is "DSD ") (both_hold _ _ e).1
   where

@@ -157,5 +157,5 @@ fn is_sound_of(channels: Channels, told: u32, sound: u64) -> bool
     ensures { MatchBool result (is_bad_sound channels.channels (sound_bytes channels) told sound ≡ false) (is_bad_sound channels.channels (sound_bytes channels) told sound ≡ true) }
 {
     sound % channels.count() as u64 == 0
-        && sound.div_ceil(channels.frame_bytes() as u64) == u64::from(told)
+        && sound.div_ceil(channels.sound_bytes() as u64) == u64::from(told)
 }

@@ -30,7 +30,7 @@ fn count_frames(channels: Channels, sound_size: u64) -> Result<u32, FileFault>
     if sound_size % channels.count() as u64 != 0 {
         return Err(FileFault::SoundUneven);
     }
-    let frame_bytes = channels.frame_bytes() as u64;
+    let frame_bytes = channels.sound_bytes() as u64;
     let frames = (sound_size + frame_bytes - 1) / frame_bytes;
     if frames > 1_000_000 {
         return Err(FileFault::TooManyFrames);

@@ -7,14 +7,10 @@ use Rattle.std.specs.Prelude.{not, ◌&&◌, ◌||◌, bytes_eq, codes}
 use Rattle.dsdiff_spec.specs.Words.{Word, Command, Slot, slot_numbers, read_slots, Setting, read_settings}
 use Rattle.dsdiff_spec.specs.Rows.{Row, rows, command_behind, row_command}
 use Rattle.dsdiff_spec.specs.Laws.{OneRowLaw}
+use Rattle.dst_spec.proofs.Lists.{both_true}
 
 no_truth : false ≡ true → ⊥
 no_truth e = absurd cc
-
-both_true : (a b : Bool) → (a && b) ≡ true → (a ≡ true) × (b ≡ true)
-both_true true true e = (refl, refl)
-both_true true false e = absurd cc
-both_true false b e = absurd cc
 
 -- two rows that no words have: of different names, or without options and of different numbers of words
 abbrev has_none : List Setting → Bool

@@ -22,6 +22,7 @@ use Rattle.dsdiff_spec.specs.Lines.{Line, frame_line, check_line, plain_frame_li
 use Rattle.dsdiff_spec.specs.Outcome.{Answer, done, Refuses, Shows, WritesSound}
 use Rattle.dsdiff_spec.proofs.Verdicts.{NotRefused}
 use Rattle.dsdiff_spec.proofs.Stopping.{IsSettled, AreSettled, One}
+use Rattle.dst_spec.proofs.Lists.{same_err}
 
 -- ---- a frame offends in one way, or in none
 abbrev pub OffendsOnce : Shape → List ℕ → Type 0
@@ -29,9 +30,6 @@ OffendsOnce f w = (fault : FrameFault) × Offends f w fault × ((other : FrameFa
 
 abbrev pub OffendsNever : Shape → List ℕ → Type 0
 OffendsNever f w = (fault : FrameFault) → Offends f w fault → ⊥
-
-same_err : {A : Type 0} (a b : FrameFault) → ◌≡◌ {A = Result A FrameFault} (Err a) (Err b) → a ≡ b
-same_err a b e = cc
 
 pub offends_or_not : (f : Shape) (w : List ℕ) → OffendsOnce f w ⊎ OffendsNever f w
 offends_or_not f w = go (read (frame_fields f) (bits w) 0) refl

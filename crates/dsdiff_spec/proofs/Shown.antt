@@ -21,7 +21,7 @@ use Rattle.dsdiff_spec.proofs.Outcomes.{outcome_open, says, meaning_is_not_refus
 
 -- the filter 0 and the probabilities 128 and 128 for one channel
 abbrev params : Params
-params = record { filter_map = 0 ∷ []; prob_map = 0 ∷ []; half = false ∷ []; filters = (pos 0 ∷ []) ∷ []; probs = (128 ∷ 128 ∷ []) ∷ [] }
+params = record { filter_map = 0 ∷ []; prob_map = 0 ∷ []; half_prob = false ∷ []; filters = (pos 0 ∷ []) ∷ []; probs = (128 ∷ 128 ∷ []) ∷ [] }
 
 filter_table : HasTable filter_kind (pos 0 ∷ []) (replicate 17 0)
 unfolding low_bits plain_values table_bits
@@ -46,7 +46,7 @@ unfolding Numbers
 lawful = record {
   filter_map = (refl, (omega arith, tt));
   prob_map = (refl, (omega arith, tt));
-  half = refl;
+  half_prob = refl;
   filter_count = refl;
   prob_count = refl;
   filters = (filter_table.table, tt);

@@ -10,14 +10,12 @@ use Rattle.dst_frames.specs.Ready.{IsReady}
 use Rattle.dst_frames.specs.declared.state.ChannelState.{ChannelState}
 use Rattle.dst_frames.specs.Underway.{earlier, IsUnderway, IsDecodedTo}
 use Rattle.dst_frames.proofs.History.{earlier-suc}
+use Rattle.dst_spec.proofs.Lists.{place-below}
 
 -- the byte of a sample stands before those of byte m
-byte_before : (b c channels m : ℕ) → c < channels → b < m → b * channels + c < m * channels
-byte_before b c channels m h k = grind arith
-
 same_sample : (f : Shape) (a b : List ℕ) (m c t : ℕ) → c < f.channels → ((k : ℕ) → k < m * f.channels → get_or a k 0 ≡ get_or b k 0) → t < 8 * m → sample f a c (pos t) ≡ sample f b c (pos t)
 same_sample f a b m c t h same lt =
-    let inside = byte_before (t / 8) c f.channels m h (omega arith) in
+    let inside = place-below (t / 8) c f.channels m h (omega arith) in
     ap (λ x. x / 2 ^ (7 - t % 8) % 2) (same (t / 8 * f.channels + c) inside)
 
 same_up_to : (f : Shape) (a b : List ℕ) (m c : ℕ) → c < f.channels → ((k : ℕ) → k < m * f.channels → get_or a k 0 ≡ get_or b k 0) → (t : ℕ) → t ≤ 8 * m → earlier f a c t ≡ earlier f b c t
@@ -52,7 +50,7 @@ pub renamed : (f : Shape) (P : Params) (reserved : Bool) (t place : ℕ) (sample
     IsUnderway f P reserved t place samples decoder states → IsUnderway f P reserved t place others decoder states
 renamed f P reserved t place samples others decoder states same u = record {
   ready = λ c other h. subst (λ xs. IsReady (filter_of P c) (probs_of P c) place xs (get_or states c other)) (same c h) (u.ready c other h);
-  code = λ sound told. u.code sound (λ c h. told c h ∙ sym (same c h));
+  code = λ sound given. u.code sound (λ c h. given c h ∙ sym (same c h));
 }
 
 -- the byte is finished
@@ -62,12 +60,12 @@ pub byte_ends : (f : Shape) (P : Params) (reserved : Bool) (m : ℕ) (before aft
     ((c : ℕ) → c < f.channels → (k : ℕ) → k < 8 → get_or bytes c 0 / 2 ^ k % 2 ≡ get_or (later c) k 0) →
     ((c : ℕ) (other : ChannelState) → c < f.channels → IsReady (filter_of P c) (probs_of P c) 0 (later c) (get_or new c other)) →
     IsDecodedTo f P reserved (m + 1) after decoder new
-byte_ends f P reserved m before after bytes later decoder states new u behind same told bits added =
+byte_ends f P reserved m before after bytes later decoder states new u behind same given bits added =
     let next : 8 * m + 8 ≡ 8 * (m + 1) = omega arith in
     let samples_are : (c : ℕ) → c < f.channels → later c ≡ earlier f after c (8 * (m + 1)) = λ c h.
     let long = (u.ready c (record { ahead = record { lanes = []; newest = 0 }; next = 0 }) h).ahead.long in
     let front = same_earlier f after before m c h same ∙ sym (behind c h) in
-    sym (byte_samples f after (later c) m c (get_or bytes c 0) (told c h) (omega (arith, long)) (bits c h) front 8 0 (omega arith)) ∙ ap (earlier f after c) next in
+    sym (byte_samples f after (later c) m c (get_or bytes c 0) (given c h) (omega (arith, long)) (bits c h) front 8 0 (omega arith)) ∙ ap (earlier f after c) next in
     let v : IsUnderway f P reserved (8 * m + 8) 0 later decoder new = record { ready = added; code = u.code } in
     subst (λ t. IsUnderway f P reserved t 0 (λ c. earlier f after c (8 * (m + 1))) decoder new) next (renamed f P reserved (8 * m + 8) 0 later (λ c. earlier f after c (8 * (m + 1))) decoder new samples_are v)
 

@@ -5,7 +5,7 @@ use Rattle.std.proofs.lemmas.Int.{ints}
 use Rattle.std.proofs.lemmas.List.{length-map, get_or-map}
 use Rattle.dst_spec.specs.Table.{prob_kind, InRange, IsTable}
 use Rattle.std.specs.Int.{is_negative}
-use Rattle.dst_spec.proofs.Each.{get_all}
+use Rattle.dst_spec.proofs.Lists.{get_all}
 use Rattle.dst_frames.specs.Tables.{prob_at, prob_in, IsEntry}
 
 pub prob_in_range : (probs : List ℕ) (i : ℕ) → IsTable prob_kind (map pos probs) → i < length probs → (1 ≤ get_or probs i 0) × (get_or probs i 0 ≤ 128)
@@ -16,8 +16,8 @@ prob_in_range probs i table lt =
     let at : InRange prob_kind (pos (get_or probs i 0)) = subst (InRange prob_kind) (get_or-map (λ x. pos x) probs i 0 (pos 0) lt) one in
     (omega (arith, ints, at.0), omega (arith, ints, at.1))
 
-kept_in : (p : ℕ) → 1 ≤ p → p ≤ 128 → prob_in (p % 128) ≡ p
-kept_in p least most = go (cases_lt p 128)
+prob_again : (p : ℕ) → 1 ≤ p → p ≤ 128 → prob_in (p % 128) ≡ p
+prob_again p least most = go (cases_lt p 128)
   where
     go : (p < 128) ⊎ (128 ≤ p) → prob_in (p % 128) ≡ p
     go (inl lt) =
@@ -32,10 +32,10 @@ pub low_entry : (z : ℤ) (probs : List ℕ) (p : ℕ) → p ≡ prob_at probs z
 low_entry z probs p is least most negative =
     let low : p % 128 < 128 = omega arith in
     let again : p % 128 % 128 ≡ p % 128 = omega arith in
-    record { prob = ap prob_in again ∙ kept_in p least most ∙ is; guess = lt-ltb (p % 128) 128 low ∙ sym negative }
+    record { prob = ap prob_in again ∙ prob_again p least most ∙ is; guess = lt-ltb (p % 128) 128 low ∙ sym negative }
 
 pub high_entry : (z : ℤ) (probs : List ℕ) (p : ℕ) → p ≡ prob_at probs z → 1 ≤ p → p ≤ 128 → is_negative z ≡ false → IsEntry z probs (p % 128 + 128)
 high_entry z probs p is least most positive =
     let high : 128 ≤ p % 128 + 128 = omega arith in
     let again : (p % 128 + 128) % 128 ≡ p % 128 = omega arith in
-    record { prob = ap prob_in again ∙ kept_in p least most ∙ is; guess = le-ltb (p % 128 + 128) 128 high ∙ sym positive }
+    record { prob = ap prob_in again ∙ prob_again p least most ∙ is; guess = le-ltb (p % 128 + 128) 128 high ∙ sym positive }

@@ -8,7 +8,7 @@ use Rattle.std.specs.Int.{is_negative}
 use Rattle.dst_spec.specs.Sample.{Shape, sample}
 use Rattle.dst_spec.specs.Header.{Params, bit_of}
 use Rattle.dst_spec.specs.Guess.{sum_before, filter_of, probs_of, prediction, probability, as_guessed}
-use Rattle.dst_spec.specs.Symbols.{first_probability}
+use Rattle.dst_spec.specs.Symbols.{reserved_probability}
 use Rattle.byte_predictor.specs.Samples.{IsBefore, samples_of, signed_sum}
 use Rattle.dst_frames.specs.Tables.{prob_at, symbol_after}
 use Rattle.dst_frames.specs.Underway.{earlier, symbols_at, symbols_before}
@@ -35,13 +35,13 @@ bit_back false = refl
 
 -- the symbol of a sample of a sound
 pub pair_is : Predicts → (f : Shape) (P : Params) (sound : List ℕ) (c t : ℕ) (early s : Bool) (samples : List ℕ) → earlier f sound c t ≡ samples → sample f sound c (pos t) ≡ bit_of s →
-    early ≡ (get_or P.half c false && nat_lt t (length (filter_of P c))) → length (filter_of P c) ≤ 128 →
+    early ≡ (get_or P.half_prob c false && nat_lt t (length (filter_of P c))) → length (filter_of P c) ≤ 128 →
     symbol_after (filter_of P c) (probs_of P c) early samples s ≡ (as_guessed f P sound c t, probability f P sound c t)
-pair_is law f P sound c t early s samples before bit told short =
+pair_is law f P sound c t early s samples before bit given short =
     let z : signed_sum (filter_of P c) samples ≡ prediction f P sound c t =
     ap (signed_sum (filter_of P c)) (sym before) ∙ law.predicts f sound c t (earlier f sound c t) (filter_of P c) short (earlier_before law f sound c t) in
     let one : s ≡ (sample f sound c (pos t) == 1) = sym (bit_back s) ∙ ap (λ b. b == 1) (sym bit) in
-    ap₂ (λ x y. (x, y)) (ap₂ (λ n o. if is_negative n then not o else o) z one) (ap₂ (λ b n. if b then 128 else prob_at (probs_of P c) n) told z)
+    ap₂ (λ x y. (x, y)) (ap₂ (λ n o. if is_negative n then not o else o) z one) (ap₂ (λ b n. if b then 128 else prob_at (probs_of P c) n) given z)
 
 -- one more channel
 pub symbols_at-more : (f : Shape) (P : Params) (sound : List ℕ) (t n : ℕ) → symbols_at f P sound t (n + 1) ≡ symbols_at f P sound t n ++ (as_guessed f P sound n t, probability f P sound n t) ∷ []
@@ -62,5 +62,5 @@ unfolding symbols_before
 symbols_before-more f P sound reserved t =
     let g = λ (u : ℕ). symbols_at f P sound u f.channels in
     let here : 0 + t ≡ t = omega arith in
-    ap (λ xs. (reserved, first_probability P) ∷ xs)
+    ap (λ xs. (reserved, reserved_probability P) ∷ xs)
     (ap (flat_map g) (range-more 0 t) ∙ flat_map-append g (range_with_len 0 t) ((0 + t) ∷ []) ∙ ap (λ xs. flat_map g (range_with_len 0 t) ++ xs) (append-nil (g (0 + t)) ∙ ap g here))

@@ -1,21 +1,13 @@
 -- The tables that a map numbers.
-use Rattle.std.proofs.Common.{◌≡◌, ℕ, zero, suc, ◌+◌, ◌*◌, ◌/◌, ◌%◌, ◌^◌, ◌<◌, ◌≤◌, max, List, [], ◌∷◌, length, fold, get_or, reverse, refl, ap, ap₂, add-one, ◌∙◌, ℤ, pos, arith}
+use Rattle.std.proofs.Common.{◌≡◌, ℕ, zero, suc, ◌+◌, ◌*◌, ◌/◌, ◌%◌, ◌^◌, ◌<◌, ◌≤◌, List, [], length, get_or, reverse, refl, ap, ap₂, add-one, ◌∙◌, ℤ, pos, arith}
 use Rattle.std.proofs.lemmas.List.{get_or_default}
 use Rattle.std.proofs.Math.Nat.{pow-suc, pow-le-pow_right}
 use Rattle.dst_spec.specs.Bits.{low_bits, signed_bits, number_from}
 use Rattle.dst_spec.specs.Header.{Params}
-use Rattle.dst_spec.specs.Symbols.{first_probability}
+use Rattle.dst_spec.specs.Symbols.{reserved_probability}
 use Rattle.dst_spec.specs.Map.{element_count}
 use Rattle.dst_frames.specs.Reserved.{turned}
-
-count-least : (count : ℕ) (map : List ℕ) → count ≤ fold (λ n e. max n (e + 1)) count map
-count-least count [] = omega arith
-count-least count (e ∷ map) = omega (arith, count-least (max count (e + 1)) map)
-
-below_count : (count : ℕ) (map : List ℕ) (c : ℕ) → c < length map → get_or map c 0 < fold (λ n e. max n (e + 1)) count map
-below_count count [] c h = absurd (omega arith)
-below_count count (e ∷ map) zero h = omega (arith, count-least (max count (e + 1)) map)
-below_count count (e ∷ map) (suc c) h = below_count (max count (e + 1)) map c (omega arith)
+use Rattle.dst_spec.proofs.MapNumbers.{element-below as below_count}
 
 pub element-below : (map : List ℕ) (c : ℕ) → c < length map → get_or map c 0 < element_count map
 element-below map c h = below_count 0 map c h
@@ -24,8 +16,8 @@ pub turned-number : (x : ℕ) → number_from (reverse (low_bits 9 x)) 0 7 ≡ t
 unfolding number_from low_bits turned
 turned-number x = refl
 
-pub first-turned : (P : Params) (coef : ℤ) (x : ℕ) → get_or (get_or P.filters 0 []) 0 (pos 0) ≡ coef → signed_bits 9 coef ≡ low_bits 9 x → turned 7 x + 1 ≡ first_probability P
-unfolding first_probability
+pub first-turned : (P : Params) (coef : ℤ) (x : ℕ) → get_or (get_or P.filters 0 []) 0 (pos 0) ≡ coef → signed_bits 9 coef ≡ low_bits 9 x → turned 7 x + 1 ≡ reserved_probability P
+unfolding reserved_probability
 first-turned P coef x at bits =
     let number = ap (λ xs. number_from (reverse xs) 0 7) (ap (signed_bits 9) at ∙ bits) ∙ turned-number x in
     omega (arith, number)

@@ -34,11 +34,11 @@ row_begins f P reserved t place samples decoder states u = record {
 -- one channel more
 pub row_goes_on : Predicts → (f : Shape) (P : Params) (reserved : Bool) (t place : ℕ) (samples : ℕ → List ℕ) (done : ℕ) (decoder new : Decoding) (states : List ChannelState) (state : ChannelState) (early s : Bool) →
     IsRow f P reserved t place samples done decoder states → done < f.channels → done < length states →
-    early ≡ (get_or P.half done false && nat_lt t (length (filter_of P done))) → length (filter_of P done) ≤ 128 →
+    early ≡ (get_or P.half_prob done false && nat_lt t (length (filter_of P done))) → length (filter_of P done) ≤ 128 →
     IsReady (filter_of P done) (probs_of P done) (place + 1) (bit_of s ∷ samples done) state →
     ((pairs : List (Bool × ℕ)) → StandsFor decoder pairs → StandsFor new (pairs ++ symbol_after (filter_of P done) (probs_of P done) early (samples done) s ∷ [])) →
     IsRow f P reserved t place samples (done + 1) new (set states done state)
-row_goes_on law f P reserved t place samples done decoder new states state early s row lt inside told short goes stands =
+row_goes_on law f P reserved t place samples done decoder new states state early s row lt inside given short goes stands =
     let front : (c : ℕ) → c < done → get_or (row.taken ++ s ∷ []) c false ≡ get_or row.taken c false = λ c h. get_or_append_left row.taken (s ∷ []) false c (omega (arith, row.count)) in
     let last : get_or (row.taken ++ s ∷ []) done false ≡ s = ap (λ n. get_or (row.taken ++ s ∷ []) n false) (sym row.count) ∙ get_or-append_seam row.taken s [] false in
     let Q : ℕ → Type 0 = λ c. (other : ChannelState) → IsReady (filter_of P c) (probs_of P c) (place + 1) (bit_of (get_or (row.taken ++ s ∷ []) c false) ∷ samples c) (get_or (set states done state) c other) in
@@ -59,7 +59,7 @@ row_goes_on law f P reserved t place samples done decoder new states state early
       code = λ sound same bits.
           let old = row.code sound same (λ c h. bits c (omega arith) ∙ ap bit_of (front c h)) in
           let bit : sample f sound done (pos t) ≡ bit_of s = bits done (omega arith) ∙ ap bit_of last in
-          let pair = pair_is law f P sound done t early s (samples done) (same done lt) bit told short in
+          let pair = pair_is law f P sound done t early s (samples done) (same done lt) bit given short in
           let whole : (symbols_before f P sound reserved t ++ symbols_at f P sound t done) ++ symbol_after (filter_of P done) (probs_of P done) early (samples done) s ∷ [] ≡ symbols_before f P sound reserved t ++ symbols_at f P sound t (done + 1) =
           ap (λ q. (symbols_before f P sound reserved t ++ symbols_at f P sound t done) ++ q ∷ []) pair
           ∙ append_assoc (symbols_before f P sound reserved t) (symbols_at f P sound t done) ((as_guessed f P sound done t, probability f P sound done t) ∷ [])

@@ -19,22 +19,22 @@ turned_back true false = refl
 turned_back false true = refl
 turned_back false false = refl
 
-told_prob : (early : Bool) (e low prob : ℕ) → low ≡ (if early then 0 else e % 128) → prob_in (e % 128) ≡ prob → prob_in low ≡ (if early then 128 else prob)
-told_prob true e low prob is told = ap prob_in is
-told_prob false e low prob is told = ap prob_in is ∙ told
+prob_of_entry : (early : Bool) (e low prob : ℕ) → low ≡ (if early then 0 else e % 128) → prob_in (e % 128) ≡ prob → prob_in low ≡ (if early then 128 else prob)
+prob_of_entry true e low prob is as_entered = ap prob_in is
+prob_of_entry false e low prob is as_entered = ap prob_in is ∙ as_entered
 
 pub symbol_is : (filter : List ℤ) (probs samples : List ℕ) (early s : Bool) (e low p : ℕ) → IsEntry (signed_sum filter samples) probs e → low ≡ (if early then 0 else e % 128) → p ≡ prob_in low →
     ◌≡◌ {A = Bool × ℕ} (s, p) (symbol_after filter probs early samples (beq s (leb 128 e)))
 symbol_is filter probs samples early s e low p entry low_is p_is =
     let negative = is_negative (signed_sum filter samples) in
     let high : leb 128 e ≡ not negative = high_is e ∙ ap not entry.guess in
-    let told : p ≡ (if early then 128 else prob_at probs (signed_sum filter samples)) = p_is ∙ told_prob early e low (prob_at probs (signed_sum filter samples)) low_is entry.prob in
-    ap₂ (λ x y. (x, y)) (turned_back s negative ∙ ap (λ h. if negative then not (beq s h) else beq s h) (sym high)) told
+    let as_entered : p ≡ (if early then 128 else prob_at probs (signed_sum filter samples)) = p_is ∙ prob_of_entry early e low (prob_at probs (signed_sum filter samples)) low_is entry.prob in
+    ap₂ (λ x y. (x, y)) (turned_back s negative ∙ ap (λ h. if negative then not (beq s h) else beq s h) (sym high)) as_entered
 
 -- an entry that was looked up for one value of the sample before it
-pub entry_behind : (filter : List ℤ) (probs samples : List ℕ) (half b s : Bool) (tables : ChannelTables) (upward next : ℕ) → IsBuilt filter probs half tables → 128 ≤ length samples →
+pub entry_behind : (filter : List ℤ) (probs samples : List ℕ) (half_prob b s : Bool) (tables : ChannelTables) (upward next : ℕ) → IsBuilt filter probs half_prob tables → 128 ≤ length samples →
     upward ≡ upward_sum tables.filter (bit_of b ∷ samples) → next ≡ get_or tables.entries upward 0 → s ≡ b → IsEntry (signed_sum filter (bit_of s ∷ samples)) probs next
-entry_behind filter probs samples half b s tables upward next built long sum is same =
+entry_behind filter probs samples half_prob b s tables upward next built long sum is same =
     let whole = sum ∙ ap (λ coefs. upward_sum coefs (bit_of b ∷ samples)) built.filter_is in
     let entry = built.entries (bit_of b ∷ samples) (omega arith) in
     subst₂ (λ x e. IsEntry (signed_sum filter (bit_of x ∷ samples)) probs e) (sym same) (ap (λ u. get_or tables.entries u 0) (sym whole) ∙ sym is) entry

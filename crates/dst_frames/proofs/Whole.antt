@@ -3,14 +3,14 @@ use Rattle.std.proofs.Common.{◌≡◌, ℕ, ◌*◌, ◌<◌, Bool, List, [], 
 use Rattle.dst_spec.specs.Sample.{Shape}
 use Rattle.dst_spec.specs.Header.{Params}
 use Rattle.dst_spec.specs.Guess.{filter_of, probs_of}
-use Rattle.dst_spec.specs.Symbols.{first_probability, symbols}
+use Rattle.dst_spec.specs.Symbols.{reserved_probability, symbols}
 use Rattle.byte_predictor.specs.Samples.{samples_of}
 use Rattle.arith_decoder.specs.Decoding.{Decoding, StandsFor}
 use Rattle.dst_frames.specs.Ready.{IsReady}
 use Rattle.dst_frames.specs.declared.state.ChannelState.{ChannelState}
 use Rattle.dst_frames.specs.Underway.{earlier, symbols_before, IsDecodedTo}
 
-no_symbols : (f : Shape) (P : Params) (sound : List ℕ) (reserved : Bool) → symbols_before f P sound reserved 0 ≡ (reserved, first_probability P) ∷ []
+no_symbols : (f : Shape) (P : Params) (sound : List ℕ) (reserved : Bool) → symbols_before f P sound reserved 0 ≡ (reserved, reserved_probability P) ∷ []
 unfolding symbols_before
 no_symbols f P sound reserved = refl
 
@@ -22,7 +22,7 @@ all_symbols : (f : Shape) (P : Params) (sound : List ℕ) (reserved : Bool) → 
 unfolding symbols_before symbols
 all_symbols f P sound reserved = refl
 
-pub frame_begins : (f : Shape) (P : Params) (reserved : Bool) (p : ℕ) (out : List ℕ) (decoder : Decoding) (states : List ChannelState) → p ≡ first_probability P → StandsFor decoder ((reserved, p) ∷ []) →
+pub frame_begins : (f : Shape) (P : Params) (reserved : Bool) (p : ℕ) (out : List ℕ) (decoder : Decoding) (states : List ChannelState) → p ≡ reserved_probability P → StandsFor decoder ((reserved, p) ∷ []) →
     ((c : ℕ) (other : ChannelState) → c < f.channels → IsReady (filter_of P c) (probs_of P c) 0 (samples_of (replicate 16 170)) (get_or states c other)) → IsDecodedTo f P reserved 0 out decoder states
 frame_begins f P reserved p out decoder states prob stands fresh = record {
   ready = λ c other h. subst (λ xs. IsReady (filter_of P c) (probs_of P c) 0 xs (get_or states c other)) (sym (no_samples f out c)) (fresh c other h);

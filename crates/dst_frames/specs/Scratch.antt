@@ -1,6 +1,6 @@
--- What is kept from frame to frame.
+-- What is for frame after frame.
 use Rattle.dst_spec.specs.Sample.{Shape}
 
 -- the channels that a scratch is for
-pub record Kept : Type 0 where
+pub record ScratchShape : Type 0 where
   pub channels : Shape

@@ -23,16 +23,16 @@ pub record IsEntry (prediction : ℤ) (probs : List ℕ) (entry : ℕ) : Type 0 
 
 -- The tables are those of a filter and a probability table; the first samples that have no other probability than 128 are as
 -- many as the filter is long where the half bit is 1, else none.
-pub record IsBuilt (filter : List ℤ) (probs : List ℕ) (half : Bool) (tables : ChannelTables) : Type 0 where
+pub record IsBuilt (filter : List ℤ) (probs : List ℕ) (half_prob : Bool) (tables : ChannelTables) : Type 0 where
   pub filter_is : tables.filter ≡ filter
   pub short : length filter ≤ 128
   pub entries : (samples : List ℕ) → 128 ≤ length samples → IsEntry (signed_sum filter samples) probs (get_or tables.entries (upward_sum filter samples) 0)
-  pub early : tables.early ≡ (if half then length filter else 0)
+  pub early : tables.early ≡ (if half_prob then length filter else 0)
 
 -- each channel has its tables
 abbrev pub AreBuilt : Shape → Params → List ChannelTables → Type 0
 AreBuilt f P all =
-    (c : ℕ) (other : ChannelTables) → c < f.channels → IsBuilt (filter_of P c) (probs_of P c) (get_or P.half c false) (get_or all c other)
+    (c : ℕ) (other : ChannelTables) → c < f.channels → IsBuilt (filter_of P c) (probs_of P c) (get_or P.half_prob c false) (get_or all c other)
 
 -- the symbol of a sample that follows others, with its probability
 abbrev pub symbol_after : List ℤ → List ℕ → Bool → List ℕ → Bool → Bool × ℕ

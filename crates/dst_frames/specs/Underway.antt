@@ -4,7 +4,7 @@ use Rattle.std.specs.List.{range_with_len}
 use Rattle.dst_spec.specs.Sample.{Shape, sample}
 use Rattle.dst_spec.specs.Header.{Params}
 use Rattle.dst_spec.specs.Guess.{filter_of, probs_of, probability, as_guessed}
-use Rattle.dst_spec.specs.Symbols.{first_probability}
+use Rattle.dst_spec.specs.Symbols.{reserved_probability}
 use Rattle.byte_predictor.specs.Samples.{samples_of}
 use Rattle.arith_decoder.specs.Decoding.{Decoding, StandsFor}
 use Rattle.dst_frames.specs.Ready.{IsReady}
@@ -22,7 +22,7 @@ symbols_at f P sound t n = map (λ c. (as_guessed f P sound c t, probability f P
 -- the symbols of a frame before the samples t
 unfoldable pub symbols_before : Shape → Params → List ℕ → Bool → ℕ → List (Bool × ℕ)
 symbols_before f P sound reserved t =
-    (reserved, first_probability P) ∷ flat_map (λ u. symbols_at f P sound u f.channels) (range_with_len 0 t)
+    (reserved, reserved_probability P) ∷ flat_map (λ u. symbols_at f P sound u f.channels) (range_with_len 0 t)
 
 -- These are the samples of each channel before sample t: each channel has come so far, and the decoder stands for the symbols
 -- of every sound that has them.

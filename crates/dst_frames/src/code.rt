@@ -9,7 +9,7 @@ ghost use Rattle.dst_frames.specs.Tables.{AreBuilt};
 ghost use Rattle.dst_frames.specs.Ready.{IsReady};
 ghost use Rattle.dst_frames.specs.Coded.{IsCodeOfSound};
 
-use crate::reserved::reserved_prob;
+use crate::reserved::reserved_probability;
 use crate::sound::decode_all;
 use crate::state::ChannelState;
 use crate::tables::ChannelTables;
@@ -29,7 +29,7 @@ pub(crate) fn decode_code(
 ) -> Result<u64, FrameFault>
     requires short { length code.bytes.now ≤ 2 ^ 50 }
     requires early { code.first < 2 ^ 61 }
-    requires channels { length params.now.half ≡ length tables.old }
+    requires channels { length params.now.half_prob ≡ length tables.old }
     requires states { length states.old ≡ length tables.old }
     requires some { 0 < length tables.old }
     requires few { length tables.old ≤ 6 }
@@ -47,7 +47,7 @@ pub(crate) fn decode_code(
         Err(fault) => return Err(fault),
     };
     build_all(tables, states, params);
-    decoder.decode(reserved_prob(params));
+    decoder.decode(reserved_probability(params));
     decode_all(&mut decoder, tables, states, out, octets);
     decoded_code();
     Ok(decoder.used())
@@ -55,7 +55,7 @@ pub(crate) fn decode_code(
 
 // The tables of each channel, and no samples yet.
 fn build_all(tables: &mut [ChannelTables], states: &mut [ChannelState], params: &Params)
-    requires channels { length params.now.half ≡ length tables.old }
+    requires channels { length params.now.half_prob ≡ length tables.old }
     requires states { length states.old ≡ length tables.old }
     ensures built { (f : Shape) → f.channels ≡ length tables.old → AreBuilt f params.now tables.new }
     ensures fresh { (c : ℕ) (other : ChannelState) → c < length tables.old

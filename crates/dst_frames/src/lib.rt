@@ -1,7 +1,7 @@
 //! Frames of Direct Stream Transfer (ISO/IEC 14496-3, subpart 10), decoded.
 //!
 //! ```text
-//! let mut scratch = Scratch::new(alloc, channels)?;                      // kept from frame to frame
+//! let mut scratch = Scratch::new(alloc, channels)?;                      // for frame after frame
 //! let unread = decode_frame(&frame, channels, &mut scratch, &mut sound)?; // the sound of the frame
 //! ```
 #![tactic(auto)]

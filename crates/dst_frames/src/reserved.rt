@@ -1,15 +1,15 @@
 // The probability of the reserved symbol, with which each code begins.
 ghost use Rattle.std.specs.Prelude.{◌≡◌, ◌<◌, ◌≤ℤ◌, ◌^◌, pos, negsuc, [], length, get_or};
 ghost use Rattle.dst_spec.specs.Bits.{signed_bits, low_bits};
-ghost use Rattle.dst_spec.specs.Symbols.{first_probability};
+ghost use Rattle.dst_spec.specs.Symbols.{reserved_probability as probability_of};
 ghost use Rattle.dst_frames.specs.Reserved.{turned};
 
 use dst_num::{Params, Prob};
 
 /// 1 and the low seven bits of coefficient 0 of filter 0 in reversed order.
-pub(crate) fn reserved_prob(params: &Params) -> Prob
-    requires { 0 < length params.now.half }
-    ensures { result ≡ first_probability params.now }
+pub(crate) fn reserved_probability(params: &Params) -> Prob
+    requires { 0 < length params.now.half_prob }
+    ensures { result ≡ probability_of params.now }
 {
     let low = turned_round(nine_bits(first_coef(params)));
     match Prob::new(u32::from(low) + 1) {
@@ -19,7 +19,7 @@ pub(crate) fn reserved_prob(params: &Params) -> Prob
 }
 
 fn first_coef(params: &Params) -> i16
-    requires { 0 < length params.now.half }
+    requires { 0 < length params.now.half_prob }
     ensures value { result ≡ get_or (get_or params.now.filters 0 []) 0 (pos 0) }
     ensures least { negsuc 255 ≤ℤ result }
     ensures most { result ≤ℤ pos 255 }

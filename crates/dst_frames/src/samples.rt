@@ -25,7 +25,7 @@ fn decode_alone(
 ) -> bool
     requires place { place < 8 }
     requires room { decoder.old.used ≤ 2 ^ 40 }
-    ensures ready { (filter : List ℤ) (probs samples : List ℕ) (half : Bool) → IsBuilt filter probs half tables.now
+    ensures ready { (filter : List ℤ) (probs samples : List ℕ) (half_prob : Bool) → IsBuilt filter probs half_prob tables.now
         → IsReady filter probs place samples state.old
         → IsReady filter probs (place + 1) (bit_of result ∷ samples) state.new }
     ensures symbol { (filter : List ℤ) (probs samples : List ℕ) (pairs : List (Bool × ℕ))
@@ -59,7 +59,7 @@ fn decode_among(
 ) -> bool
     requires place { place < 8 }
     requires room { decoder.old.used ≤ 2 ^ 40 }
-    ensures ready { (filter : List ℤ) (probs samples : List ℕ) (half : Bool) → IsBuilt filter probs half tables.now
+    ensures ready { (filter : List ℤ) (probs samples : List ℕ) (half_prob : Bool) → IsBuilt filter probs half_prob tables.now
         → IsReady filter probs place samples state.old
         → IsReady filter probs (place + 1) (bit_of result ∷ samples) state.new }
     ensures symbol { (filter : List ℤ) (probs samples : List ℕ) (pairs : List (Bool × ℕ))
@@ -92,7 +92,7 @@ fn decode_sample(
 ) -> bool
     requires place { place < 8 }
     requires room { decoder.old.used ≤ 2 ^ 40 }
-    ensures ready { (filter : List ℤ) (probs samples : List ℕ) (half : Bool) → IsBuilt filter probs half tables.now
+    ensures ready { (filter : List ℤ) (probs samples : List ℕ) (half_prob : Bool) → IsBuilt filter probs half_prob tables.now
         → IsReady filter probs place samples state.old
         → IsReady filter probs (place + 1) (bit_of result ∷ samples) state.new }
     ensures symbol { (filter : List ℤ) (probs samples : List ℕ) (pairs : List (Bool × ℕ))
@@ -118,13 +118,13 @@ fn decode_step(
     channels: usize,
     byte: usize,
     place: usize,
-    head: bool,
+    start: bool,
 )
     requires channels { channels ≡ length tables.now }
     requires states { length states.old ≡ length tables.now }
     requires place { place < 8 }
     requires byte { byte < 2 ^ 32 }
-    requires head { head ≡ false → 16 ≤ byte }
+    requires start { start ≡ false → 16 ≤ byte }
     requires few { length tables.now ≤ 6 }
     requires room { decoder.old.used + 48 ≤ 2 ^ 40 }
     ensures samples { (f : Shape) (P : Params) (reserved : Bool) (samples : ℕ → List ℕ) → f.channels ≡ length tables.now
@@ -138,7 +138,7 @@ fn decode_step(
     samples_before();
     for c in 0..channels {
         let channel = &tables[c];
-        let early = channel.is_early(byte, place, head);
+        let early = channel.is_early(byte, place, start);
         decode_sample(
             decoder,
             channel,
@@ -184,12 +184,12 @@ pub(crate) fn decode_byte(
     channels: usize,
     out: &mut [u8],
     byte: usize,
-    head: bool,
+    start: bool,
 )
     requires channels { channels ≡ length tables.now }
     requires states { length states.old ≡ length tables.now }
     requires byte { byte < 2 ^ 32 }
-    requires head { head ≡ false → 16 ≤ byte }
+    requires start { start ≡ false → 16 ≤ byte }
     requires few { length tables.now ≤ 6 }
     requires out { length out.old ≡ length tables.now }
     requires room { decoder.old.used + 384 ≤ 2 ^ 40 }
@@ -204,7 +204,7 @@ pub(crate) fn decode_byte(
     ensures used { decoder.new.used ≤ decoder.old.used + 384 }
 {
     for place in 0..8 {
-        decode_step(decoder, tables, states, channels, byte, place, head);
+        decode_step(decoder, tables, states, channels, byte, place, start);
     }
     finish_byte(tables, states, channels, out);
 }

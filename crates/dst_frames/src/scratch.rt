@@ -21,9 +21,9 @@ pub struct Scratch {
 
 impl Model for Scratch {
     ghost use Rattle.std.specs.Prelude.{◌≡◌, length};
-    ghost use Rattle.dst_frames.specs.Scratch.{Kept};
+    ghost use Rattle.dst_frames.specs.Scratch.{ScratchShape};
 
-    ghost Value = { Kept };
+    ghost Value = { ScratchShape };
 
     ghost view = { λ s. record { channels = s.channels } };
 

@@ -20,11 +20,11 @@ fn decode_bytes(
     out: &mut [u8],
     from: usize,
     to: usize,
-    head: bool,
+    start: bool,
 )
     requires channels { channels ≡ length tables.now }
     requires states { length states.old ≡ length tables.now }
-    requires head { head ≡ false → 16 ≤ from }
+    requires start { start ≡ false → 16 ≤ from }
     requires order { from ≤ to }
     requires most { to < 2 ^ 20 }
     requires few { length tables.now ≤ 6 }
@@ -46,7 +46,7 @@ fn decode_bytes(
             channels,
             &mut out[place..place + channels],
             byte,
-            head,
+            start,
         );
     }
 }

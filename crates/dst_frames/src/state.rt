@@ -18,7 +18,7 @@ pub(crate) struct ChannelState {
 impl ChannelState {
     /// Before the first sample of a frame.
     pub(crate) fn fresh(tables: &ChannelTables) -> ChannelState
-        ensures { (filter : List ℤ) (probs : List ℕ) (half : Bool) → IsBuilt filter probs half tables.now
+        ensures { (filter : List ℤ) (probs : List ℕ) (half_prob : Bool) → IsBuilt filter probs half_prob tables.now
             → IsReady filter probs 0 (samples_of (replicate 16 0xaa)) result }
     {
         let ahead = Ahead::fresh(&tables.filter);

@@ -29,34 +29,34 @@ impl ChannelTables {
 
     /// The tables of channel `c` of a frame with these parameters.
     pub(crate) fn build(&mut self, params: &Params, c: usize)
-        requires { c < length params.now.half }
-        ensures { IsBuilt (filter_of params.now c) (probs_of params.now c) (get_or params.now.half c false) self.new }
+        requires { c < length params.now.half_prob }
+        ensures { IsBuilt (filter_of params.now c) (probs_of params.now c) (get_or params.now.half_prob c false) self.new }
     {
         let filter = params.filter_map.elements()[c];
         let probs = params.prob_map.elements()[c];
         self.take(
             &params.filters.as_slice()[filter as usize],
             &params.probs.as_slice()[probs as usize],
-            params.half.as_slice()[c],
+            params.half_prob.as_slice()[c],
         );
     }
 
-    fn take(&mut self, filter: &FilterTable, probs: &ProbTable, half: bool)
-        ensures { IsBuilt filter.now probs.now half self.new }
+    fn take(&mut self, filter: &FilterTable, probs: &ProbTable, half_prob: bool)
+        ensures { IsBuilt filter.now probs.now half_prob self.new }
     {
         let length = filter.coefs().len();
         self.filter.build(filter);
         fill_entries(&mut self.entries, &self.filter, probs.entries());
-        self.early = if half { length } else { 0 };
+        self.early = if half_prob { length } else { 0 };
     }
 
-    /// Whether the sample of this place in this byte has the probability 128. Only the bytes at the head have such ones.
+    /// Whether the sample of this place in this byte has the probability 128. Only the bytes at the start have such ones.
     #[inline(always)]
-    pub(crate) fn is_early(&self, byte: usize, place: usize, head: bool) -> bool
+    pub(crate) fn is_early(&self, byte: usize, place: usize, start: bool) -> bool
         requires { 8 * byte + place < 2 ^ 64 }
-        ensures { result ≡ (head && nat_lt (8 * byte + place) self.now.early) }
+        ensures { result ≡ (start && nat_lt (8 * byte + place) self.now.early) }
     {
-        head && 8 * byte + place < self.early
+        start && 8 * byte + place < self.early
     }
 }
 

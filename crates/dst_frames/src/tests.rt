@@ -14,7 +14,7 @@ fn decoded(
     before: &[u8],
     frame: &[u8],
 ) -> Result<(Vec<u8>, Result<u32, FrameFault>), Fail> {
-    let bytes = channels.frame_bytes();
+    let bytes = channels.sound_bytes();
     if before.len() > 9408 || frame.len() > 9410 {
         return Err("a frame is too long")?;
     }

@@ -4,11 +4,6 @@ use Rattle.std.specs.List.{fold}
 use Rattle.std.proofs.lemmas.List.{drop_more, drop_all}
 use Rattle.dst_spec.specs.Map.{Numbers, element_count}
 
-pub numbers_on : (xs : List ℕ) (i count : ℕ) → i < length xs → Numbers count (drop i xs) →
-    (get_or xs i 0 ≤ count) × Numbers (max count (get_or xs i 0 + 1)) (drop (i + 1) xs)
-unfolding Numbers
-numbers_on xs i count lt h = subst (Numbers count) (drop_more xs i 0 lt) h
-
 pub numbers_back : (xs : List ℕ) (i count : ℕ) → i < length xs → get_or xs i 0 ≤ count →
     Numbers (max count (get_or xs i 0 + 1)) (drop (i + 1) xs) → Numbers count (drop i xs)
 unfolding Numbers

@@ -7,5 +7,5 @@ abbrev pub IsChannelMap : List ℕ → Type 0
 IsChannelMap map = (1 ≤ length map) × (length map ≤ 6) × IsMap (length map) map
 
 abbrev pub params_of : List ℕ → List ℕ → List Bool → List (List ℤ) → List (List ℕ) → Params
-params_of filter_map prob_map half filters probs =
-    record { filter_map = filter_map; prob_map = prob_map; half = half; filters = filters; probs = probs }
+params_of filter_map prob_map half_prob filters probs =
+    record { filter_map = filter_map; prob_map = prob_map; half_prob = half_prob; filters = filters; probs = probs }

@@ -76,7 +76,7 @@ impl Channels {
     }
 
     /// Bytes of one frame's sound.
-    pub fn frame_bytes(self) -> usize
+    pub fn sound_bytes(self) -> usize
         ensures bytes { result ≡ sound_bytes self }
         ensures least { 4704 ≤ result }
         ensures most { result ≤ 4704 * 4 * 6 }

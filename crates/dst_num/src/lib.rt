@@ -2,7 +2,7 @@
 //!
 //! ```text
 //! let Some(stereo) = Channels::new(2) else { return };
-//! stereo.frame_bytes(); // 9,408: a 75th of a second of two channels at 64 times 44.1 kHz
+//! stereo.sound_bytes(); // 9,408: a 75th of a second of two channels at 64 times 44.1 kHz
 //! let Some(filter) = FilterTable::new(&[128, -3]) else { return };
 //! filter.coefs(); // 128 for the latest sample, -3 for the one before
 //! ```

@@ -42,7 +42,7 @@ impl Map {
             count = count.max(usize::from(*element) + 1);
         }
         match ArrayVec::try_from(elements) {
-            Ok(kept) => Some(Map { elements: kept }),
+            Ok(elements) => Some(Map { elements }),
             Err(_) => None,
         }
     }

@@ -8,13 +8,13 @@ use crate::{FilterTable, Map, ProbTable};
 use arrayvec::ArrayVec;
 use std::marker::Model;
 
-/// What a coded frame tells before its arithmetic code: which filter and which probability table each channel has, for
+/// What a coded frame has before its arithmetic code: which filter and which probability table each channel has, for
 /// each channel whether its first symbols have probability 128, and the tables.
 #[derive(Drop, Debug)]
 pub struct Params {
     pub filter_map: Map,
     pub prob_map: Map,
-    pub half: ArrayVec<bool, 6>,
+    pub half_prob: ArrayVec<bool, 6>,
     pub filters: ArrayVec<FilterTable, 6>,
     pub probs: ArrayVec<ProbTable, 6>,
 }
@@ -26,25 +26,25 @@ impl Model for Params {
 
     ghost Value = { Parameters };
 
-    ghost view = { λ p. params_of p.filter_map p.prob_map p.half.items p.filters.items p.probs.items };
+    ghost view = { λ p. params_of p.filter_map p.prob_map p.half_prob.items p.filters.items p.probs.items };
 
-    ghost invariant = { λ p. IsParams (length p.half.items) (params_of p.filter_map p.prob_map p.half.items p.filters.items p.probs.items) };
+    ghost invariant = { λ p. IsParams (length p.half_prob.items) (params_of p.filter_map p.prob_map p.half_prob.items p.filters.items p.probs.items) };
 }
 
 impl Params {
-    /// There are none unless both maps and `half` are of one length, and each map numbers as many tables as are given.
+    /// There are none unless both maps and `half_prob` are of one length, and each map numbers as many tables as are given.
     pub fn new(
         filter_map: Map,
         prob_map: Map,
-        half: ArrayVec<bool, 6>,
+        half_prob: ArrayVec<bool, 6>,
         filters: ArrayVec<FilterTable, 6>,
         probs: ArrayVec<ProbTable, 6>,
     ) -> Option<Params>
-        ensures none { IfNone result (IsParams (length half.items) (params_of filter_map prob_map half.items filters.items probs.items) → ⊥) }
-        ensures params { IfSome result (λ p. p ≡ params_of filter_map prob_map half.items filters.items probs.items) }
-        ensures lawful { IfSome result (λ p. IsParams (length p.half) p) }
+        ensures none { IfNone result (IsParams (length half_prob.items) (params_of filter_map prob_map half_prob.items filters.items probs.items) → ⊥) }
+        ensures params { IfSome result (λ p. p ≡ params_of filter_map prob_map half_prob.items filters.items probs.items) }
+        ensures lawful { IfSome result (λ p. IsParams (length p.half_prob) p) }
     {
-        let channels = half.len();
+        let channels = half_prob.len();
         if filter_map.elements().len() != channels || prob_map.elements().len() != channels {
             return None;
         }
@@ -56,7 +56,7 @@ impl Params {
         Some(Params {
             filter_map,
             prob_map,
-            half,
+            half_prob,
             filters,
             probs,
         })
@@ -86,8 +86,8 @@ impl Default for Params {
     ghost is_default = { λ p. p ≡ params_of (0 ∷ []) (0 ∷ []) (false ∷ []) ((pos 0 ∷ []) ∷ []) ((128 ∷ []) ∷ []) };
 
     fn default() -> Self {
-        let mut half = ArrayVec::new();
-        half.push(false);
+        let mut half_prob = ArrayVec::new();
+        half_prob.push(false);
         let mut filters = ArrayVec::new();
         filters.push(FilterTable::default());
         let mut probs = ArrayVec::new();
@@ -95,7 +95,7 @@ impl Default for Params {
         Params {
             filter_map: Map::default(),
             prob_map: Map::default(),
-            half,
+            half_prob,
             filters,
             probs,
         }

@@ -38,7 +38,7 @@ impl FilterTable {
             }
         }
         match ArrayVec::try_from(coefs) {
-            Ok(kept) => Some(FilterTable { coefs: kept }),
+            Ok(coefs) => Some(FilterTable { coefs }),
             Err(_) => None,
         }
     }
@@ -100,7 +100,7 @@ impl ProbTable {
             }
         }
         match ArrayVec::try_from(entries) {
-            Ok(kept) => Some(ProbTable { entries: kept }),
+            Ok(entries) => Some(ProbTable { entries }),
             Err(_) => None,
         }
     }

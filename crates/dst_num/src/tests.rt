@@ -17,12 +17,12 @@ fn channels_give_the_bytes_of_a_frame(rt: HostRuntime) -> Result<(), Fail> {
         (1, 8, None),
     ];
     for (count, multiple, given) in cases {
-        let told = Channels::at(count, multiple).map(|made| (
+        let found = Channels::at(count, multiple).map(|made| (
             made.count(),
             made.multiple(),
-            made.frame_bytes(),
+            made.sound_bytes(),
         ));
-        assert_eq!(rt; told, given, "{count} channels at multiple {multiple}");
+        assert_eq!(rt; found, given, "{count} channels at multiple {multiple}");
     }
     assert_eq!(rt; Channels::new(6), Channels::at(6, 1));
     assert_eq!(rt; Channels::new(7), None);
@@ -32,8 +32,8 @@ fn channels_give_the_bytes_of_a_frame(rt: HostRuntime) -> Result<(), Fail> {
 #[test]
 fn probabilities_are_1_to_128(rt: HostRuntime) -> Result<(), Fail> {
     for (value, given) in [(0, false), (1, true), (128, true), (129, false)] {
-        let told = Prob::new(value).map(|made| made.value());
-        assert_eq!(rt; told, given.then_some(value), "{value}");
+        let found = Prob::new(value).map(|made| made.value());
+        assert_eq!(rt; found, given.then_some(value), "{value}");
     }
     Ok(())
 }
@@ -106,18 +106,18 @@ fn parameters_have_a_table_for_each_number(rt: HostRuntime) -> Result<(), Fail> 
     for (numbers, given) in [([0, 0], true), ([0, 1], false)] {
         let filter_map = Map::new(&numbers).ok_or("filters")?;
         let prob_map = Map::new(&[0, 0]).ok_or("probabilities")?;
-        let mut half = ArrayVec::new();
-        half.push(false);
-        half.push(true);
+        let mut half_prob = ArrayVec::new();
+        half_prob.push(false);
+        half_prob.push(true);
         let mut filters = ArrayVec::new();
         filters.push(FilterTable::default());
         let mut probs = ArrayVec::new();
         probs.push(ProbTable::default());
-        let made = Params::new(filter_map, prob_map, half, filters, probs);
+        let made = Params::new(filter_map, prob_map, half_prob, filters, probs);
         assert_eq!(rt; made.is_some(), given, "{numbers:?}");
     }
     let one_channel = Params::default();
     assert_eq!(rt; one_channel.filter_map.elements(), [0].as_slice());
-    assert_eq!(rt; one_channel.half.as_slice(), [false].as_slice());
+    assert_eq!(rt; one_channel.half_prob.as_slice(), [false].as_slice());
     Ok(())
 }

@@ -69,7 +69,7 @@ unfolding Numbers
 mono_params filter probs f p = record {
   filter_map = (refl, (omega arith, tt));
   prob_map = (refl, (omega arith, tt));
-  half = refl;
+  half_prob = refl;
   filter_count = refl;
   prob_count = refl;
   filters = (f, tt);
@@ -92,7 +92,7 @@ mono_header filter probs segments maps front behind w s m f p e = record {
   spelled = e;
 }
 
--- one segmentation and one map, each told for all channels at once
+-- one segmentation and one map, each given for all channels at once
 abbrev at_once : List ℕ
 at_once = 1 ∷ 1 ∷ 1 ∷ []
 
@@ -115,13 +115,13 @@ pub header_of_coefficient_minus_1 : HasHeader 1 (params_of (negsuc 0 ∷ []) (12
 unfolding bits low_bits
 header_of_coefficient_minus_1 = mono_header (negsuc 0 ∷ []) (128 ∷ 128 ∷ []) at_once (1 ∷ 1 ∷ []) (replicate 8 0 ++ replicate 9 1) (0 ∷ 0 ∷ 0 ∷ 0 ∷ 0 ∷ 1 ∷ 0 ∷ replicate 14 1) (take 45 (bits (252 ∷ 1 ∷ 255 ∷ 5 ∷ 255 ∷ 248 ∷ []))) segments_at_once maps_at_once filter_minus_1 probs_128_128 refl
 
--- two segmentations, each told for all channels at once
+-- two segmentations, each given for all channels at once
 pub header_of_two_segmentations : HasHeader 1 (params_of (pos 0 ∷ []) (128 ∷ 128 ∷ [])) (take 47 (bits (191 ∷ 0 ∷ 0 ∷ 1 ∷ 127 ∷ 254 ∷ [])))
 unfolding bits low_bits
 header_of_two_segmentations = mono_header (pos 0 ∷ []) (128 ∷ 128 ∷ []) (0 ∷ 1 ∷ 1 ∷ 1 ∷ 1 ∷ []) (1 ∷ 1 ∷ []) (replicate 17 0) (0 ∷ 0 ∷ 0 ∷ 0 ∷ 0 ∷ 1 ∷ 0 ∷ replicate 14 1) (take 47 (bits (191 ∷ 0 ∷ 0 ∷ 1 ∷ 127 ∷ 254 ∷ [])))
     (inr (1 ∷ 1 ∷ [], 1 ∷ 1 ∷ [], inl refl, inl refl, refl)) maps_at_once filter_0 probs_128_128 refl
 
--- two segmentations and two maps, each told for each channel
+-- two segmentations and two maps, each given for each channel
 pub header_of_two_maps : HasHeader 1 (params_of (pos 0 ∷ []) (128 ∷ 128 ∷ [])) (take 48 (bits (148 ∷ 0 ∷ 0 ∷ 0 ∷ 191 ∷ 255 ∷ [])))
 unfolding bits spelling_open
 header_of_two_maps = mono_header (pos 0 ∷ []) (128 ∷ 128 ∷ []) (0 ∷ 0 ∷ 1 ∷ 0 ∷ 1 ∷ []) (0 ∷ 0 ∷ 0 ∷ []) (replicate 17 0) (0 ∷ 0 ∷ 0 ∷ 0 ∷ 0 ∷ 1 ∷ 0 ∷ replicate 14 1) (take 48 (bits (148 ∷ 0 ∷ 0 ∷ 0 ∷ 191 ∷ 255 ∷ [])))
@@ -166,7 +166,7 @@ unfolding Numbers
 shared_filter_is_lawful = record {
   filter_map = (refl, (omega arith, (omega arith, tt)));
   prob_map = (refl, (omega arith, (omega arith, tt)));
-  half = refl;
+  half_prob = refl;
   filter_count = refl;
   prob_count = refl;
   filters = (filter_20_minus_8.table, tt);

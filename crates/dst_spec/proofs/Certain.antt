@@ -1,17 +1,17 @@
 -- Where every sample is as guessed, the code is the number 0.
-use Rattle.std.proofs.Common.{◌≡◌, ℕ, zero, suc, ◌+◌, ◌-◌, ◌*◌, ◌/◌, ◌%◌, ◌^◌, ◌<◌, ◌≤◌, ◌==◌, not, Bool, true, false, cond, if◌then◌else◌, ℤ, pos, negsuc, ◌+ℤ◌, neg_ℤ, nat_abs, List, [], ◌∷◌, get_or, map, replicate, refl, ◌∙◌, arith}
+use Rattle.std.proofs.Common.{◌≡◌, ℕ, zero, suc, ◌+◌, ◌-◌, ◌*◌, ◌/◌, ◌%◌, ◌^◌, ◌<◌, ◌≤◌, ◌==◌, not, Bool, true, false, cond, if◌then◌else◌, ℤ, pos, negsuc, ◌+ℤ◌, neg_ℤ, nat_abs, List, [], ◌∷◌, map, replicate, refl, ◌∙◌, arith}
 use Rattle.std.proofs.lemmas.List.{get_or-replicate, length-replicate}
 use Rattle.std.proofs.Math.Nat.{zero-div}
 use Rattle.std.specs.List.{AllByRecursion, range_with_len}
 use lib.IntN.{pred_ℤ}
 use Rattle.std.specs.Int.{is_negative}
-use Rattle.dst_spec.specs.Bits.{low_bits, number_from, AreBytes}
+use Rattle.dst_spec.specs.Bits.{low_bits, number_from}
 use Rattle.dst_spec.specs.Sample.{Shape, sample, IsSound}
 use Rattle.dst_spec.specs.Header.{Params}
 use Rattle.dst_spec.specs.Guess.{signed, sum_before, probability, as_guessed}
-use Rattle.dst_spec.specs.Symbols.{first_probability, symbols}
+use Rattle.dst_spec.specs.Symbols.{reserved_probability, symbols}
 use Rattle.dst_spec.specs.Interval.{Interval, whole, part, double, doubled, narrowed, interval_from, interval, code_number, IsCodeOf}
-use Rattle.dst_spec.proofs.Each.{all_flat_map, all_range}
+use Rattle.dst_spec.proofs.Lists.{all_flat_map, all_range, get_or-zeros, either_way, AreBytes-same}
 use Rattle.dst_spec.proofs.Intervals.{IsNormal-interval, AreLawful}
 pub use Rattle.dst_spec.proofs.Examples.{mono, params_of}
 
@@ -54,25 +54,21 @@ zeros_are_code xs i pairs h z =
 pub record IsGuessed (P : Params) (n : ℕ) (sound : List ℕ) : Type 0 where
   pub sound_is : IsSound (mono n) sound
   pub guessed : (t : ℕ) → t < 8 * n → as_guessed (mono n) P sound 0 t ≡ true
-  pub told : (t : ℕ) → probability (mono n) P sound 0 t ≡ 128
-  pub reserved_least : 1 ≤ first_probability P
-  pub reserved_most : first_probability P ≤ 128
+  pub probable : (t : ℕ) → probability (mono n) P sound 0 t ≡ 128
+  pub reserved_least : 1 ≤ reserved_probability P
+  pub reserved_most : reserved_probability P ≤ 128
 
 pub symbols_are_sure : (P : Params) (n : ℕ) (sound : List ℕ) → IsGuessed P n sound → AllByRecursion IsSure (symbols (mono n) P sound true)
 unfolding symbols
 symbols_are_sure P n sound s =
     let at : ℕ → List (Bool × ℕ) = λ t. map (λ c. (as_guessed (mono n) P sound c t, probability (mono n) P sound c t)) (range_with_len 0 1) in
-    let first : IsSure (true, first_probability P) = (refl, (s.reserved_least, s.reserved_most)) in
-    let sure : (t : ℕ) → t < 8 * n → IsSure (as_guessed (mono n) P sound 0 t, probability (mono n) P sound 0 t) = λ t h. (s.guessed t h, (omega (arith, s.told t), omega (arith, s.told t))) in
+    let first : IsSure (true, reserved_probability P) = (refl, (s.reserved_least, s.reserved_most)) in
+    let sure : (t : ℕ) → t < 8 * n → IsSure (as_guessed (mono n) P sound 0 t, probability (mono n) P sound 0 t) = λ t h. (s.guessed t h, (omega (arith, s.probable t), omega (arith, s.probable t))) in
     let each : AllByRecursion (λ t. AllByRecursion IsSure (at t)) (range_with_len 0 (8 * n)) = all_range (λ t. AllByRecursion IsSure (at t)) 0 (8 * n) (λ t h. (sure t (omega arith), tt)) in
     (first, all_flat_map IsSure at (range_with_len 0 (8 * n)) each)
 
-bytes_of_same : (n b : ℕ) → b < 256 → AreBytes (replicate n b)
-bytes_of_same zero b h = tt
-bytes_of_same (suc n) b h = (h, bytes_of_same n b h)
-
 pub IsSound-same : (n b : ℕ) → b < 256 → IsSound (mono n) (replicate n b)
-IsSound-same n b h = record { long = omega (arith, length-replicate {A = ℕ} n b); bytes = bytes_of_same n b h }
+IsSound-same n b h = record { long = omega (arith, length-replicate {A = ℕ} n b); bytes = AreBytes-same n b h }
 
 -- the sample of a sound whose bytes are all the same
 sample_of_same : (n b t : ℕ) → t < 8 * n → sample (mono n) (replicate n b) 0 (pos t) ≡ b / 2 ^ (7 - t % 8) % 2
@@ -95,33 +91,24 @@ bit_of_ones (suc (suc (suc (suc (suc (suc (suc (suc k)))))))) h = absurd (omega 
 sample_of_ones : (n t : ℕ) → t < 8 * n → sample (mono n) (replicate n 255) 0 (pos t) ≡ 1
 sample_of_ones n t h = sample_of_same n 255 t h ∙ bit_of_ones (7 - t % 8) (omega arith)
 
-either_way : (b : Bool) (x : ℤ) → cond b x x ≡ x
-either_way true x = refl
-either_way false x = refl
-
 zeros_predict_zero : (f : Shape) (sound : List ℕ) (c k : ℕ) (t : ℤ) → sum_before f sound c (replicate k (pos 0)) t ≡ pos 0
 unfolding sum_before
 zeros_predict_zero f sound c zero t = refl
 zeros_predict_zero f sound c (suc k) t = rw (zeros_predict_zero f sound c k (pred_ℤ t), either_way) refl
 
 pub ones_two_probs : (k n : ℕ) → IsGuessed (params_of (replicate (suc k) (pos 0)) (128 ∷ 128 ∷ [])) n (replicate n 255)
-unfolding first_probability low_bits number_from
+unfolding reserved_probability low_bits number_from
 ones_two_probs k n =
     let zero_predicted = λ (t : ℕ). zeros_predict_zero (mono n) (replicate n 255) 0 (suc k) (pos t) in
-    record { sound_is = IsSound-same n 255 (omega arith); guessed = λ t h. rw (zero_predicted t, sample_of_ones n t h) refl; told = λ t. rw (zero_predicted t) refl; reserved_least = omega arith; reserved_most = omega arith }
+    record { sound_is = IsSound-same n 255 (omega arith); guessed = λ t h. rw (zero_predicted t, sample_of_ones n t h) refl; probable = λ t. rw (zero_predicted t) refl; reserved_least = omega arith; reserved_most = omega arith }
 
 pub ones_one_prob : (k n : ℕ) → IsGuessed (params_of (replicate (suc k) (pos 0)) (128 ∷ [])) n (replicate n 255)
-unfolding first_probability low_bits number_from
+unfolding reserved_probability low_bits number_from
 ones_one_prob k n =
     let zero_predicted = λ (t : ℕ). zeros_predict_zero (mono n) (replicate n 255) 0 (suc k) (pos t) in
-    record { sound_is = IsSound-same n 255 (omega arith); guessed = λ t h. rw (zero_predicted t, sample_of_ones n t h) refl; told = λ t. rw (zero_predicted t) refl; reserved_least = omega arith; reserved_most = omega arith }
+    record { sound_is = IsSound-same n 255 (omega arith); guessed = λ t h. rw (zero_predicted t, sample_of_ones n t h) refl; probable = λ t. rw (zero_predicted t) refl; reserved_least = omega arith; reserved_most = omega arith }
 
 -- bytes 00, with the coefficient 1: each sample is guessed as the one before it
-pub get_or-zeros : (n i : ℕ) → ◌≡◌ {A = ℕ} (get_or (replicate n 0) i 0) 0
-get_or-zeros zero i = refl
-get_or-zeros (suc n) zero = refl
-get_or-zeros (suc n) (suc i) = get_or-zeros n i
-
 sample_of_zeros : (n t : ℕ) → sample (mono n) (replicate n 0) 0 (pos t) ≡ 0
 sample_of_zeros n t = rw (get_or-zeros n (t / 8 * 1 + 0)) (omega (arith, zero-div (2 ^ (7 - t % 8))))
 
@@ -131,8 +118,8 @@ zeros_predict_down n zero = refl
 zeros_predict_down n (suc t) = rw (sample_of_zeros n t) refl
 
 pub zeros_guessed : (n : ℕ) → IsGuessed (params_of (pos 1 ∷ []) (128 ∷ 128 ∷ [])) n (replicate n 0)
-unfolding first_probability low_bits number_from
-zeros_guessed n = record { sound_is = IsSound-same n 0 (omega arith); guessed = λ t h. rw (zeros_predict_down n t, sample_of_zeros n t) refl; told = λ t. rw (zeros_predict_down n t) refl; reserved_least = omega arith; reserved_most = omega arith }
+unfolding reserved_probability low_bits number_from
+zeros_guessed n = record { sound_is = IsSound-same n 0 (omega arith); guessed = λ t h. rw (zeros_predict_down n t, sample_of_zeros n t) refl; probable = λ t. rw (zeros_predict_down n t) refl; reserved_least = omega arith; reserved_most = omega arith }
 
 -- bytes AA, with the coefficient -1: each sample is guessed as the other one than that before it
 bit_of_turns : (k : ℕ) → k < 8 → 170 / 2 ^ k % 2 ≡ k % 2
@@ -176,11 +163,11 @@ unfolding sum_before
 turn_predicted n t = refl
 
 pub turns_guessed : (n : ℕ) → IsGuessed (params_of (negsuc 0 ∷ []) (128 ∷ 128 ∷ [])) n (replicate n 170)
-unfolding first_probability low_bits number_from
+unfolding reserved_probability low_bits number_from
 turns_guessed n = record {
   sound_is = IsSound-same n 170 (omega arith);
   guessed = λ t h. rw (turn_predicted n t, before_turns n t h, sample_of_turns n t h) (other_is_guessed (t % 2) ((t + 1) % 2) (omega arith));
-  told = λ t. rw (turn_predicted n t, small_turn (sample (mono n) (replicate n 170) 0 (pred_ℤ (pos t)) == 1)) refl;
+  probable = λ t. rw (turn_predicted n t, small_turn (sample (mono n) (replicate n 170) 0 (pred_ℤ (pos t)) == 1)) refl;
   reserved_least = omega arith;
   reserved_most = omega arith;
 }

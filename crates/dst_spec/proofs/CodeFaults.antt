@@ -13,9 +13,7 @@ use Rattle.dst_spec.proofs.Reading.{onward, read-bind}
 use Rattle.dst_spec.proofs.Taking.{Took}
 use Rattle.dst_spec.proofs.Found.{Takes-header}
 use Rattle.dst_spec.proofs.HeaderFaults.{IsHeaderReason, IsHeaderRule, AreHeaderFields, read_fault, header}
-
-same_err : {A : Type 0} (a b : FrameFault) → ◌≡◌ {A = Result A FrameFault} (Err a) (Err b) → a ≡ b
-same_err a b e = cc
+use Rattle.dst_spec.proofs.Lists.{same_err}
 
 -- a field without a rule is cut short, or the fault is behind it
 behind_any : {A : Type 0} (n : ℕ) (next : ℕ → Fields A) (xs : List ℕ) (place : ℕ) (fault : FrameFault) → (IsHeaderReason fault.reason → ⊥) → read (field n any next) xs place ≡ Err fault →

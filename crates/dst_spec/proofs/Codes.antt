@@ -84,17 +84,17 @@ code_of_six = refl
 abbrev trace : List ℕ
 trace = 0 ∷ 1 ∷ []
 
-pub kept_after_one : code_number trace 0 0 ≡ 0 + 2048
+pub offset_after_one : code_number trace 0 0 ≡ 0 + 2048
 unfolding number_from
-kept_after_one = refl
+offset_after_one = refl
 
-pub kept_after_two : code_number trace 0 1 ≡ 2302 + 1794
+pub offset_after_two : code_number trace 0 1 ≡ 2302 + 1794
 unfolding number_from
-kept_after_two = refl
+offset_after_two = refl
 
-pub kept_after_three : code_number trace 0 2 ≡ 4604 + 3588
+pub offset_after_three : code_number trace 0 2 ≡ 4604 + 3588
 unfolding number_from
-kept_after_three = refl
+offset_after_three = refl
 
 pub trace_is_code_of_three : IsCodeOf trace 0 three
 unfolding doubled interval_from number_from

@@ -7,7 +7,7 @@ use Rattle.dst_spec.specs.Bits.{bits, AreBits}
 use Rattle.dst_spec.specs.Sample.{Shape, sample, samples}
 use Rattle.dst_spec.specs.Header.{Params, IsParams, bit_of}
 use Rattle.dst_spec.specs.Guess.{prediction, probability, as_guessed}
-use Rattle.dst_spec.specs.Symbols.{first_probability, symbols}
+use Rattle.dst_spec.specs.Symbols.{reserved_probability, symbols}
 use Rattle.dst_spec.specs.Interval.{Interval, part, narrowed, interval_from, IsWithin}
 use Rattle.dst_spec.proofs.Intervals.{IsNormal, IsNormal-narrowed, IsNormal-interval_from, AreLawful, interval_from-append, within_doubled, within_narrowed, within_front, within_part, IsPart-part, one_part}
 use Rattle.dst_spec.proofs.Probabilities.{IsProb-probability}
@@ -56,11 +56,11 @@ rows g w a (suc n) =
     ∙ ap (map h) (sym (range-append (a * w) w (n * w)))
     ∙ ap (λ m. map h (range_with_len (a * w) m)) (sym size)
 
-pub symbols-by_place : (f : Shape) (P : Params) (sound : List ℕ) (e : Bool) → symbols f P sound e ≡ (e, first_probability P) ∷ pairs_from f P sound 0 (samples f * f.channels)
+pub symbols-by_place : (f : Shape) (P : Params) (sound : List ℕ) (e : Bool) → symbols f P sound e ≡ (e, reserved_probability P) ∷ pairs_from f P sound 0 (samples f * f.channels)
 unfolding symbols
 symbols-by_place f P sound e =
     let start : 0 * f.channels ≡ 0 = omega arith in
-    ap (λ xs. (e, first_probability P) ∷ xs) (rows (λ c t. (as_guessed f P sound c t, probability f P sound c t)) f.channels 0 (samples f)
+    ap (λ xs. (e, reserved_probability P) ∷ xs) (rows (λ c t. (as_guessed f P sound c t, probability f P sound c t)) f.channels 0 (samples f)
     ∙ ap (λ p. pairs_from f P sound p (samples f * f.channels)) start)
 
 -- ---- sounds whose first k samples are the same have the same first k symbols, and the same prediction at k

@@ -6,7 +6,7 @@ use Rattle.dst_spec.specs.Table.{plain_values, weighted, later_values, table_bit
 use Rattle.dst_spec.specs.Map.{map_numbers}
 use Rattle.dst_spec.specs.Header.{Params}
 use Rattle.dst_spec.specs.Guess.{sum_before}
-use Rattle.dst_spec.specs.Symbols.{first_probability, symbols}
+use Rattle.dst_spec.specs.Symbols.{reserved_probability, symbols}
 use Rattle.dst_spec.specs.Interval.{doubled, interval_from}
 use Rattle.dst_spec.specs.Fields.{read}
 use Rattle.dst_spec.specs.Offends.{times, segment_fields, map_number_fields, map_fields, both_segments, both_maps, later_fields, table_fields, header_fields, plain_frame_fields, coded_frame_fields, frame_fields}
@@ -27,14 +27,14 @@ pair = record { channels = 2; octets = 1 }
 
 -- one filter and one table of probabilities, no half bit
 abbrev pub params_of : List ℤ → List ℕ → Params
-params_of filter probs = record { filter_map = 0 ∷ []; prob_map = 0 ∷ []; half = false ∷ []; filters = filter ∷ []; probs = probs ∷ [] }
+params_of filter probs = record { filter_map = 0 ∷ []; prob_map = 0 ∷ []; half_prob = false ∷ []; filters = filter ∷ []; probs = probs ∷ [] }
 
 -- two channels with one filter, a table of probabilities each, and a half bit of the second
 abbrev pub shared_filter : Params
 shared_filter = record {
   filter_map = 0 ∷ 0 ∷ [];
   prob_map = 0 ∷ 1 ∷ [];
-  half = false ∷ true ∷ [];
+  half_prob = false ∷ true ∷ [];
   filters = (pos 20 ∷ negsuc 7 ∷ []) ∷ [];
   probs = (5 ∷ 6 ∷ 7 ∷ []) ∷ (128 ∷ []) ∷ [];
 }
@@ -44,7 +44,7 @@ abbrev pub shared_probs : Params
 shared_probs = record {
   filter_map = 0 ∷ 1 ∷ [];
   prob_map = 0 ∷ 0 ∷ [];
-  half = true ∷ false ∷ [];
+  half_prob = true ∷ false ∷ [];
   filters = (pos 1 ∷ negsuc 1 ∷ []) ∷ (pos 3 ∷ []) ∷ [];
   probs = (5 ∷ 6 ∷ []) ∷ [];
 }
@@ -63,9 +63,9 @@ unfolding low_bits plain_values weighted later_values table_bits shortest
 tables_open = tt
 
 unfoldable pub symbols_open : ⊤
-unfolding low_bits number_from sum_before first_probability symbols
+unfolding low_bits number_from sum_before reserved_probability symbols
 symbols_open = tt
 
 unfoldable pub spelling_open : ⊤
-unfolding low_bits number_from octets plain_values weighted later_values table_bits shortest map_numbers header_spelling sum_before first_probability symbols doubled interval_from code_spelling spell
+unfolding low_bits number_from octets plain_values weighted later_values table_bits shortest map_numbers header_spelling sum_before reserved_probability symbols doubled interval_from code_spelling spell
 spelling_open = tt

@@ -53,62 +53,62 @@ probs_are [] h = tt
 probs_are (t ∷ tables) h = (subst (IsTable prob_kind) (sym (probs_again t h.0.each)) h.0, probs_are tables h.1)
 
 -- ---- a header, from its last part to its first
-abbrev made : List ℕ × List ℕ → List ℕ → List (List ℤ) → List (List ℤ) → Params
-made maps half filters probs =
-    record { filter_map = maps.0; prob_map = maps.1; half = map (λ b. b == 1) half; filters = filters; probs = map (λ entries. map nat_abs entries) probs }
+abbrev pub made : List ℕ × List ℕ → List ℕ → List (List ℤ) → List (List ℤ) → Params
+made maps half_prob filters probs =
+    record { filter_map = maps.0; prob_map = maps.1; half_prob = map (λ b. b == 1) half_prob; filters = filters; probs = map (λ entries. map nat_abs entries) probs }
 
-abbrev prob_part : List ℕ × List ℕ → List ℕ → List (List ℤ) → Fields Params
-prob_part maps half filters = times (element_count maps.1) (table_fields prob_kind) >>= (λ probs. gives (made maps half filters probs))
+abbrev pub prob_part : List ℕ × List ℕ → List ℕ → List (List ℤ) → Fields Params
+prob_part maps half_prob filters = times (element_count maps.1) (table_fields prob_kind) >>= (λ probs. gives (made maps half_prob filters probs))
 
 abbrev filter_part : List ℕ × List ℕ → List ℕ → Fields Params
-filter_part maps half = times (element_count maps.0) (table_fields filter_kind) >>= (λ filters. prob_part maps half filters)
+filter_part maps half_prob = times (element_count maps.0) (table_fields filter_kind) >>= (λ filters. prob_part maps half_prob filters)
 
 abbrev half_part : ℕ → List ℕ × List ℕ → Fields Params
-half_part channels maps = times channels (number 1) >>= (λ half. filter_part maps half)
+half_part channels maps = times channels (number 1) >>= (λ half_prob. filter_part maps half_prob)
 
 abbrev map_part : ℕ → Fields Params
 map_part channels = both_maps channels >>= (λ maps. half_part channels maps)
 
-record IsProbPart (maps : List ℕ × List ℕ) (half : List ℕ) (filters : List (List ℤ)) (w : List ℕ) (P : Params) : Type 0 where
+record IsProbPart (maps : List ℕ × List ℕ) (half_prob : List ℕ) (filters : List (List ℤ)) (w : List ℕ) (P : Params) : Type 0 where
   probs : List (List ℤ)
   count : length probs ≡ element_count maps.1
   has : HasTables prob_kind probs w
-  whole : P ≡ made maps half filters probs
+  whole : P ≡ made maps half_prob filters probs
 
-Takes-prob_part : (maps : List ℕ × List ℕ) (half : List ℕ) (filters : List (List ℤ)) → Takes (prob_part maps half filters) (IsProbPart maps half filters)
-Takes-prob_part maps half filters =
-    Takes-last (times (element_count maps.1) (table_fields prob_kind)) (λ probs. made maps half filters probs) (λ w ts. (length ts ≡ element_count maps.1) × HasTables prob_kind ts w) (IsProbPart maps half filters)
+Takes-prob_part : (maps : List ℕ × List ℕ) (half_prob : List ℕ) (filters : List (List ℤ)) → Takes (prob_part maps half_prob filters) (IsProbPart maps half_prob filters)
+Takes-prob_part maps half_prob filters =
+    Takes-last (times (element_count maps.1) (table_fields prob_kind)) (λ probs. made maps half_prob filters probs) (λ w ts. (length ts ≡ element_count maps.1) × HasTables prob_kind ts w) (IsProbPart maps half_prob filters)
     (Takes-tables prob_kind (element_count maps.1) probs_are_kind (omega (arith, ints), omega (arith, ints)))
     (λ w probs a. record { probs = probs; count = a.0; has = a.1; whole = refl })
 
-record IsFilterPart (maps : List ℕ × List ℕ) (half : List ℕ) (w : List ℕ) (P : Params) : Type 0 where
+record IsFilterPart (maps : List ℕ × List ℕ) (half_prob : List ℕ) (w : List ℕ) (P : Params) : Type 0 where
   filters : List (List ℤ)
   front : List ℕ
   rest : List ℕ
   count : length filters ≡ element_count maps.0
   has : HasTables filter_kind filters front
-  behind : IsProbPart maps half filters rest P
+  behind : IsProbPart maps half_prob filters rest P
   spelled : w ≡ front ++ rest
 
-Takes-filter_part : (maps : List ℕ × List ℕ) (half : List ℕ) → Takes (filter_part maps half) (IsFilterPart maps half)
-Takes-filter_part maps half =
-    Takes-bind (times (element_count maps.0) (table_fields filter_kind)) (λ filters. prob_part maps half filters) (λ w ts. (length ts ≡ element_count maps.0) × HasTables filter_kind ts w)
-    (IsProbPart maps half) (IsFilterPart maps half) (Takes-tables filter_kind (element_count maps.0) filters_are_kind (omega (arith, ints), omega (arith, ints))) (Takes-prob_part maps half)
+Takes-filter_part : (maps : List ℕ × List ℕ) (half_prob : List ℕ) → Takes (filter_part maps half_prob) (IsFilterPart maps half_prob)
+Takes-filter_part maps half_prob =
+    Takes-bind (times (element_count maps.0) (table_fields filter_kind)) (λ filters. prob_part maps half_prob filters) (λ w ts. (length ts ≡ element_count maps.0) × HasTables filter_kind ts w)
+    (IsProbPart maps half_prob) (IsFilterPart maps half_prob) (Takes-tables filter_kind (element_count maps.0) filters_are_kind (omega (arith, ints), omega (arith, ints))) (Takes-prob_part maps half_prob)
     (λ u v filters P a b. record { filters = filters; front = u; rest = v; count = a.0; has = a.1; behind = b; spelled = refl })
 
 record IsHalfPart (channels : ℕ) (maps : List ℕ × List ℕ) (w : List ℕ) (P : Params) : Type 0 where
-  half : List ℕ
+  half_prob : List ℕ
   rest : List ℕ
-  count : length half ≡ channels
-  bits : AreBits half
-  behind : IsFilterPart maps half rest P
-  spelled : w ≡ half ++ rest
+  count : length half_prob ≡ channels
+  bits : AreBits half_prob
+  behind : IsFilterPart maps half_prob rest P
+  spelled : w ≡ half_prob ++ rest
 
 Takes-half_part : (channels : ℕ) (maps : List ℕ × List ℕ) → Takes (half_part channels maps) (IsHalfPart channels maps)
 Takes-half_part channels maps =
-    Takes-bind (times channels (number 1)) (λ half. filter_part maps half) (λ w xs. (length xs ≡ channels) × AreBits xs × (w ≡ xs)) (IsFilterPart maps) (IsHalfPart channels maps)
+    Takes-bind (times channels (number 1)) (λ half_prob. filter_part maps half_prob) (λ w xs. (length xs ≡ channels) × AreBits xs × (w ≡ xs)) (IsFilterPart maps) (IsHalfPart channels maps)
     (Takes-halves channels) (Takes-filter_part maps)
-    (λ u v half P a b. record { half = half; rest = v; count = a.0; bits = a.1; behind = b; spelled = ap (λ zs. zs ++ v) a.2 })
+    (λ u v half_prob P a b. record { half_prob = half_prob; rest = v; count = a.0; bits = a.1; behind = b; spelled = ap (λ zs. zs ++ v) a.2 })
 
 record IsMapPart (channels : ℕ) (w : List ℕ) (P : Params) : Type 0 where
   maps : List ℕ × List ℕ
@@ -133,19 +133,19 @@ header_of_parts channels segments w P s m =
     let p = f.behind in
     let probs = each_is_table prob_kind f.rest p.probs p.has in
     let whole = p.whole in
-    let Q = made m.maps h.half f.filters p.probs in
+    let Q = made m.maps h.half_prob f.filters p.probs in
     let again = tables_again p.probs probs in
     let params : IsParams channels Q = record {
       filter_map = m.filter_map;
       prob_map = m.prob_map;
-      half = length-map h.half (λ b. b == 1) ∙ h.count;
+      half_prob = length-map h.half_prob (λ b. b == 1) ∙ h.count;
       filter_count = f.count;
       prob_count = length-map p.probs (λ entries. map nat_abs entries) ∙ p.count;
       filters = each_is_table filter_kind f.front f.filters f.has;
       probs = probs_are p.probs probs;
     } in
-    let spelled : 1 ∷ segments ++ w ≡ 1 ∷ segments ++ m.front ++ map bit_of Q.half ++ f.front ++ f.rest =
-    rw (bits_again h.half h.bits, m.spelled, h.spelled, f.spelled) (ap (λ zs. 1 ∷ zs) (five segments m.front h.half f.front f.rest)) in
+    let spelled : 1 ∷ segments ++ w ≡ 1 ∷ segments ++ m.front ++ map bit_of Q.half_prob ++ f.front ++ f.rest =
+    rw (bits_again h.half_prob h.bits, m.spelled, h.spelled, f.spelled) (ap (λ zs. 1 ∷ zs) (five segments m.front h.half_prob f.front f.rest)) in
     let header : HasHeader channels Q (1 ∷ segments ++ w) = record {
       params = params;
       segments = segments;

@@ -80,14 +80,14 @@ frame_of_ones_and_zeros_in_turn n =
     coded_means n 45 (252 ∷ 1 ∷ 255 ∷ 5 ∷ 255 ∷ 248 ∷ []) (params_of (negsuc 0 ∷ []) (128 ∷ 128 ∷ [])) (replicate n 170) (turns_guessed n) (omega arith) header_of_coefficient_minus_1 refl
     (zeros_to_the_end (bits (252 ∷ 1 ∷ 255 ∷ 5 ∷ 255 ∷ 248 ∷ [])) 45 2 (omega arith) refl (omega arith))
 
--- two segmentations, each told for all channels at once
+-- two segmentations, each given for all channels at once
 pub two_segmentations_told_for_all_channels : (n : ℕ) → Means (mono n) (191 ∷ 0 ∷ 0 ∷ 1 ∷ 127 ∷ 254 ∷ []) (replicate n 255)
 unfolding low_bits bits number_from
 two_segmentations_told_for_all_channels n =
     coded_means n 47 (191 ∷ 0 ∷ 0 ∷ 1 ∷ 127 ∷ 254 ∷ []) (params_of (pos 0 ∷ []) (128 ∷ 128 ∷ [])) (replicate n 255) (ones_two_probs 0 n) (omega arith) header_of_two_segmentations refl
     (zeros_to_the_end (bits (191 ∷ 0 ∷ 0 ∷ 1 ∷ 127 ∷ 254 ∷ [])) 47 0 (omega arith) refl (omega arith))
 
--- two segmentations and two maps, each told for each channel; the first code bit is past the end
+-- two segmentations and two maps, each given for each channel; the first code bit is past the end
 pub two_segmentations_and_two_maps_told_for_each_channel : (n : ℕ) → Means (mono n) (148 ∷ 0 ∷ 0 ∷ 0 ∷ 191 ∷ 255 ∷ []) (replicate n 255)
 unfolding low_bits bits number_from
 two_segmentations_and_two_maps_told_for_each_channel n =

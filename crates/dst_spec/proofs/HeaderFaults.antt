@@ -110,7 +110,7 @@ unfolding header_fields
 header channels =
     onto (both_segments channels) _ (two_segments channels) (λ s.
     onto (both_maps channels) _ (two_maps channels) (λ maps.
-    onto (times channels (number 1)) _ (many channels (number 1) ((λ v. tt), (λ v. tt))) (λ half.
+    onto (times channels (number 1)) _ (many channels (number 1) ((λ v. tt), (λ v. tt))) (λ half_prob.
     onto (times (element_count maps.0) (table_fields filter_kind)) _ (many (element_count maps.0) (table_fields filter_kind) (table filter_kind)) (λ filters.
     onto (times (element_count maps.1) (table_fields prob_kind)) _ (many (element_count maps.1) (table_fields prob_kind) (table prob_kind)) (λ probs. tt)))))
 

@@ -63,7 +63,7 @@ pub lesser_m_first : shortest filter_kind (negsuc 17 ∷ negsuc 11 ∷ negsuc 5 
 unfolding tables_open
 lesser_m_first = refl
 
--- a method 3 that told four values plainly would be shorter here, but there is none
+-- a method 3 that had four values plain would be shorter here, but there is none
 pub no_method_3 : shortest filter_kind (negsuc 23 ∷ negsuc 28 ∷ pos 24 ∷ negsuc 13 ∷ pos 22 ∷ []) ≡ plain
 unfolding tables_open
 no_method_3 = refl

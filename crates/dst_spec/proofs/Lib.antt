@@ -16,7 +16,9 @@ pub mod Certain
 pub mod Frames
 pub mod WholeFrames
 -- numbers, residuals, intervals
-pub mod Each
+pub mod Lists
+pub mod LowBits
+pub mod MapNumbers
 pub mod Numbers
 pub mod Rices
 pub mod Intervals

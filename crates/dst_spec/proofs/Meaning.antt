@@ -13,7 +13,7 @@ use Rattle.dst_spec.specs.declared.faults.Reason.{Reason}
 use Rattle.dst_spec.specs.declared.faults.Reason.TheVariants.{Truncated}
 use Rattle.dst_spec.proofs.Numbers.{AreBits-bits, length-bits, number_from-drop, number_from-append_left}
 use Rattle.dst_spec.proofs.Intervals.{IsNormal-whole, within_front}
-use Rattle.dst_spec.proofs.Reading.{onward, read-bind, kept}
+use Rattle.dst_spec.proofs.Reading.{onward, read-bind, field_met}
 use Rattle.dst_spec.proofs.Headers.{Reads-header}
 use Rattle.dst_spec.proofs.Probabilities.{AreLawful-symbols}
 
@@ -28,17 +28,17 @@ pub read-field : {A : Type 0} (n : ℕ) (rule : ℕ → Option Reason) (next : �
     read (field n rule next) xs place ≡ read (next (number_from xs 0 n)) (drop n xs) (place + n)
 unfolding read
 read-field n rule next xs place h k =
-    kept (nat_lt (length xs) n) (rule (number_from xs 0 n)) (record { reason = Truncated; bit = place }) place (read (next (number_from xs 0 n)) (drop n xs) (place + n)) (le-ltb (length xs) n h) k
+    field_met (nat_lt (length xs) n) (rule (number_from xs 0 n)) (record { reason = Truncated; bit = place }) place (read (next (number_from xs 0 n)) (drop n xs) (place + n)) (le-ltb (length xs) n h) k
 
 pub read-code : {A : Type 0} (n : ℕ) (rule : ℕ → Option Reason) (next : ℕ → Fields A) (xs : List ℕ) (place : ℕ) → rule (number_from xs 0 n) ≡ None →
     read (code n rule next) xs place ≡ read (next (number_from xs 0 n)) (drop n xs) (place + n)
 unfolding read
 read-code n rule next xs place k =
-    kept false (rule (number_from xs 0 n)) (record { reason = Truncated; bit = place }) place (read (next (number_from xs 0 n)) (drop n xs) (place + n)) refl k
+    field_met false (rule (number_from xs 0 n)) (record { reason = Truncated; bit = place }) place (read (next (number_from xs 0 n)) (drop n xs) (place + n)) refl k
 
-read_gives : {A : Type 0} (x : A) (ys : List ℕ) (i : ℕ) → read (gives x) ys i ≡ Ok (x, ys, i)
+pub read-gives : {A : Type 0} (x : A) (ys : List ℕ) (i : ℕ) → read (gives x) ys i ≡ Ok (x, ys, i)
 unfolding read
-read_gives x ys i = refl
+read-gives x ys i = refl
 
 pub first_number : (xs : List ℕ) → number_from xs 0 1 ≡ get_or xs 0 0
 unfolding number_from
@@ -51,7 +51,7 @@ code_fields xs place P h k =
     let next : ℕ → Fields (Option Params) = λ first. code 12 range_of_code_rule (λ twelve. gives (Some P)) in
     let first : first_bit_rule (number_from xs 0 1) ≡ None = rw (first_number xs, h) refl in
     let twelve : range_of_code_rule (number_from (drop 1 xs) 0 12) ≡ None = rw (number_from-drop xs 1 0 12, ne_eqb (number_from xs 1 12) 4095 k) refl in
-    read-code 1 first_bit_rule next xs place first ∙ read-code 12 range_of_code_rule (λ t. gives (Some P)) (drop 1 xs) (place + 1) twelve ∙ read_gives (Some P) (drop 12 (drop 1 xs)) (place + 1 + 12)
+    read-code 1 first_bit_rule next xs place first ∙ read-code 12 range_of_code_rule (λ t. gives (Some P)) (drop 1 xs) (place + 1) twelve ∙ read-gives (Some P) (drop 12 (drop 1 xs)) (place + 1 + 12)
 
 -- a coded frame's fields are all read
 coded_is_read : (f : Shape) (frame sound : List ℕ) → IsShape f → IsCoded f frame sound → (r : Option Params × List ℕ × ℕ) × (read (frame_fields f) (bits frame) 0 ≡ Ok r)
@@ -106,7 +106,7 @@ plain_is_read f frame sound d =
           ∙ read-field 1 any after_reserved (drop 1 xs) (0 + 1) (omega (arith, length-drop 1 xs)) refl
           ∙ read-field 6 stuffing_rule after_stuffing two (0 + 1 + 1) (omega (arith, length-drop 1 (drop 1 xs), length-drop 1 xs)) stuffing
           ∙ read-field (8 * n) any (λ sound. gives None) eight (0 + 1 + 1 + 6) (omega (arith, length-drop 6 two, length-drop 1 (drop 1 xs), length-drop 1 xs)) refl
-          ∙ read_gives None (drop (8 * n) eight) (0 + 1 + 1 + 6 + 8 * n),
+          ∙ read-gives None (drop (8 * n) eight) (0 + 1 + 1 + 6 + 8 * n),
     )
 
 -- a frame that means a sound doesn't offend

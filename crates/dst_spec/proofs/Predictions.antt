@@ -5,7 +5,7 @@ use Rattle.dst_spec.specs.Bits.{number_from}
 use Rattle.dst_spec.specs.Sample.{Shape, sample, samples, sound_bytes}
 use Rattle.dst_spec.specs.Header.{Params}
 use Rattle.dst_spec.specs.Guess.{sum_before, prediction, probability, as_guessed}
-use Rattle.dst_spec.specs.Symbols.{first_probability, symbols}
+use Rattle.dst_spec.specs.Symbols.{reserved_probability, symbols}
 use Rattle.dst_spec.proofs.Examples.{mono, channels_of, pair, params_of, shared_filter, shared_probs, symbols_open}
 
 -- the samples at -1, -2 and -3, and sixteen of them as bytes AA, the latest in the least significant bit
@@ -78,9 +78,9 @@ pub size_100_has_the_last_entry : probability (mono 4704) (params_of (negsuc 99 
 unfolding sum_before
 size_100_has_the_last_entry = refl
 
--- a half bit tells as many samples as the filter is long
+-- a half bit is for as many samples as the filter is long
 abbrev with_half_bit : Params
-with_half_bit = record { filter_map = 0 ∷ []; prob_map = 0 ∷ []; half = true ∷ []; filters = (pos 7 ∷ pos 7 ∷ []) ∷ []; probs = (11 ∷ 12 ∷ 13 ∷ []) ∷ [] }
+with_half_bit = record { filter_map = 0 ∷ []; prob_map = 0 ∷ []; half_prob = true ∷ []; filters = (pos 7 ∷ pos 7 ∷ []) ∷ []; probs = (11 ∷ 12 ∷ 13 ∷ []) ∷ [] }
 
 pub half_bit_at_1 : probability (mono 4704) with_half_bit [] 0 1 ≡ 128
 unfolding sum_before
@@ -108,32 +108,32 @@ unfolding sum_before
 minus_1_does_not_guess_1 = refl
 
 -- the probability of the reserved symbol: the low seven bits of coefficient 0, reversed, and 1
-pub reserved_at_0 : first_probability (params_of (pos 0 ∷ []) (128 ∷ [])) ≡ 1
+pub reserved_at_0 : reserved_probability (params_of (pos 0 ∷ []) (128 ∷ [])) ≡ 1
 unfolding symbols_open
 reserved_at_0 = refl
 
-pub reserved_at_1 : first_probability (params_of (pos 1 ∷ []) (128 ∷ [])) ≡ 65
+pub reserved_at_1 : reserved_probability (params_of (pos 1 ∷ []) (128 ∷ [])) ≡ 65
 unfolding symbols_open
 reserved_at_1 = refl
 
-pub reserved_at_minus_1 : first_probability (params_of (negsuc 0 ∷ []) (128 ∷ [])) ≡ 128
+pub reserved_at_minus_1 : reserved_probability (params_of (negsuc 0 ∷ []) (128 ∷ [])) ≡ 128
 unfolding symbols_open
 reserved_at_minus_1 = refl
 
-pub reserved_at_minus_200 : first_probability (params_of (negsuc 199 ∷ []) (128 ∷ [])) ≡ 15
+pub reserved_at_minus_200 : reserved_probability (params_of (negsuc 199 ∷ []) (128 ∷ [])) ≡ 15
 unfolding symbols_open
 reserved_at_minus_200 = refl
 
-pub reserved_at_minus_256 : first_probability (params_of (negsuc 255 ∷ []) (128 ∷ [])) ≡ 1
+pub reserved_at_minus_256 : reserved_probability (params_of (negsuc 255 ∷ []) (128 ∷ [])) ≡ 1
 unfolding symbols_open
 reserved_at_minus_256 = refl
 
-pub reserved_at_200 : first_probability (params_of (pos 200 ∷ []) (128 ∷ [])) ≡ 10
+pub reserved_at_200 : reserved_probability (params_of (pos 200 ∷ []) (128 ∷ [])) ≡ 10
 unfolding symbols_open
 reserved_at_200 = refl
 
 -- coefficient 0 of filter 0: those behind it don't count
-pub reserved_of_two_filters : first_probability shared_probs ≡ 65
+pub reserved_of_two_filters : reserved_probability shared_probs ≡ 65
 unfolding symbols_open
 reserved_of_two_filters = refl
 
@@ -146,7 +146,7 @@ pub symbols_by_a_shared_filter : symbols pair shared_filter (156 ∷ 53 ∷ []) 
 unfolding symbols_open
 symbols_by_a_shared_filter = refl
 
--- a filter each: the size of a prediction is at most 3, whose entry is 5; the first channel's half bit tells its first two samples
+-- a filter each: the size of a prediction is at most 3, whose entry is 5; the first channel's half bit is for its first two samples
 pub symbols_by_shared_probabilities : symbols pair shared_probs (156 ∷ 53 ∷ []) false
     ≡ (false, 65) ∷ (false, 128) ∷ (true, 5) ∷ (false, 128) ∷ (true, 5) ∷ (true, 5) ∷ (false, 5) ∷ (true, 5) ∷ (true, 5)
     ∷ (true, 5) ∷ (false, 5) ∷ (false, 5) ∷ (false, 5) ∷ (true, 5) ∷ (false, 5) ∷ (true, 5) ∷ (false, 5) ∷ []

@@ -1,5 +1,5 @@
 -- The probabilities of a sound's symbols are from 1 to 128.
-use Rattle.std.proofs.Common.{ℕ, zero, suc, ◌+◌, ◌-◌, ◌/◌, ◌^◌, ◌<◌, ◌≤◌, min, max, Bool, true, false, cond, List, [], ◌∷◌, length, map, fold, get_or, reverse, arith, ℤ, pos, negsuc, nat_abs}
+use Rattle.std.proofs.Common.{ℕ, ◌-◌, ◌/◌, ◌^◌, ◌<◌, ◌≤◌, min, Bool, true, false, cond, List, [], ◌∷◌, length, map, get_or, reverse, arith, ℤ, pos, negsuc, nat_abs}
 use Rattle.std.proofs.lemmas.Int.{ints}
 use Rattle.std.proofs.lemmas.List.{length-map}
 use Rattle.std.specs.List.{AllByRecursion, range_with_len}
@@ -8,22 +8,14 @@ use Rattle.dst_spec.specs.Sample.{Shape, samples}
 use Rattle.dst_spec.specs.Table.{prob_kind, InRange, IsTable}
 use Rattle.dst_spec.specs.Header.{Params, IsParams}
 use Rattle.dst_spec.specs.Guess.{probs_of, prediction, probability, as_guessed}
-use Rattle.dst_spec.specs.Symbols.{first_probability, symbols}
+use Rattle.dst_spec.specs.Symbols.{reserved_probability, symbols}
 use Rattle.dst_spec.proofs.Numbers.{AreBits-low_bits, number_from-below}
 use Rattle.dst_spec.proofs.Intervals.{AreLawful}
-use Rattle.dst_spec.proofs.Each.{get_all, all_map, all_flat_map, all_range}
+use Rattle.dst_spec.proofs.Lists.{get_all, all_map, all_flat_map, all_range}
+use Rattle.dst_spec.proofs.MapNumbers.{element-below}
 
 abbrev pub IsProb : ℕ → Type 0
 IsProb p = (1 ≤ p) × (p ≤ 128)
-
-fold-least : (count : ℕ) (es : List ℕ) → count ≤ fold (λ n e. max n (e + 1)) count es
-fold-least count [] = omega arith
-fold-least count (e ∷ es) = omega (arith, fold-least (max count (e + 1)) es)
-
-element-below : (count : ℕ) (es : List ℕ) (i : ℕ) → i < length es → get_or es i 0 < fold (λ n e. max n (e + 1)) count es
-element-below count [] i h = absurd (omega arith)
-element-below count (e ∷ es) zero h = omega (arith, fold-least (max count (e + 1)) es)
-element-below count (e ∷ es) (suc i) h = element-below (max count (e + 1)) es i (omega arith)
 
 entries_are_probs : (entries : List ℕ) → AllByRecursion (InRange prob_kind) (map pos entries) → AllByRecursion IsProb entries
 entries_are_probs [] h = tt
@@ -53,17 +45,17 @@ pub AreBits-signed_bits : (n : ℕ) (z : ℤ) → AreBits (signed_bits n z)
 AreBits-signed_bits n (pos x) = AreBits-low_bits n x
 AreBits-signed_bits n (negsuc x) = AreBits-low_bits n (2 ^ n - 1 - x)
 
-pub first_probability-most : (P : Params) → first_probability P ≤ 128
-unfolding first_probability
-first_probability-most P =
+pub reserved_probability-most : (P : Params) → reserved_probability P ≤ 128
+unfolding reserved_probability
+reserved_probability-most P =
     let a = get_or (get_or P.filters 0 []) 0 (pos 0) in
     let xs = signed_bits 9 a in
     let bits = AreBits-reverse xs [] (AreBits-signed_bits 9 a) tt in
     omega (arith, number_from-below (reverse xs) 0 7 bits)
 
-pub first_probability-least : (P : Params) → 1 ≤ first_probability P
-unfolding first_probability
-first_probability-least P = omega arith
+pub reserved_probability-least : (P : Params) → 1 ≤ reserved_probability P
+unfolding reserved_probability
+reserved_probability-least P = omega arith
 
 pub AreLawful-symbols : (f : Shape) (P : Params) (sound : List ℕ) (e : Bool) → IsParams f.channels P → AreLawful (symbols f P sound e)
 unfolding symbols
@@ -73,4 +65,4 @@ AreLawful-symbols f P sound e h =
     let each : AllByRecursion (λ t. AllByRecursion Q (at t)) (range_with_len 0 (samples f)) =
     all_range (λ t. AllByRecursion Q (at t)) 0 (samples f) (λ t k. all_map Q (λ c. (as_guessed f P sound c t, probability f P sound c t)) (range_with_len 0 f.channels)
     (all_range (λ c. IsProb (probability f P sound c t)) 0 f.channels (λ c l. IsProb-probability f P sound c t h (omega arith)))) in
-    ((first_probability-least P, first_probability-most P), all_flat_map Q at (range_with_len 0 (samples f)) each)
+    ((reserved_probability-least P, reserved_probability-most P), all_flat_map Q at (range_with_len 0 (samples f)) each)

@@ -35,7 +35,7 @@ pub several_segments_are_refused : Offends (channels_of 1) (224 ∷ []) (at Mult
 unfolding fields_open
 several_segments_are_refused = refl
 
--- two channels, told for each: 1 0 0 1 0, the second channel's end bit
+-- two channels, given for each: 1 0 0 1 0, the second channel's end bit
 pub several_segments_of_the_second_channel : Offends (channels_of 2) (144 ∷ []) (at MultiSegment 4)
 unfolding fields_open
 several_segments_of_the_second_channel = refl

@@ -81,10 +81,10 @@ AreBits-maps_spelling P = go (same_numbers P.filter_map P.prob_map)
     go true = (omega arith, AreBits-map_spelling P.filter_map)
     go false = (omega arith, AreBits-append (map_spelling P.filter_map) (map_spelling P.prob_map) (AreBits-map_spelling P.filter_map) (AreBits-map_spelling P.prob_map))
 
-AreBits-halves : (half : List Bool) → AreBits (map bit_of half)
+AreBits-halves : (half_prob : List Bool) → AreBits (map bit_of half_prob)
 AreBits-halves [] = tt
-AreBits-halves (true ∷ half) = (omega arith, AreBits-halves half)
-AreBits-halves (false ∷ half) = (omega arith, AreBits-halves half)
+AreBits-halves (true ∷ half_prob) = (omega arith, AreBits-halves half_prob)
+AreBits-halves (false ∷ half_prob) = (omega arith, AreBits-halves half_prob)
 
 AreBits-filters : (tables : List (List ℤ)) → AreBits (flat_map (λ t. table_bits filter_kind t (shortest filter_kind t)) tables)
 AreBits-filters [] = tt
@@ -99,6 +99,6 @@ unfolding header_spelling
 AreBits-header P =
     let filters = flat_map (λ t. table_bits filter_kind t (shortest filter_kind t)) P.filters in
     let probs = flat_map (λ t. table_bits prob_kind (map pos t) (shortest prob_kind (map pos t))) P.probs in
-    AreBits-append (1 ∷ 1 ∷ 1 ∷ 1 ∷ maps_spelling P ++ map bit_of P.half ++ filters) probs
-    (AreBits-append (1 ∷ 1 ∷ 1 ∷ 1 ∷ maps_spelling P ++ map bit_of P.half) filters
-    (AreBits-append (1 ∷ 1 ∷ 1 ∷ 1 ∷ maps_spelling P) (map bit_of P.half) (omega arith, (omega arith, (omega arith, (omega arith, AreBits-maps_spelling P)))) (AreBits-halves P.half)) (AreBits-filters P.filters)) (AreBits-probs P.probs)
+    AreBits-append (1 ∷ 1 ∷ 1 ∷ 1 ∷ maps_spelling P ++ map bit_of P.half_prob ++ filters) probs
+    (AreBits-append (1 ∷ 1 ∷ 1 ∷ 1 ∷ maps_spelling P ++ map bit_of P.half_prob) filters
+    (AreBits-append (1 ∷ 1 ∷ 1 ∷ 1 ∷ maps_spelling P) (map bit_of P.half_prob) (omega arith, (omega arith, (omega arith, (omega arith, AreBits-maps_spelling P)))) (AreBits-halves P.half_prob)) (AreBits-filters P.filters)) (AreBits-probs P.probs)

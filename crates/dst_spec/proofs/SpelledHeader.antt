@@ -5,7 +5,7 @@ use Rattle.dst_spec.specs.Table.{Kind, filter_kind, prob_kind, IsTable, is_alone
 use Rattle.dst_spec.specs.Map.{Numbers, IsMap, map_numbers, HasMap}
 use Rattle.dst_spec.specs.Header.{Params, IsParams, HasMaps, HasTables, HasHeader}
 use Rattle.dst_spec.specs.Spell.{coded_spellings, suits, shortest, map_spelling, same_numbers, maps_spelling, header_spelling}
-use Rattle.dst_spec.proofs.Each.{all_map, all_flat_map, all_range}
+use Rattle.dst_spec.proofs.Lists.{all_map, all_flat_map, all_range, both_true}
 
 -- ---- the shortest spelling of a table is one of its spellings
 abbrev IsCandidate : Spelling → Type 0
@@ -55,14 +55,10 @@ HasTables-shortest K (t ∷ tables) h =
     (table_bits K t (shortest K t), flat_map (λ u. table_bits K u (shortest K u)) tables, HasTable-shortest K t h.0, HasTables-shortest K tables h.1, refl)
 
 -- ---- maps
-both : (a b : Bool) → (a && b) ≡ true → (a ≡ true) × (b ≡ true)
-both true b e = (refl, e)
-both false b e = absurd cc
-
 all_zeros : (m : List ℕ) → list_all (λ e. e == 0) m ≡ true → m ≡ replicate (length m) 0
 all_zeros [] h = refl
 all_zeros (e ∷ es) h =
-    let p = both (e == 0) (list_all (λ x. x == 0) es) h in
+    let p = both_true (e == 0) (list_all (λ x. x == 0) es) h in
     ap₂ (λ x xs. x ∷ xs) (eqb-true e 0 p.0) (all_zeros es p.1)
 
 HasMap-spelling : (channels : ℕ) (m : List ℕ) → 1 ≤ channels → IsMap channels m → HasMap m (map_spelling m)
@@ -82,7 +78,7 @@ same_lists [] [] h = refl
 same_lists [] (y ∷ ys) h = absurd cc
 same_lists (x ∷ xs) [] h = absurd cc
 same_lists (x ∷ xs) (y ∷ ys) h =
-    let p = both (x == y) (same_numbers xs ys) h in
+    let p = both_true (x == y) (same_numbers xs ys) h in
     ap₂ (λ z zs. z ∷ zs) (eqb-true x y p.0) (same_lists xs ys p.1)
 
 HasMaps-spelling : (channels : ℕ) (P : Params) → 1 ≤ channels → IsParams channels P → HasMaps P.filter_map P.prob_map (maps_spelling P)

@@ -1,14 +1,13 @@
 -- The fields of segmentations and maps that were read are what they gave.
-use Rattle.std.proofs.Common.{◌≡◌, inl, inr, ℕ, zero, suc, ◌+◌, ◌-◌, ◌<◌, ◌≤◌, ◌==◌, nat_lt, max, Bool, true, false, cond, if◌then◌else◌, List, [], ◌∷◌, ◌++◌, length, replicate, refl, ap, ap₂, sym, subst, ◌∙◌, arith, Option, Some, None, ltb-false}
+use Rattle.std.proofs.Common.{◌≡◌, inl, inr, ℕ, zero, suc, ◌+◌, ◌-◌, ◌<◌, ◌==◌, max, if◌then◌else◌, List, [], ◌∷◌, ◌++◌, length, replicate, refl, ap, ap₂, sym, subst, ◌∙◌, arith, None}
 use Rattle.std.proofs.lemmas.List.{length-replicate}
 use Rattle.dst_spec.specs.Bits.{low_bits}
 use Rattle.dst_spec.specs.Map.{Numbers, IsMap, map_bits, map_numbers, HasMap}
 use Rattle.dst_spec.specs.Header.{IsSegmentation, HasSegments, HasMaps}
 use Rattle.dst_spec.specs.Fields.{Fields, gives, field, ◌>>=◌}
 use Rattle.dst_spec.specs.Offends.{times, end_rule, segment_fields, number_rule, map_number_fields, map_fields, both_segments, both_maps}
-use Rattle.dst_spec.specs.declared.faults.Reason.{Reason}
-use Rattle.dst_spec.specs.declared.faults.Reason.TheVariants.{MapSkips}
 use Rattle.dst_spec.proofs.Taking.{Takes, Takes-gives, Takes-bind, Takes-field, Takes-last, Takes-weaker, Takes-bit}
+use Rattle.dst_spec.proofs.MapNumbers.{within-count}
 
 -- the same field n times, with a relation for each
 abbrev pub EachIs : {A : Type 0} → (List ℕ → A → Type 0) → List ℕ → List A → Type 0
@@ -57,13 +56,6 @@ Takes-both_segments channels =
     (Takes-last (segment_fields channels) (λ x. x) (λ w x. IsSegmentation channels w) (λ w x. HasSegments channels (1 ∷ w)) (Takes-segments channels) (λ w x a. inl (w, a, refl)))
 
 -- maps
-within-count : (count e : ℕ) → number_rule count e ≡ None → e ≤ count
-within-count count e h = go (nat_lt count e) refl h
-  where
-    go : (b : Bool) → nat_lt count e ≡ b → ◌≡◌ {A = Option Reason} (cond b (Some MapSkips) None) None → e ≤ count
-    go true p q = absurd cc
-    go false p q = ltb-false count e p
-
 Takes-numbers : (n count : ℕ) → Takes (map_number_fields n count) (λ w es. (length es ≡ n) × Numbers count es × (w ≡ map_numbers count es))
 unfolding map_number_fields Numbers map_numbers
 Takes-numbers zero count = Takes-gives [] (λ w es. (length es ≡ 0) × Numbers count es × (w ≡ map_numbers count es)) (refl, tt, refl)

@@ -13,7 +13,7 @@ use Rattle.dst_spec.specs.declared.faults.Reason.{Reason}
 use Rattle.dst_spec.specs.declared.faults.Reason.TheVariants.{MethodReserved, TableTooShort}
 use Rattle.dst_spec.proofs.Taking.{Takes, Takes-gives, Takes-bind, Takes-field, Takes-residual, Takes-last, Takes-weaker, Takes-bit}
 use Rattle.dst_spec.proofs.Tables.{IsKind, InRange-range_rule}
-use Rattle.dst_spec.proofs.Each.{all_append}
+use Rattle.dst_spec.proofs.Lists.{all_append}
 use Rattle.dst_spec.proofs.TakingMaps.{EachIs, Takes-times}
 
 -- tables
@@ -55,8 +55,8 @@ Takes-later K weights m (suc n) earlier =
     (Takes-later K weights m n (v ∷ earlier))
     (λ w vs a. (ap suc a.0, (InRange-range_rule K v keeps, a.1), ap₂ (λ s t. rice s m ++ t) (sym again) a.2)))
 
-kept_method : (count method : ℕ) → method < 4 → method_rule count method ≡ None → (method < 3) × (method + 1 ≤ count)
-kept_method count method h k = go (method == 3) (nat_lt count (method + 1)) refl refl k
+met_method : (count method : ℕ) → method < 4 → method_rule count method ≡ None → (method < 3) × (method + 1 ≤ count)
+met_method count method h k = go (method == 3) (nat_lt count (method + 1)) refl refl k
   where
     go : (a b : Bool) → (method == 3) ≡ a → nat_lt count (method + 1) ≡ b →
         ◌≡◌ {A = Option Reason} (cond a (Some MethodReserved) (cond b (Some TableTooShort) None)) None → (method < 3) × (method + 1 ≤ count)
@@ -148,10 +148,10 @@ Takes-body K count k alone =
     (Takes-field 2 (method_rule count) (λ method. times (method + 1) (plain_fields K) >>= (λ first. number 3 >>= (λ m. later_fields K (K.weights method) m (count - (method + 1)) (reverse first) >>= (λ later. gives (first ++ later)))))
     (λ w vs. IsBody K count (1 ∷ w) vs)
     (λ method h keeps.
-    let kept = kept_method count method h keeps in
+    let met = met_method count method h keeps in
     Takes-weaker (times (method + 1) (plain_fields K) >>= (λ first. number 3 >>= (λ m. later_fields K (K.weights method) m (count - (method + 1)) (reverse first) >>= (λ later. gives (first ++ later)))))
     (IsCodedAs K count method) (λ w vs. IsBody K count (1 ∷ low_bits 2 method ++ w) vs) (Takes-coded_as K count method k)
-    (λ w vs c. body_of_coded K count method w vs alone kept.0 kept.1 c)))
+    (λ w vs c. body_of_coded K count method w vs alone met.0 met.1 c)))
 
 -- a table
 alone_is : (K : Kind) (count : ℕ) → (K.lone && (count == 1)) ≡ true → (K.lone ≡ true) × (count ≡ 1)

@@ -4,7 +4,7 @@ use Rattle.std.proofs.lemmas.Bool.{eqb-false}
 use Rattle.dst_spec.specs.Bits.{low_bits, bits, number_from, AreBits, AreBytes}
 use Rattle.dst_spec.specs.Sample.{Shape, IsShape, IsSound, samples, sound_bytes}
 use Rattle.dst_spec.specs.Header.{Params, IsParams, HasHeader}
-use Rattle.dst_spec.specs.Symbols.{first_probability, symbols}
+use Rattle.dst_spec.specs.Symbols.{reserved_probability, symbols}
 use Rattle.dst_spec.specs.Interval.{Interval, whole, part, narrowed, interval_from, IsWithin, IsCodeOf}
 use Rattle.dst_spec.specs.Means.{Means}
 use Rattle.dst_spec.specs.Laws.{IsRefused, IsUnderstood, DecodingLaw}
@@ -14,19 +14,20 @@ use Rattle.dst_spec.specs.declared.faults.FrameFault.{FrameFault}
 use Rattle.dst_spec.specs.declared.faults.Reason.{Reason}
 use Rattle.dst_spec.specs.declared.faults.Reason.TheVariants.{Truncated, PlainStuffing, FirstCodeBit, CodeRange}
 use Rattle.dst_spec.proofs.Reading.{read-bind}
-use Rattle.dst_spec.proofs.Taking.{was_kept, onward_ok, Takes, front-low_bits}
+use Rattle.dst_spec.proofs.Taking.{was_met, onward_ok, Takes, front-low_bits}
 use Rattle.dst_spec.proofs.Found.{Takes-header}
 use Rattle.dst_spec.proofs.Meaning.{first_number, one_fault, meaning_is_no_fault}
 use Rattle.dst_spec.proofs.Numbers.{AreBits-bits, length-bits, length-low_bits, number_from-drop, number_from-below}
 use Rattle.dst_spec.proofs.Intervals.{IsNormal-whole, IsNormal-narrowed, within_doubled, one_part}
-use Rattle.dst_spec.proofs.Probabilities.{first_probability-least, first_probability-most}
+use Rattle.dst_spec.proofs.Probabilities.{reserved_probability-least, reserved_probability-most}
 use Rattle.dst_spec.proofs.Causal.{sound_of, IsSound-sound_of}
 use Rattle.dst_spec.proofs.Decoding.{pairs_from, symbols-by_place, made_sound}
 use Rattle.dst_spec.proofs.Unique.{one_meaning}
+use Rattle.dst_spec.proofs.Lists.{AreBytes-take, AreBytes-drop, AreBits-drop}
 
 -- ---- a code has a sound
 code_from_place : (f : Shape) (P : Params) (xs : List ℕ) (i : ℕ) (sound : List ℕ) (e : Bool) →
-    IsWithin xs i (interval_from (narrowed whole (e, first_probability P)) (pairs_from f P sound 0 (samples f * f.channels))) → IsCodeOf xs i (symbols f P sound e)
+    IsWithin xs i (interval_from (narrowed whole (e, reserved_probability P)) (pairs_from f P sound 0 (samples f * f.channels))) → IsCodeOf xs i (symbols f P sound e)
 unfolding interval_from
 code_from_place f P xs i sound e w = subst (λ ps. IsWithin xs i (interval_from whole ps)) (sym (symbols-by_place f P sound e)) w
 
@@ -37,8 +38,8 @@ no_pairs xs i j v = v
 one_sound_at_least : (f : Shape) (P : Params) (xs : List ℕ) (i : ℕ) → IsParams f.channels P → 0 < f.channels → AreBits xs → IsWithin xs i whole →
     (sound : List ℕ) × (e : Bool) × IsSound f sound × IsCodeOf xs i (symbols f P sound e)
 one_sound_at_least f P xs i params h bits w =
-    let p = first_probability P in
-    let law : (1 ≤ p) × (p ≤ 128) = (first_probability-least P, first_probability-most P) in
+    let p = reserved_probability P in
+    let law : (1 ≤ p) × (p ≤ 128) = (reserved_probability-least P, reserved_probability-most P) in
     let one = one_part xs i whole p law.0 law.1 IsNormal-whole w in
     let normal = IsNormal-narrowed whole one.0 p law.0 law.1 IsNormal-whole in
     let inside : IsWithin xs i (narrowed whole (one.0, p)) = (within_doubled 11 xs i (part one.0 p whole) bits).0 one.1 in
@@ -50,25 +51,25 @@ field_read : {A : Type 0} (n : ℕ) (rule : ℕ → Option Reason) (next : ℕ �
     (n ≤ length xs) × (rule (number_from xs 0 n) ≡ None) × (read (next (number_from xs 0 n)) (drop n xs) (place + n) ≡ Ok r)
 unfolding read
 field_read n rule next xs place r e =
-    let k = was_kept (nat_lt (length xs) n) (rule (number_from xs 0 n)) (record { reason = Truncated; bit = place }) place (read (next (number_from xs 0 n)) (drop n xs) (place + n)) r e in
+    let k = was_met (nat_lt (length xs) n) (rule (number_from xs 0 n)) (record { reason = Truncated; bit = place }) place (read (next (number_from xs 0 n)) (drop n xs) (place + n)) r e in
     (ltb-false (length xs) n k.0, k.1, k.2)
 
 code_read : {A : Type 0} (n : ℕ) (rule : ℕ → Option Reason) (next : ℕ → Fields A) (xs : List ℕ) (place : ℕ) (r : A × List ℕ × ℕ) → read (code n rule next) xs place ≡ Ok r →
     (rule (number_from xs 0 n) ≡ None) × (read (next (number_from xs 0 n)) (drop n xs) (place + n) ≡ Ok r)
 unfolding read
 code_read n rule next xs place r e =
-    let k = was_kept false (rule (number_from xs 0 n)) (record { reason = Truncated; bit = place }) place (read (next (number_from xs 0 n)) (drop n xs) (place + n)) r e in
+    let k = was_met false (rule (number_from xs 0 n)) (record { reason = Truncated; bit = place }) place (read (next (number_from xs 0 n)) (drop n xs) (place + n)) r e in
     (k.1, k.2)
 
-kept_unless : (v n : ℕ) (reason : Reason) → ◌≡◌ {A = Option Reason} (cond (v == n) (Some reason) None) None → v ≢ n
-kept_unless v n reason h = go (v == n) refl h
+met_unless : (v n : ℕ) (reason : Reason) → ◌≡◌ {A = Option Reason} (cond (v == n) (Some reason) None) None → v ≢ n
+met_unless v n reason h = go (v == n) refl h
   where
     go : (b : Bool) → (v == n) ≡ b → ◌≡◌ {A = Option Reason} (cond b (Some reason) None) None → v ≢ n
     go true e k = absurd cc
     go false e k = eqb-false v n e
 
-kept_if : (v n : ℕ) (reason : Reason) → ◌≡◌ {A = Option Reason} (cond (v == n) None (Some reason)) None → v ≡ n
-kept_if v n reason h = go (v == n) refl h
+met_if : (v n : ℕ) (reason : Reason) → ◌≡◌ {A = Option Reason} (cond (v == n) None (Some reason)) None → v ≡ n
+met_if v n reason h = go (v == n) refl h
   where
     go : (b : Bool) → (v == n) ≡ b → ◌≡◌ {A = Option Reason} (cond b None (Some reason)) None → v ≡ n
     go true e k = eqb-true v n e
@@ -103,11 +104,11 @@ coded_means f frame r shape one long e =
     let behind : drop place xs ≡ zs = ap (drop place) split ∙ drop_at (1 ∷ w) zs place refl in
     let c = code_read 1 first_bit_rule (λ first. code 12 range_of_code_rule (λ twelve. gives (Some P))) zs q.0.2 r q.2 in
     let d = code_read 12 range_of_code_rule (λ twelve. gives (Some P)) (drop 1 zs) (q.0.2 + 1) r c.1 in
-    let not_one : number_from zs 0 1 ≢ 1 = kept_unless (number_from zs 0 1) 1 FirstCodeBit c.0 in
+    let not_one : number_from zs 0 1 ≢ 1 = met_unless (number_from zs 0 1) 1 FirstCodeBit c.0 in
     let below_two : number_from zs 0 1 < 2 ^ 1 = number_from-below zs 0 1 t.rest in
     let zero_first : get_or zs 0 0 ≡ 0 = sym (first_number zs) ∙ omega (arith, not_one, below_two) in
     let first : get_or xs place 0 ≡ 0 = ap (λ i. get_or xs i 0) (omega arith) ∙ sym (get_or-drop place xs 0 0) ∙ ap (λ l. get_or l 0 0) behind ∙ zero_first in
-    let not_twelve : number_from (drop 1 zs) 0 12 ≢ 4095 = kept_unless (number_from (drop 1 zs) 0 12) 4095 CodeRange d.0 in
+    let not_twelve : number_from (drop 1 zs) 0 12 ≢ 4095 = met_unless (number_from (drop 1 zs) 0 12) 4095 CodeRange d.0 in
     let number : number_from xs (place + 1) 12 ≡ number_from (drop 1 zs) 0 12 =
     sym (number_from-drop xs place 1 12) ∙ ap (λ l. number_from l 1 12) behind ∙ sym (number_from-drop zs 1 0 12) in
     let below : number_from xs (place + 1) 12 < 2 ^ 12 = number_from-below xs (place + 1) 12 all_bits in
@@ -129,21 +130,6 @@ coded_means f frame r shape one long e =
       ),
     )
 
-bytes_take : (n : ℕ) (xs : List ℕ) → AreBytes xs → AreBytes (take n xs)
-bytes_take zero xs h = tt
-bytes_take (suc n) [] h = tt
-bytes_take (suc n) (x ∷ xs) h = (h.0, bytes_take n xs h.1)
-
-bytes_drop : (n : ℕ) (xs : List ℕ) → AreBytes xs → AreBytes (drop n xs)
-bytes_drop zero xs h = h
-bytes_drop (suc n) [] h = tt
-bytes_drop (suc n) (x ∷ xs) h = bytes_drop n xs h.1
-
-bits_drop : (n : ℕ) (xs : List ℕ) → AreBits xs → AreBits (drop n xs)
-bits_drop zero xs h = h
-bits_drop (suc n) [] h = tt
-bits_drop (suc n) (x ∷ xs) h = bits_drop n xs h.1
-
 six_zeros : low_bits 6 0 ≡ replicate 6 0
 unfolding low_bits
 six_zeros = refl
@@ -159,8 +145,8 @@ plain_means f frame r bytes zero_first e =
     let a = field_read 1 any (λ reserved. field 6 stuffing_rule after_stuffing) (drop 1 xs) 1 r e in
     let b = field_read 6 stuffing_rule after_stuffing two (1 + 1) r a.2 in
     let c = field_read (8 * n) any (λ sound. gives None) (drop 6 two) (1 + 1 + 6) r b.2 in
-    let none : number_from two 0 6 ≡ 0 = kept_if (number_from two 0 6) 0 PlainStuffing b.1 in
-    let front = front-low_bits 6 two b.0 (bits_drop 1 (drop 1 xs) (bits_drop 1 xs (AreBits-bits frame))) in
+    let none : number_from two 0 6 ≡ 0 = met_if (number_from two 0 6) 0 PlainStuffing b.1 in
+    let front = front-low_bits 6 two b.0 (AreBits-drop 1 (drop 1 xs) (AreBits-drop 1 xs (AreBits-bits frame))) in
     let stuffing : take 6 two ≡ replicate 6 0 =
     ap (take 6) front ∙ take_at (low_bits 6 (number_from two 0 6)) (drop 6 two) 6 (length-low_bits 6 (number_from two 0 6)) ∙ ap (low_bits 6) none ∙ six_zeros in
     let two_is : two ≡ drop 2 xs = drop-drop 1 1 xs in
@@ -170,7 +156,7 @@ plain_means f frame r bytes zero_first e =
     let sound = take n (drop 1 frame) in (
       sound,
       (
-        record { long = length-take-le n (drop 1 frame) (omega (arith, length-drop 1 frame)); bytes = bytes_take n (drop 1 frame) (bytes_drop 1 frame bytes) },
+        record { long = length-take-le n (drop 1 frame) (omega (arith, length-drop 1 frame)); bytes = AreBytes-take n (drop 1 frame) (AreBytes-drop 1 frame bytes) },
         inl (record { coded = sym (first_number xs) ∙ zero_first; stuffing = ap (take 6) (sym two_is) ∙ stuffing; long = long; is_sound = refl }),
       ),
     )

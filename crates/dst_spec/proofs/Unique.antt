@@ -5,15 +5,16 @@ use Rattle.std.proofs.lemmas.Nat.Bits.{same_from_bits_below}
 use Rattle.dst_spec.specs.Bits.{bits, AreBits, AreBytes}
 use Rattle.dst_spec.specs.Sample.{Shape, IsShape, IsSound, sample, samples}
 use Rattle.dst_spec.specs.Header.{Params, IsParams}
-use Rattle.dst_spec.specs.Symbols.{first_probability, symbols}
+use Rattle.dst_spec.specs.Symbols.{reserved_probability, symbols}
 use Rattle.dst_spec.specs.Interval.{whole, narrowed, interval_from, interval, IsWithin, IsCodeOf}
 use Rattle.dst_spec.specs.Means.{Means, IsPlain, IsCoded, plain_tail, coded_tail, MeansWithTail}
 use Rattle.dst_spec.specs.Laws.{TailLaw}
 use Rattle.dst_spec.proofs.Numbers.{AreBits-bits}
 use Rattle.dst_spec.proofs.Intervals.{IsNormal-whole, IsNormal-narrowed, one_part}
-use Rattle.dst_spec.proofs.Probabilities.{first_probability-least, first_probability-most}
+use Rattle.dst_spec.proofs.Probabilities.{reserved_probability-least, reserved_probability-most}
 use Rattle.dst_spec.proofs.Headers.{Reads-header, header_law}
 use Rattle.dst_spec.proofs.Decoding.{pairs_from, sample_at, symbols-by_place, same_samples, first_symbol, lawful_from}
+use Rattle.dst_spec.proofs.Lists.{place-below}
 
 -- ---- sounds with the same samples are the same
 get_byte : (xs : List ℕ) (i : ℕ) → AreBytes xs → get_or xs i 0 < 2 ^ 8
@@ -35,14 +36,11 @@ sample_of_byte f sound i j h k =
     ∙ ap₂ (λ x y. get_or sound (x * w + i % w) 0 / 2 ^ (7 - y) % 2) eighth bit
     ∙ ap (λ x. get_or sound x 0 / 2 ^ (7 - j) % 2) byte
 
-rows_below : (t c w n : ℕ) → c < w → t < n → t * w + c < n * w
-rows_below t c w n h k = grind arith
-
-place-below : (w n i j : ℕ) → 0 < w → i < n * w → j < 8 → (8 * (i / w) + j) * w + i % w < 8 * n * w
-place-below w n i j h k l =
+place_inside : (w n i j : ℕ) → 0 < w → i < n * w → j < 8 → (8 * (i / w) + j) * w + i % w < 8 * n * w
+place_inside w n i j h k l =
     let q : i / w < n = div_below i w n h k in
     let c : i % w < w = omega arith in
-    rows_below (8 * (i / w) + j) (i % w) w (8 * n) c (omega arith)
+    place-below (8 * (i / w) + j) (i % w) w (8 * n) c (omega arith)
 
 pub same_sound : (f : Shape) (a b : List ℕ) → 0 < f.channels → IsSound f a → IsSound f b → ((m : ℕ) → m < samples f * f.channels → sample_at f a m ≡ sample_at f b m) → a ≡ b
 same_sound f a b h u v same =
@@ -52,12 +50,12 @@ same_sound f a b h u v same =
     let j = 7 - k in
     let place = (8 * (i / f.channels) + j) * f.channels + i % f.channels in
     let back : 7 - j ≡ k = omega arith in
-    let inside : place < samples f * f.channels = place-below f.channels f.octets i j h (omega (arith, u.long)) (omega arith) in
+    let inside : place < samples f * f.channels = place_inside f.channels f.octets i j h (omega (arith, u.long)) (omega arith) in
     ap (λ z. get_or a i 0 / 2 ^ z % 2) (sym back) ∙ sym (sample_of_byte f a i j h (omega arith)) ∙ same place inside ∙ sample_of_byte f b i j h (omega arith) ∙ ap (λ z. get_or b i 0 / 2 ^ z % 2) back))
 
 -- ---- the interval of a sound's symbols, from the reserved one on
 code_by_place : (f : Shape) (P : Params) (xs : List ℕ) (i : ℕ) (sound : List ℕ) (e : Bool) → IsCodeOf xs i (symbols f P sound e) →
-    IsWithin xs i (interval_from whole ((e, first_probability P) ∷ pairs_from f P sound 0 (samples f * f.channels)))
+    IsWithin xs i (interval_from whole ((e, reserved_probability P) ∷ pairs_from f P sound 0 (samples f * f.channels)))
 code_by_place f P xs i sound e w = subst (λ ps. IsWithin xs i (interval_from whole ps)) (symbols-by_place f P sound e) w
 
 behind_first : (xs : List ℕ) (i : ℕ) (pair : Bool × ℕ) (rest : List (Bool × ℕ)) → IsWithin xs i (interval_from whole (pair ∷ rest)) → IsWithin xs i (interval_from (narrowed whole pair) rest)
@@ -68,9 +66,9 @@ behind_first xs i pair rest w = w
 one_reading_of_code : (f : Shape) (P : Params) (xs : List ℕ) (i : ℕ) (a b : List ℕ) (d e : Bool) → IsParams f.channels P → 0 < f.channels → AreBits xs → IsSound f a → IsSound f b →
     IsCodeOf xs i (symbols f P a d) → IsCodeOf xs i (symbols f P b e) → (d ≡ e) × (a ≡ b)
 one_reading_of_code f P xs i a b d e params h bits sa sb u v =
-    let p = first_probability P in
+    let p = reserved_probability P in
     let n = samples f * f.channels in
-    let law : (1 ≤ p) × (p ≤ 128) = (first_probability-least P, first_probability-most P) in
+    let law : (1 ≤ p) × (p ≤ 128) = (reserved_probability-least P, reserved_probability-most P) in
     let at_a = code_by_place f P xs i a d u in
     let at_b = code_by_place f P xs i b e v in
     let first_a = first_symbol xs i whole (d, p) (pairs_from f P a 0 n) bits IsNormal-whole law (lawful_from f P a 0 n params h) at_a in

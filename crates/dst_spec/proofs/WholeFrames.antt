@@ -1,12 +1,12 @@
 -- Frames of the real size, whole: what is spelled for a sound FF, what is stored, and the tail of a long frame.
-use Rattle.std.proofs.Common.{◌≡◌, ℕ, zero, suc, ◌+◌, ◌*◌, ◌/◌, ◌%◌, ◌^◌, ◌<◌, ◌==◌, nat_lt, Bool, true, false, cond, if◌then◌else◌, inr, ℤ, pos, List, [], ◌∷◌, ◌++◌, length, get_or, map, replicate, refl, ap, ap₂, sym, ◌∙◌, arith, length-append}
+use Rattle.std.proofs.Common.{◌≡◌, ℕ, zero, suc, ◌+◌, ◌*◌, ◌/◌, ◌%◌, ◌^◌, ◌<◌, ◌==◌, nat_lt, Bool, true, false, if◌then◌else◌, inr, pos, List, [], ◌∷◌, ◌++◌, length, get_or, map, replicate, refl, ap, ap₂, sym, ◌∙◌, arith, length-append}
 use Rattle.std.proofs.lemmas.List.{length-replicate}
 use Rattle.std.specs.List.{range_with_len}
 use Rattle.dst_spec.specs.Bits.{low_bits, bits, number_from, octets}
 use Rattle.dst_spec.specs.Sample.{samples}
 use Rattle.dst_spec.specs.Header.{Params}
 use Rattle.dst_spec.specs.Guess.{sum_before, probability, as_guessed}
-use Rattle.dst_spec.specs.Symbols.{first_probability, symbols}
+use Rattle.dst_spec.specs.Symbols.{reserved_probability, symbols}
 use Rattle.dst_spec.specs.Interval.{doubled, interval_from, interval, code_number, IsCodeOf}
 use Rattle.dst_spec.specs.Means.{MeansWithTail}
 use Rattle.dst_spec.specs.Spell.{header_spelling, code_spelling, spell, stored}
@@ -14,8 +14,9 @@ use Rattle.dst_spec.proofs.Examples.{mono, params_of, spelling_open}
 use Rattle.dst_spec.proofs.Numbers.{length-bits, bits-append, length-octets, length-low_bits, number_from-add, number_from-append_right}
 use Rattle.dst_spec.proofs.Causal.{sample_is_bit}
 use Rattle.dst_spec.proofs.Decoding.{pair_at, symbols-by_place}
-use Rattle.dst_spec.proofs.Certain.{IsSound-same, get_or-zeros, ones_two_probs, symbols_are_sure, zeros_are_code}
+use Rattle.dst_spec.proofs.Certain.{IsSound-same, ones_two_probs, symbols_are_sure, zeros_are_code}
 use Rattle.dst_spec.proofs.Beginnings.{header_to_45}
+use Rattle.dst_spec.proofs.Lists.{get_or-zeros, either_way}
 
 -- ---- a filter 0 guesses 1 always: the symbols of a sound are its bits
 abbrev no_filter : ℕ → Params
@@ -30,10 +31,6 @@ each_by_place g h (x ∷ xs) a same =
     let start : a + 0 ≡ a = omega arith in
     ap₂ (λ y ys. y ∷ ys) (ap h (sym start) ∙ same 0 (omega arith))
     (each_by_place g h xs (a + 1) (λ i lt. let next : a + 1 + i ≡ a + suc i = omega arith in ap h next ∙ same (suc i) (omega arith)))
-
-either_way : (b : Bool) (x : ℤ) → cond b x x ≡ x
-either_way true x = refl
-either_way false x = refl
 
 zero_predicted : (n : ℕ) (sound : List ℕ) (c t : ℕ) → sum_before (mono n) sound c (pos 0 ∷ []) (pos t) ≡ pos 0
 unfolding sum_before
@@ -51,8 +48,8 @@ pair_is_bit n p sound k =
     let t : k / 1 ≡ k = omega arith in
     ap₂ (λ c t. (as_guessed (mono n) (no_filter p) sound c t, probability (mono n) (no_filter p) sound c t)) c t ∙ pair_of n p sound k
 
-reserved_is_1 : (p : ℕ) → first_probability (no_filter p) ≡ 1
-unfolding first_probability low_bits number_from
+reserved_is_1 : (p : ℕ) → reserved_probability (no_filter p) ≡ 1
+unfolding reserved_probability low_bits number_from
 reserved_is_1 p = refl
 
 symbols_are_bits : (n p : ℕ) (sound : List ℕ) (e : Bool) → length sound ≡ n → symbols (mono n) (no_filter p) sound e ≡ (e, 1) ∷ map (λ b. (b == 1, p)) (bits sound)

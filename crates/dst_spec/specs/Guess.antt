@@ -27,7 +27,7 @@ prediction f P sound c t = sum_before f sound c (filter_of P c) (pos t)
 -- 128 at the first samples of a channel with a half bit, as many as its filter is long; else an entry by the size of the prediction
 abbrev pub probability : Shape → Params → List ℕ → ℕ → ℕ → ℕ
 probability f P sound c t =
-    if get_or P.half c false && nat_lt t (length (filter_of P c)) then 128
+    if get_or P.half_prob c false && nat_lt t (length (filter_of P c)) then 128
     else get_or (probs_of P c) (min (nat_abs (prediction f P sound c t) / 8) (length (probs_of P c) - 1)) 0
 
 -- whether the sample is as guessed: 1 where the prediction is 0 or greater, else 0

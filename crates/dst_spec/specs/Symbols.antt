@@ -7,11 +7,11 @@ use Rattle.dst_spec.specs.Header.{Params}
 use Rattle.dst_spec.specs.Guess.{probability, as_guessed}
 
 -- 1 and the number of the seven low bits of coefficient 0 of filter 0 in reversed order, a coefficient having nine bits
-unfoldable pub first_probability : Params → ℕ
-first_probability P = 1 + number_from (reverse (signed_bits 9 (get_or (get_or P.filters 0 []) 0 (pos 0)))) 0 7
+unfoldable pub reserved_probability : Params → ℕ
+reserved_probability P = 1 + number_from (reverse (signed_bits 9 (get_or (get_or P.filters 0 []) 0 (pos 0)))) 0 7
 
 -- The reserved symbol, which means nothing; then for each t, channel after channel, whether the sample is as guessed.
 unfoldable pub symbols : Shape → Params → List ℕ → Bool → List (Bool × ℕ)
 symbols f P sound reserved =
-    (reserved, first_probability P)
+    (reserved, reserved_probability P)
     ∷ flat_map (λ t. map (λ c. (as_guessed f P sound c t, probability f P sound c t)) (range_with_len 0 f.channels)) (range_with_len 0 (samples f))

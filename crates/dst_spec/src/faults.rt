@@ -22,7 +22,7 @@ pub enum Reason {
     /// A table is coded by method 3.
     #[error("5 MethodReserved")]
     MethodReserved = 5,
-    /// A table has fewer values than its method tells plainly.
+    /// A table has fewer values than its method has plain.
     #[error("6 TableTooShort")]
     TableTooShort = 6,
     /// A coefficient isn't from -256 to 255.

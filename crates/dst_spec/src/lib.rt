@@ -1,6 +1,6 @@
 //! What a frame of Direct Stream Transfer means, in definitions: the lossless coding of one-bit sound of
 //! ISO/IEC 14496-3, subpart 10, with one segment for each channel. The contracts of the coder's crates cite these
-//! definitions, and whoever believes them needs to believe nothing else about frames. docs/FORMAT.md tells the format
+//! definitions, and whoever believes them needs to believe nothing else about frames. docs/FORMAT.md describes the format
 //! in words and names the definition of each part.
 //!
 //! The definitions are in `specs/`: `Bits`, `Sample`, `Rice`, `Table`, `Map` and `Header` say how parameters are

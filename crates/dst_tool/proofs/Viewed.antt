@@ -16,9 +16,7 @@ use Rattle.frame_header.specs.View.{IfPlain, IfCoded, OffendsNowhere, first_bit_
 use Rattle.frame_header.specs.declared.view.FrameView.{FrameView}
 use Rattle.frame_header.specs.declared.view.FrameView.TheVariants.{Plain, Coded}
 use Rattle.dst_tool.specs.Reporting.{view_line, IsShown}
-
-same_fault : {A : Type 0} (a b : FrameFault) → ◌≡◌ {A = Result A FrameFault} (Err a) (Err b) → a ≡ b
-same_fault a b e = cc
+use Rattle.dst_spec.proofs.Lists.{same_err as same_fault}
 
 -- a fault of the code is the only one
 only_of_code : (f : Shape) (w : List ℕ) (fault other : FrameFault) → (other.reason ≡ FirstCodeBit) ⊎ (other.reason ≡ CodeRange) → Offends f w other → Refuses (show_frame 0) f w fault → ⊥

@@ -34,7 +34,7 @@ impl Job {
         ensures lawful { IfOk result (λ _. IsShape channels) }
         ensures shape { IfOk result (λ j. shape_of_job j ≡ shape_number channels) }
     {
-        let size = channels.frame_bytes();
+        let size = channels.sound_bytes();
         Ok(Job {
             number: 0,
             size: 0,

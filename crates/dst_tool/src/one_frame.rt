@@ -98,7 +98,7 @@ fn read_sound<S: Source>(
     let Ok(mut stored) = vec![in alloc; 0; entry.size as usize] else {
         return Err(ToolFault::Memory);
     };
-    let Ok(mut sound) = vec![in alloc; 0; channels.frame_bytes()] else {
+    let Ok(mut sound) = vec![in alloc; 0; channels.sound_bytes()] else {
         return Err(ToolFault::Memory);
     };
     let Ok(mut scratch) = Scratch::new(alloc, channels) else {

@@ -16,7 +16,7 @@ pub(crate) fn sound_size(form: &Form) -> u64
     ensures size { result ≡ size_of_sound (form_seen form.now) }
     ensures most { result ≤ 112896000000 }
 {
-    let whole = form.channels.frame_bytes() as u64;
+    let whole = form.channels.sound_bytes() as u64;
     match &form.kept {
         Some(kept) => kept.sound,
         None => u64::from(form.frames) * whole,

@@ -8,17 +8,13 @@ use Rattle.std.specs.Str.Parse.{ParsesUnsigned}
 use Rattle.std.proofs.lemmas.Bool.{le-ltb}
 use Rattle.std.proofs.lemmas.Str.Parse.{IsDigitsTest, FoldsDigits, IsNumeralModel, numerals_by_fold, parse_plain}
 use Rattle.dsdiff_spec.specs.Words.{is_digit, is_numeral, numeral_value, number_word}
+use Rattle.dst_spec.proofs.Lists.{both_true}
 
 -- the byte at a place, and those behind it
 pub split_at : (bytes : List ℕ) (i : ℕ) → i < length bytes → list_all is_digit (drop i bytes) ≡ (is_digit (get_or bytes i 0) && list_all is_digit (drop (i + 1) bytes))
 split_at [] i h = absurd (omega arith)
 split_at (b ∷ bytes) zero h = refl
 split_at (b ∷ bytes) (suc i) h = rw add-one (split_at bytes i (omega arith) ∙ ap (λ n. is_digit (get_or bytes i 0) && list_all is_digit (drop n bytes)) (add-one i))
-
-both_true : (a b : Bool) → (a && b) ≡ true → (a ≡ true) × (b ≡ true)
-both_true true true e = (refl, refl)
-both_true true false e = absurd cc
-both_true false b e = absurd cc
 
 in_range : (c : ℕ) → is_digit c ≡ true → IsInRange 48 57 c
 in_range c e = go (nat_lt c 48) (nat_lt 57 c) refl refl e

@@ -156,7 +156,7 @@ unfolding header_fields
 early_header channels =
     IsEarly-bind (both_segments channels) _ (early_both_segments channels) (λ s.
     IsEarly-bind (both_maps channels) _ (early_both_maps channels) (λ maps.
-    IsEarly-bind (times channels (number 1)) _ (early_times channels (number 1) (early_number 1)) (λ half.
+    IsEarly-bind (times channels (number 1)) _ (early_times channels (number 1) (early_number 1)) (λ half_prob.
     IsEarly-bind (times (element_count maps.0) (table_fields filter_kind)) _ (early_times (element_count maps.0) (table_fields filter_kind) (early_table filter_kind)) (λ filters.
     IsEarly-bind (times (element_count maps.1) (table_fields prob_kind)) _ (early_times (element_count maps.1) (table_fields prob_kind) (early_table prob_kind)) (λ probs. tt)))))
 

@@ -10,8 +10,8 @@ use Rattle.dst_spec.specs.declared.faults.FrameFault.{FrameFault}
 use Rattle.dst_spec.specs.declared.faults.Reason.TheVariants.{Truncated, CodeRange}
 use Rattle.dst_spec.proofs.Numbers.{length-bits, number_from-drop}
 use Rattle.dst_spec.proofs.Meaning.{first_number}
-use Rattle.bit_io.specs.Reading.{Reading, left}
-use Rattle.frame_header.specs.Steps.{Gave, Failed, IsRead}
+use Rattle.bit_io.specs.Reading.{Reading, left, HasRead, IsAtFault}
+use Rattle.frame_header.specs.Steps.{IsReadable}
 use Rattle.frame_header.specs.View.{OffendsNowhere, first_bit_fault, range_fault}
 use Rattle.frame_header.proofs.Stepping.{onto, failed_within, number_cut}
 
@@ -22,15 +22,15 @@ sound_part f stuffing = number (8 * sound_bytes f) >>= (λ sound. gives None)
 abbrev stuffing_part : Shape → ℕ → Fields (Option Params)
 stuffing_part f reserved = field 6 stuffing_rule gives >>= sound_part f
 
-pub reserved_cut : (f : Shape) (a : Reading) (fault : FrameFault) → Failed (number 1) a fault → Failed (plain_frame_fields f) a fault
+pub reserved_cut : (f : Shape) (a : Reading) (fault : FrameFault) → IsAtFault (number 1) a fault → IsAtFault (plain_frame_fields f) a fault
 unfolding plain_frame_fields
 reserved_cut f a fault h = failed_within (number 1) (stuffing_part f) a fault h
 
-pub stuffing_fails : (f : Shape) (a b : Reading) (v : ℕ) (fault : FrameFault) → Gave (number 1) a v b → Failed (field 6 stuffing_rule gives) b fault → Failed (plain_frame_fields f) a fault
+pub stuffing_fails : (f : Shape) (a b : Reading) (v : ℕ) (fault : FrameFault) → HasRead (number 1) a v b → IsAtFault (field 6 stuffing_rule gives) b fault → IsAtFault (plain_frame_fields f) a fault
 unfolding plain_frame_fields
 stuffing_fails f a b v fault h k = onto (number 1) (stuffing_part f) a b v h ∙ failed_within (field 6 stuffing_rule gives) (sound_part f) b fault k
 
-to_sound : (f : Shape) (a b c : Reading) (v : ℕ) → Gave (number 1) a v b → Gave (field 6 stuffing_rule gives) b 0 c →
+to_sound : (f : Shape) (a b c : Reading) (v : ℕ) → HasRead (number 1) a v b → HasRead (field 6 stuffing_rule gives) b 0 c →
     read (plain_frame_fields f) (left a) a.place ≡ read (sound_part f 0) (left c) c.place
 unfolding plain_frame_fields
 to_sound f a b c v h k = onto (number 1) (stuffing_part f) a b v h ∙ onto (field 6 stuffing_rule gives) (sound_part f) b c 0 k
@@ -39,8 +39,8 @@ to_sound f a b c v h k = onto (number 1) (stuffing_part f) a b v h ∙ onto (fie
 bits_behind : (frame : List ℕ) (c : Reading) → c.bytes ≡ frame → c.place ≡ 8 → length (left c) ≡ 8 * length frame - 8
 bits_behind frame c bytes place = length-drop c.place (bits c.bytes) ∙ rw (bytes, place, length-bits) refl
 
-pub sound_cut : (f : Shape) (frame : List ℕ) (a b c : Reading) (v : ℕ) → Gave (number 1) a v b → Gave (field 6 stuffing_rule gives) b 0 c → c.bytes ≡ frame → c.place ≡ 8 →
-    1 ≤ sound_bytes f → length frame < 1 + sound_bytes f → Failed (plain_frame_fields f) a (record { reason = Truncated; bit = c.place })
+pub sound_cut : (f : Shape) (frame : List ℕ) (a b c : Reading) (v : ℕ) → HasRead (number 1) a v b → HasRead (field 6 stuffing_rule gives) b 0 c → c.bytes ≡ frame → c.place ≡ 8 →
+    1 ≤ sound_bytes f → length frame < 1 + sound_bytes f → IsAtFault (plain_frame_fields f) a (record { reason = Truncated; bit = c.place })
 sound_cut f frame a b c v h k bytes place some short =
     let cut : length (left c) < 8 * sound_bytes f = omega (arith, bits_behind frame c bytes place) in
     to_sound f a b c v h k ∙ failed_within (number (8 * sound_bytes f)) (λ sound. gives None) c (record { reason = Truncated; bit = c.place }) (number_cut (8 * sound_bytes f) c cut)
@@ -49,8 +49,8 @@ there : {A : Type 0} (b : Bool) (t : FrameFault) (q : A) → b ≡ false → ◌
 there true t q e = absurd cc
 there false t q e = refl
 
-pub sound_there : (f : Shape) (frame : List ℕ) (a b c : Reading) (v : ℕ) → Gave (number 1) a v b → Gave (field 6 stuffing_rule gives) b 0 c → c.bytes ≡ frame → c.place ≡ 8 →
-    1 + sound_bytes f ≤ length frame → IsRead (plain_frame_fields f) a
+pub sound_there : (f : Shape) (frame : List ℕ) (a b c : Reading) (v : ℕ) → HasRead (number 1) a v b → HasRead (field 6 stuffing_rule gives) b 0 c → c.bytes ≡ frame → c.place ≡ 8 →
+    1 + sound_bytes f ≤ length frame → IsReadable (plain_frame_fields f) a
 unfolding read
 sound_there f frame a b c v h k bytes place long =
     let n = 8 * sound_bytes f in
@@ -72,24 +72,24 @@ from_start m frame a s =
     let all : left a ≡ bits frame = ap (λ i. drop i (bits a.bytes)) s.place ∙ ap bits s.bytes in
     rw (all, s.place) refl
 
-pub first_cut : (f : Shape) (frame : List ℕ) (a : Reading) (fault : FrameFault) → Starts frame a → Failed (number 1) a fault → Offends f frame fault
+pub first_cut : (f : Shape) (frame : List ℕ) (a : Reading) (fault : FrameFault) → Starts frame a → IsAtFault (number 1) a fault → Offends f frame fault
 unfolding frame_fields
 first_cut f frame a fault s h = from_start (frame_fields f) frame a s ∙ failed_within (number 1) (behind_first f) a fault h
 
-to_behind : (f : Shape) (frame : List ℕ) (a b : Reading) (v : ℕ) → Starts frame a → Gave (number 1) a v b → read (frame_fields f) (bits frame) 0 ≡ read (behind_first f v) (left b) b.place
+to_behind : (f : Shape) (frame : List ℕ) (a b : Reading) (v : ℕ) → Starts frame a → HasRead (number 1) a v b → read (frame_fields f) (bits frame) 0 ≡ read (behind_first f v) (left b) b.place
 unfolding frame_fields
 to_behind f frame a b v s h = from_start (frame_fields f) frame a s ∙ onto (number 1) (behind_first f) a b v h
 
-to_plain : (f : Shape) (frame : List ℕ) (a b : Reading) (v : ℕ) → Starts frame a → Gave (number 1) a v b → v ≡ 0 → read (frame_fields f) (bits frame) 0 ≡ read (plain_frame_fields f) (left b) b.place
+to_plain : (f : Shape) (frame : List ℕ) (a b : Reading) (v : ℕ) → Starts frame a → HasRead (number 1) a v b → v ≡ 0 → read (frame_fields f) (bits frame) 0 ≡ read (plain_frame_fields f) (left b) b.place
 to_plain f frame a b v s h none = to_behind f frame a b v s h ∙ ap (λ x. read (behind_first f x) (left b) b.place) none
 
-pub plain_fails : (f : Shape) (frame : List ℕ) (a b : Reading) (v : ℕ) (fault : FrameFault) → Starts frame a → Gave (number 1) a v b → v ≡ 0 → Failed (plain_frame_fields f) b fault → Offends f frame fault
+pub plain_fails : (f : Shape) (frame : List ℕ) (a b : Reading) (v : ℕ) (fault : FrameFault) → Starts frame a → HasRead (number 1) a v b → v ≡ 0 → IsAtFault (plain_frame_fields f) b fault → Offends f frame fault
 plain_fails f frame a b v fault s h none k = to_plain f frame a b v s h none ∙ k
 
 no_fault : {A : Type 0} (q r : Result A FrameFault) (x : A) (fault : FrameFault) → q ≡ r → r ≡ Ok x → q ≡ Err fault → ⊥
 no_fault {A = A} q r x fault e h k = let same : ◌≡◌ {A = Result A FrameFault} (Ok x) (Err fault) = sym h ∙ sym e ∙ k in cc
 
-pub plain_nowhere : (f : Shape) (frame : List ℕ) (a b : Reading) (v : ℕ) → Starts frame a → Gave (number 1) a v b → v ≡ 0 → IsRead (plain_frame_fields f) b → OffendsNowhere f frame
+pub plain_nowhere : (f : Shape) (frame : List ℕ) (a b : Reading) (v : ℕ) → Starts frame a → HasRead (number 1) a v b → v ≡ 0 → IsReadable (plain_frame_fields f) b → OffendsNowhere f frame
 plain_nowhere f frame a b v s h none k fault o =
     no_fault (read (frame_fields f) (bits frame) 0) (read (plain_frame_fields f) (left b) b.place) k.0 fault (to_plain f frame a b v s h none) k.1 o
 
@@ -100,15 +100,15 @@ range_part P first = code 12 range_of_code_rule (λ twelve. gives (Some P))
 abbrev code_part : Params → Fields (Option Params)
 code_part P = code 1 first_bit_rule (range_part P)
 
-to_coded : (f : Shape) (frame : List ℕ) (a b : Reading) (v : ℕ) → Starts frame a → Gave (number 1) a v b → (v ≡ 0 → ⊥) →
+to_coded : (f : Shape) (frame : List ℕ) (a b : Reading) (v : ℕ) → Starts frame a → HasRead (number 1) a v b → (v ≡ 0 → ⊥) →
     read (frame_fields f) (bits frame) 0 ≡ read (header_fields f.channels >>= code_part) (left b) b.place
 unfolding coded_frame_fields
 to_coded f frame a b v s h ne = to_behind f frame a b v s h ∙ ap (λ x. read (cond x (plain_frame_fields f) (coded_frame_fields f)) (left b) b.place) (ne_eqb v 0 ne)
 
-pub header_fails : (f : Shape) (frame : List ℕ) (a b : Reading) (v : ℕ) (fault : FrameFault) → Starts frame a → Gave (number 1) a v b → (v ≡ 0 → ⊥) → Failed (header_fields f.channels) b fault → Offends f frame fault
+pub header_fails : (f : Shape) (frame : List ℕ) (a b : Reading) (v : ℕ) (fault : FrameFault) → Starts frame a → HasRead (number 1) a v b → (v ≡ 0 → ⊥) → IsAtFault (header_fields f.channels) b fault → Offends f frame fault
 header_fails f frame a b v fault s h ne k = to_coded f frame a b v s h ne ∙ failed_within (header_fields f.channels) code_part b fault k
 
-to_code : (f : Shape) (frame : List ℕ) (a b c : Reading) (v : ℕ) (P : Params) → Starts frame a → Gave (number 1) a v b → (v ≡ 0 → ⊥) → Gave (header_fields f.channels) b P c →
+to_code : (f : Shape) (frame : List ℕ) (a b c : Reading) (v : ℕ) (P : Params) → Starts frame a → HasRead (number 1) a v b → (v ≡ 0 → ⊥) → HasRead (header_fields f.channels) b P c →
     read (frame_fields f) (bits frame) 0 ≡ read (code_part P) (left c) c.place
 to_code f frame a b c v P s h ne k = to_coded f frame a b v s h ne ∙ onto (header_fields f.channels) code_part b c P k
 
@@ -154,7 +154,7 @@ pub record IsCodedFrom (f : Shape) (frame : List ℕ) (c : Reading) : Type 0 whe
   pub range : get_or (bits frame) c.place 0 ≡ 0 → number_from (bits frame) (c.place + 1) 12 ≡ 4095 → Offends f frame (range_fault c.place)
   pub whole : get_or (bits frame) c.place 0 ≡ 0 → number_from (bits frame) (c.place + 1) 12 ≢ 4095 → OffendsNowhere f frame
 
-pub coded_from : (f : Shape) (frame : List ℕ) (a b c : Reading) (v : ℕ) (P : Params) → Starts frame a → Gave (number 1) a v b → (v ≡ 0 → ⊥) → Gave (header_fields f.channels) b P c → c.bytes ≡ frame →
+pub coded_from : (f : Shape) (frame : List ℕ) (a b c : Reading) (v : ℕ) (P : Params) → Starts frame a → HasRead (number 1) a v b → (v ≡ 0 → ⊥) → HasRead (header_fields f.channels) b P c → c.bytes ≡ frame →
     IsCodedFrom f frame c
 coded_from f frame a b c v P s h ne k bytes =
     let to = to_code f frame a b c v P s h ne k in

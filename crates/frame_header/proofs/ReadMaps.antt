@@ -1,24 +1,17 @@
 -- What is read as a map is one.
-use Rattle.std.proofs.Common.{◌≡◌, ℕ, zero, suc, ◌+◌, ◌-◌, ◌≤◌, ◌==◌, max, nat_lt, Bool, true, false, cond, if◌then◌else◌, List, [], ◌∷◌, length, drop, replicate, refl, ap, sym, subst, ◌∙◌, arith, Option, Some, None, Ok, ltb-false}
+use Rattle.std.proofs.Common.{◌≡◌, ℕ, zero, suc, ◌+◌, ◌-◌, ◌≤◌, ◌==◌, max, nat_lt, Bool, true, false, cond, if◌then◌else◌, List, [], ◌∷◌, length, drop, replicate, refl, ap, sym, subst, ◌∙◌, arith, Ok}
 use Rattle.std.proofs.lemmas.List.{length-replicate}
 use Rattle.dst_spec.specs.Bits.{number_from}
 use Rattle.dst_spec.specs.Map.{Numbers, IsMap, map_bits}
 use Rattle.dst_spec.specs.Fields.{Fields, gives, ◌>>=◌, number, read}
 use Rattle.dst_spec.specs.Offends.{number_rule, map_number_fields, map_fields}
-use Rattle.dst_spec.specs.declared.faults.Reason.{Reason}
-use Rattle.dst_spec.specs.declared.faults.Reason.TheVariants.{Truncated, MapSkips}
+use Rattle.dst_spec.specs.declared.faults.Reason.TheVariants.{Truncated}
 use Rattle.dst_spec.proofs.Reading.{read-bind}
-use Rattle.dst_spec.proofs.Taking.{was_kept, onward_ok}
+use Rattle.dst_spec.proofs.Taking.{was_met, onward_ok}
 use Rattle.dst_num.specs.Map.{IsChannelMap}
-use Rattle.bit_io.specs.Reading.{Reading, left}
-use Rattle.frame_header.specs.Steps.{Gave, element_fields}
-
-within : (count e : ℕ) → number_rule count e ≡ None → e ≤ count
-within count e h = go (nat_lt count e) refl h
-  where
-    go : (b : Bool) → nat_lt count e ≡ b → ◌≡◌ {A = Option Reason} (cond b (Some MapSkips) None) None → e ≤ count
-    go true p q = absurd cc
-    go false p q = ltb-false count e p
+use Rattle.bit_io.specs.Reading.{Reading, left, HasRead}
+use Rattle.frame_header.specs.Steps.{element_fields}
+use Rattle.dst_spec.proofs.MapNumbers.{within-count}
 
 given_same : {A : Type 0} (x : A) (xs : List ℕ) (place : ℕ) (r : A × List ℕ × ℕ) → read (gives x) xs place ≡ Ok r → r.0 ≡ x
 unfolding read
@@ -34,11 +27,11 @@ numbers_read (suc n) count xs place r e =
     let v = number_from xs 0 b in
     let more : ℕ → Fields (List ℕ) = λ x. map_number_fields n (max count (x + 1)) in
     let ys = drop b xs in
-    let k = was_kept (nat_lt (length xs) b) (number_rule count v) (record { reason = Truncated; bit = place }) place (read (more v >>= (λ es. gives (v ∷ es))) ys (place + b)) r e in
+    let k = was_met (nat_lt (length xs) b) (number_rule count v) (record { reason = Truncated; bit = place }) place (read (more v >>= (λ es. gives (v ∷ es))) ys (place + b)) r e in
     let p = onward_ok (λ es. gives (v ∷ es)) (read (more v) ys (place + b)) r (sym (read-bind (more v) (λ es. gives (v ∷ es)) ys (place + b)) ∙ k.2) in
     let rest = numbers_read n (max count (v + 1)) ys (place + b) p.0 p.1 in
     let whole = given_same (v ∷ p.0.0) p.0.1 p.0.2 r p.2 in
-    subst (λ es. (length es ≡ suc n) × Numbers count es) (sym whole) (ap suc rest.0, (within count v k.1, rest.1))
+    subst (λ es. (length es ≡ suc n) × Numbers count es) (sym whole) (ap suc rest.0, (within-count count v k.1, rest.1))
 
 zeros_follow : (n : ℕ) → Numbers 1 (replicate n 0)
 unfolding Numbers
@@ -67,7 +60,7 @@ map_read n xs place r e =
         let numbers = numbers_read (suc n - 1) 1 ys from q.0 q.1 in
         subst (IsMap (suc n)) (sym (given_same (0 ∷ q.0.0) q.0.1 q.0.2 r q.2)) (elements_are_map n q.0.0 (omega (arith, numbers.0)) numbers.1)
 
-pub is_map : (channels : ℕ) (old new : Reading) (m : List ℕ) → 1 ≤ channels → channels ≤ 6 → Gave (map_fields channels) old m new → IsChannelMap m
+pub is_map : (channels : ℕ) (old new : Reading) (m : List ℕ) → 1 ≤ channels → channels ≤ 6 → HasRead (map_fields channels) old m new → IsChannelMap m
 is_map zero old new m some most h = absurd (omega arith)
 is_map (suc n) old new m some most h =
     let is : IsMap (suc n) m = map_read n (left old) old.place (m, left new, new.place) h in

@@ -1,5 +1,5 @@
 -- Maps and half bits in their spelling, element by element.
-use Rattle.std.proofs.Common.{◌≡◌, ℕ, ◌+◌, ◌-◌, ◌^◌, ◌<◌, ◌≤◌, ◌==◌, max, nat_lt, Bool, true, false, cond, List, [], ◌∷◌, ◌++◌, length, map, take, drop, get_or, refl, ap, ap₂, sym, subst, ◌∙◌, arith, append_assoc, append-nil, ltb-true}
+use Rattle.std.proofs.Common.{◌≡◌, ℕ, ◌+◌, ◌-◌, ◌<◌, ◌≤◌, ◌==◌, max, Bool, true, false, cond, List, [], ◌∷◌, ◌++◌, length, map, take, drop, get_or, refl, ap, ap₂, sym, subst, ◌∙◌, arith, append_assoc, append-nil}
 use Rattle.std.proofs.lemmas.List.{drop_more, drop_all, take_all}
 use Rattle.std.specs.List.{list_all}
 use Rattle.dst_spec.specs.Bits.{low_bits}
@@ -14,27 +14,15 @@ unfolding low_bits
 one_bit true = refl
 one_bit false = refl
 
-pub half_step : (old now next : List ℕ) (half : List Bool) (i : ℕ) (b : Bool) → i < length half → b ≡ get_or half i false → next ≡ now ++ low_bits 1 (bit_of b) →
-    now ++ map bit_of (drop i half) ≡ old ++ map bit_of half → next ++ map bit_of (drop (i + 1) half) ≡ old ++ map bit_of half
-half_step old now next half i b lt is put whole =
-    let rest : drop i half ≡ b ∷ drop (i + 1) half = drop_more half i false lt ∙ ap (λ x. x ∷ drop (i + 1) half) (sym is) in
+pub half_step : (old now next : List ℕ) (half_prob : List Bool) (i : ℕ) (b : Bool) → i < length half_prob → b ≡ get_or half_prob i false → next ≡ now ++ low_bits 1 (bit_of b) →
+    now ++ map bit_of (drop i half_prob) ≡ old ++ map bit_of half_prob → next ++ map bit_of (drop (i + 1) half_prob) ≡ old ++ map bit_of half_prob
+half_step old now next half_prob i b lt is put whole =
+    let rest : drop i half_prob ≡ b ∷ drop (i + 1) half_prob = drop_more half_prob i false lt ∙ ap (λ x. x ∷ drop (i + 1) half_prob) (sym is) in
     let front : next ≡ now ++ bit_of b ∷ [] = put ∙ ap (λ xs. now ++ xs) (one_bit b) in
-    ap (λ xs. xs ++ map bit_of (drop (i + 1) half)) front ∙ append_assoc now (bit_of b ∷ []) (map bit_of (drop (i + 1) half))
+    ap (λ xs. xs ++ map bit_of (drop (i + 1) half_prob)) front ∙ append_assoc now (bit_of b ∷ []) (map bit_of (drop (i + 1) half_prob))
     ∙ sym (ap (λ xs. now ++ map bit_of xs) rest) ∙ whole
 
 -- ---- numbers behind the first element
-pub number_fits : (count e : ℕ) → e ≤ count → count < 8 → e < 2 ^ map_bits count
-number_fits count e h k = fits (nat_lt count 2) (nat_lt count 4) refl refl
-  where
-    fits : (a b : Bool) → nat_lt count 2 ≡ a → nat_lt count 4 ≡ b → e < 2 ^ (cond a 1 (cond b 2 3))
-    fits true b p q = omega (arith, ltb-true)
-    fits false true p q = omega (arith, ltb-true)
-    fits false false p q = omega arith
-
-pub number_at : (es : List ℕ) (i count : ℕ) → i < length es → Numbers count (drop i es) → (get_or es i 0 ≤ count) × Numbers (max count (get_or es i 0 + 1)) (drop (i + 1) es)
-unfolding Numbers
-number_at es i count lt h = subst (Numbers count) (drop_more es i 0 lt) h
-
 pub numbers_step : (old now next : List ℕ) (es : List ℕ) (i count : ℕ) → i < length es → next ≡ now ++ low_bits (map_bits count) (get_or es i 0) →
     now ++ map_numbers count (drop i es) ≡ old ++ map_numbers 1 es → next ++ map_numbers (max count (get_or es i 0 + 1)) (drop (i + 1) es) ≡ old ++ map_numbers 1 es
 unfolding map_numbers

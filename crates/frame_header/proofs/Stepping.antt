@@ -1,23 +1,23 @@
 -- Steps through the fields of a frame.
-use Rattle.std.proofs.Common.{◌≡◌, ℕ, zero, suc, ◌+◌, ◌<◌, ◌≤◌, nat_lt, Bool, true, false, List, [], ◌∷◌, length, drop, refl, ap, sym, subst, ◌∙◌, arith, length-drop, Option, Some, None, Result, Ok, Err, IsErrAnd, IfErr, IfNone, IsSome, le-ltb, lt-ltb}
+use Rattle.std.proofs.Common.{◌≡◌, ℕ, ◌+◌, ◌<◌, ◌≤◌, nat_lt, Bool, true, false, List, length, drop, refl, ap, sym, subst, ◌∙◌, arith, length-drop, Option, Some, None, Result, Ok, Err, IsErrAnd, IfErr, IfNone, IsSome, le-ltb, lt-ltb}
 use Rattle.dst_spec.specs.Bits.{bits, number_from, AreBits}
 use Rattle.dst_spec.specs.Fields.{Fields, gives, field, residual, code, ◌>>=◌, number, read, residual_length, residual_value}
 use Rattle.dst_spec.specs.declared.faults.FrameFault.{FrameFault}
 use Rattle.dst_spec.specs.declared.faults.Reason.{Reason}
 use Rattle.dst_spec.specs.declared.faults.Reason.TheVariants.{Truncated}
-use Rattle.dst_spec.proofs.Reading.{onward, read-bind, kept}
-use Rattle.dst_spec.proofs.Taking.{was_kept}
+use Rattle.dst_spec.proofs.Reading.{onward, read-bind, field_met}
+use Rattle.dst_spec.proofs.Taking.{was_met}
 use Rattle.dst_spec.proofs.Numbers.{AreBits-bits}
-use Rattle.bit_io.specs.Reading.{Reading, left}
-use Rattle.frame_header.specs.Steps.{Gave, Failed}
+use Rattle.bit_io.specs.Reading.{Reading, left, HasRead, IsAtFault}
+use Rattle.dst_spec.proofs.Lists.{AreBits-drop}
 
 -- a part that gave something is followed by what stands behind it
-pub onto : {A B : Type 0} (m : Fields A) (f : A → Fields B) (old new : Reading) (x : A) → Gave m old x new →
+pub onto : {A B : Type 0} (m : Fields A) (f : A → Fields B) (old new : Reading) (x : A) → HasRead m old x new →
     read (m >>= f) (left old) old.place ≡ read (f x) (left new) new.place
 onto m f old new x h = read-bind m f (left old) old.place ∙ ap (onward f) h
 
 -- what a part failed at is what the whole fails at
-pub failed_within : {A B : Type 0} (m : Fields A) (f : A → Fields B) (old : Reading) (fault : FrameFault) → Failed m old fault → Failed (m >>= f) old fault
+pub failed_within : {A B : Type 0} (m : Fields A) (f : A → Fields B) (old : Reading) (fault : FrameFault) → IsAtFault m old fault → IsAtFault (m >>= f) old fault
 failed_within m f old fault h = read-bind m f (left old) old.place ∙ ap (onward f) h
 
 -- a fault that is handed on
@@ -27,19 +27,19 @@ handed_on (Err e) fault P h p = subst P (sym h) p
 
 -- ---- a field without a rule
 pub number_gave : (n : ℕ) (old new : Reading) (v : ℕ) → n ≤ length (left old) → v ≡ number_from (left old) 0 n → left new ≡ drop n (left old) → new.place ≡ old.place + n →
-    Gave (number n) old v new
+    HasRead (number n) old v new
 unfolding read
 number_gave n old new v enough is rest place =
     let xs = left old in
     let all : Result (ℕ × List ℕ × ℕ) FrameFault = Ok (number_from xs 0 n, drop n xs, old.place + n) in
     let same : all ≡ Ok (v, left new, new.place) = rw (is, rest, place) refl in
-    kept (nat_lt (length xs) n) None (record { reason = Truncated; bit = old.place }) old.place all (le-ltb (length xs) n enough) refl ∙ same
+    field_met (nat_lt (length xs) n) None (record { reason = Truncated; bit = old.place }) old.place all (le-ltb (length xs) n enough) refl ∙ same
 
 not_there : {A : Type 0} (b : Bool) (t : FrameFault) (r : Result A FrameFault) → b ≡ true → ◌≡◌ {A = Result A FrameFault} (elim b [ true ↦ Err t | false ↦ r ]) (Err t)
 not_there true t r e = refl
 not_there false t r e = absurd cc
 
-pub number_cut : (n : ℕ) (old : Reading) → length (left old) < n → Failed (number n) old (record { reason = Truncated; bit = old.place })
+pub number_cut : (n : ℕ) (old : Reading) → length (left old) < n → IsAtFault (number n) old (record { reason = Truncated; bit = old.place })
 unfolding read
 number_cut n old short =
     let xs = left old in
@@ -50,16 +50,16 @@ number_cut n old short =
 given_one : (a b : ℕ × List ℕ × ℕ) → ◌≡◌ {A = Result (ℕ × List ℕ × ℕ) FrameFault} (Ok a) (Ok b) → a ≡ b
 given_one a b e = cc
 
-pub rule_kept : (n : ℕ) (rule : ℕ → Option Reason) (old new : Reading) (v : ℕ) → Gave (number n) old v new → rule v ≡ None → Gave (field n rule gives) old v new
+pub rule_met : (n : ℕ) (rule : ℕ → Option Reason) (old new : Reading) (v : ℕ) → HasRead (number n) old v new → rule v ≡ None → HasRead (field n rule gives) old v new
 unfolding read
-rule_kept n rule old new v h keeps =
+rule_met n rule old new v h keeps =
     let xs = left old in
     let t : FrameFault = record { reason = Truncated; bit = old.place } in
     let all : Result (ℕ × List ℕ × ℕ) FrameFault = Ok (number_from xs 0 n, drop n xs, old.place + n) in
-    let k = was_kept (nat_lt (length xs) n) None t old.place all (v, left new, new.place) h in
+    let k = was_met (nat_lt (length xs) n) None t old.place all (v, left new, new.place) h in
     let same : ◌≡◌ {A = ℕ × List ℕ × ℕ} (number_from xs 0 n, drop n xs, old.place + n) (v, left new, new.place) = given_one _ _ k.2 in
     let is : number_from xs 0 n ≡ v = ap (λ q. q.0) same in
-    kept (nat_lt (length xs) n) (rule (number_from xs 0 n)) t old.place all k.0 (ap rule is ∙ keeps) ∙ k.2
+    field_met (nat_lt (length xs) n) (rule (number_from xs 0 n)) t old.place all k.0 (ap rule is ∙ keeps) ∙ k.2
 
 is_broken : {A : Type 0} (b : Bool) (o : Option Reason) (reason : Reason) (t : FrameFault) (place : ℕ) (r : Result (A × List ℕ × ℕ) FrameFault) → b ≡ false → o ≡ Some reason →
     ◌≡◌ {A = Result (A × List ℕ × ℕ) FrameFault} (elim b [ true ↦ Err t | false ↦ elim o [ Some x ↦ Err (record { reason = x; bit = place }) | None ↦ r ] ]) (Err (record { reason = reason; bit = place }))
@@ -67,14 +67,14 @@ is_broken true o reason t place r e f = absurd cc
 is_broken false None reason t place r e f = absurd cc
 is_broken false (Some x) reason t place r e f = let same : x ≡ reason = cc in ap (λ y. Err (record { reason = y; bit = place })) same
 
-pub rule_broken : (n : ℕ) (rule : ℕ → Option Reason) (old new : Reading) (v : ℕ) (reason : Reason) → Gave (number n) old v new → rule v ≡ Some reason →
-    Failed (field n rule gives) old (record { reason = reason; bit = old.place })
+pub rule_broken : (n : ℕ) (rule : ℕ → Option Reason) (old new : Reading) (v : ℕ) (reason : Reason) → HasRead (number n) old v new → rule v ≡ Some reason →
+    IsAtFault (field n rule gives) old (record { reason = reason; bit = old.place })
 unfolding read
 rule_broken n rule old new v reason h breaks =
     let xs = left old in
     let t : FrameFault = record { reason = Truncated; bit = old.place } in
     let all : Result (ℕ × List ℕ × ℕ) FrameFault = Ok (number_from xs 0 n, drop n xs, old.place + n) in
-    let k = was_kept (nat_lt (length xs) n) None t old.place all (v, left new, new.place) h in
+    let k = was_met (nat_lt (length xs) n) None t old.place all (v, left new, new.place) h in
     let same : ◌≡◌ {A = ℕ × List ℕ × ℕ} (number_from xs 0 n, drop n xs, old.place + n) (v, left new, new.place) = given_one _ _ k.2 in
     let is : number_from xs 0 n ≡ v = ap (λ q. q.0) same in
     is_broken (nat_lt (length xs) n) (rule (number_from xs 0 n)) reason t old.place all k.0 (ap rule is ∙ breaks)
@@ -85,7 +85,7 @@ is_cut : {A : Type 0} (b : Bool) (o : Option Reason) (t fault : FrameFault) (pla
 is_cut true o t fault place q r e = e
 is_cut false o t fault place q r e = absurd cc
 
-pub field_cut : (n : ℕ) (rule : ℕ → Option Reason) (old : Reading) (fault : FrameFault) → Failed (number n) old fault → Failed (field n rule gives) old fault
+pub field_cut : (n : ℕ) (rule : ℕ → Option Reason) (old : Reading) (fault : FrameFault) → IsAtFault (number n) old fault → IsAtFault (field n rule gives) old fault
 unfolding read
 field_cut n rule old fault h =
     let xs = left old in
@@ -98,29 +98,24 @@ unfolding read
 shorter (gives x) xs place r e = let same : (x, xs, place) ≡ r = cc in subst (λ q. length q.1 ≤ length xs) same (omega arith)
 shorter (field n rule next) xs place r e =
     let v = number_from xs 0 n in
-    let k = was_kept (nat_lt (length xs) n) (rule v) (record { reason = Truncated; bit = place }) place (read (next v) (drop n xs) (place + n)) r e in
+    let k = was_met (nat_lt (length xs) n) (rule v) (record { reason = Truncated; bit = place }) place (read (next v) (drop n xs) (place + n)) r e in
     let rest = shorter (next v) (drop n xs) (place + n) r k.2 in
     omega (arith, rest, length-drop n xs)
 shorter (residual m rule next) xs place r e =
     let n = residual_length m xs in
     let v = residual_value m xs in
-    let k = was_kept (nat_lt (length xs) n) (rule v) (record { reason = Truncated; bit = place }) place (read (next v) (drop n xs) (place + n)) r e in
+    let k = was_met (nat_lt (length xs) n) (rule v) (record { reason = Truncated; bit = place }) place (read (next v) (drop n xs) (place + n)) r e in
     let rest = shorter (next v) (drop n xs) (place + n) r k.2 in
     omega (arith, rest, length-drop n xs)
 shorter (code n rule next) xs place r e =
     let v = number_from xs 0 n in
-    let k = was_kept false (rule v) (record { reason = Truncated; bit = place }) place (read (next v) (drop n xs) (place + n)) r e in
+    let k = was_met false (rule v) (record { reason = Truncated; bit = place }) place (read (next v) (drop n xs) (place + n)) r e in
     let rest = shorter (next v) (drop n xs) (place + n) r k.2 in
     omega (arith, rest, length-drop n xs)
 
 -- ---- the bits that are left
-are_bits_behind : (n : ℕ) (xs : List ℕ) → AreBits xs → AreBits (drop n xs)
-are_bits_behind zero xs h = h
-are_bits_behind (suc n) [] h = tt
-are_bits_behind (suc n) (x ∷ xs) h = are_bits_behind n xs h.1
-
 pub are_bits_left : (r : Reading) → AreBits (left r)
-are_bits_left r = are_bits_behind r.place (bits r.bytes) (AreBits-bits r.bytes)
+are_bits_left r = AreBits-drop r.place (bits r.bytes) (AreBits-bits r.bytes)
 
 -- what isn't None is there
 pub there_unless : {A : Type 0} (o : Option A) (P : Type 0) → IfNone o (P → ⊥) → P → IsSome o

@@ -1,5 +1,5 @@
 -- A whole header, from its parts.
-use Rattle.std.proofs.Common.{◌≡◌, ℕ, zero, suc, ◌*◌, ◌≤◌, ◌==◌, Bool, true, false, List, [], ◌∷◌, ◌++◌, length, map, take, drop, get_or, refl, ap, ap₂, sym, subst, ◌∙◌, arith, ℤ, pos, nat_abs, Ok, length-append, take_at}
+use Rattle.std.proofs.Common.{◌≡◌, ℕ, zero, suc, ◌*◌, ◌≤◌, Bool, List, [], ◌∷◌, ◌++◌, length, map, take, drop, get_or, refl, ap, ap₂, sym, subst, ◌∙◌, arith, ℤ, pos, nat_abs, Ok, length-append, take_at}
 use Rattle.dst_spec.specs.Bits.{bits}
 use Rattle.dst_spec.specs.Table.{filter_kind, prob_kind}
 use Rattle.dst_spec.specs.Map.{element_count}
@@ -8,17 +8,13 @@ use Rattle.dst_spec.specs.Fields.{Fields, gives, ◌>>=◌, number, read}
 use Rattle.dst_spec.specs.Offends.{times, both_segments, both_maps, table_fields, header_fields}
 use Rattle.dst_spec.specs.declared.faults.FrameFault.{FrameFault}
 use Rattle.dst_spec.proofs.Numbers.{length-bits}
-use Rattle.dst_spec.proofs.Found.{Takes-header}
+use Rattle.dst_spec.proofs.Found.{Takes-header, made, prob_part}
 use Rattle.dst_num.specs.Map.{params_of}
-use Rattle.bit_io.specs.Reading.{Reading, left}
-use Rattle.frame_header.specs.Steps.{Gave, Passed, Failed}
+use Rattle.bit_io.specs.Reading.{Reading, left, HasRead, HasPassed, IsAtFault}
 use Rattle.frame_header.proofs.Stepping.{onto, failed_within, are_bits_left}
+use Rattle.dst_spec.proofs.Headers.{bits_again, probs_again}
 
 -- ---- what follows each part
-abbrev made : List ℕ × List ℕ → List ℕ → List (List ℤ) → List (List ℤ) → Params
-made maps half filters probs =
-    record { filter_map = maps.0; prob_map = maps.1; half = map (λ b. b == 1) half; filters = filters; probs = map (λ entries. map nat_abs entries) probs }
-
 abbrev probs_for : List ℕ → Fields (List (List ℤ))
 probs_for m = times (element_count m) (table_fields prob_kind)
 
@@ -26,13 +22,10 @@ abbrev filters_for : List ℕ → Fields (List (List ℤ))
 filters_for m = times (element_count m) (table_fields filter_kind)
 
 abbrev last_part : List ℕ × List ℕ → List ℕ → List (List ℤ) → List (List ℤ) → Fields Params
-last_part maps half filters probs = gives (made maps half filters probs)
-
-abbrev prob_part : List ℕ × List ℕ → List ℕ → List (List ℤ) → Fields Params
-prob_part maps half filters = probs_for maps.1 >>= last_part maps half filters
+last_part maps half_prob filters probs = gives (made maps half_prob filters probs)
 
 abbrev filter_part : List ℕ × List ℕ → List ℕ → Fields Params
-filter_part maps half = filters_for maps.0 >>= prob_part maps half
+filter_part maps half_prob = filters_for maps.0 >>= prob_part maps half_prob
 
 abbrev half_part : ℕ → List ℕ × List ℕ → Fields Params
 half_part channels maps = times channels (number 1) >>= filter_part maps
@@ -41,73 +34,60 @@ abbrev map_part : ℕ → List ℕ → Fields Params
 map_part channels segments = both_maps channels >>= half_part channels
 
 -- ---- one part after the other
-pub segments_fail : (channels : ℕ) (old : Reading) (fault : FrameFault) → Failed (both_segments channels) old fault → Failed (header_fields channels) old fault
+pub segments_fail : (channels : ℕ) (old : Reading) (fault : FrameFault) → IsAtFault (both_segments channels) old fault → IsAtFault (header_fields channels) old fault
 unfolding header_fields
 segments_fail channels old fault h = failed_within (both_segments channels) (map_part channels) old fault h
 
-to_maps : (channels : ℕ) (a b : Reading) → Passed (both_segments channels) a b → read (header_fields channels) (left a) a.place ≡ read (both_maps channels >>= half_part channels) (left b) b.place
+to_maps : (channels : ℕ) (a b : Reading) → HasPassed (both_segments channels) a b → read (header_fields channels) (left a) a.place ≡ read (both_maps channels >>= half_part channels) (left b) b.place
 unfolding header_fields
 to_maps channels a b h = onto (both_segments channels) (map_part channels) a b h.0 h.1
 
-pub maps_fail : (channels : ℕ) (a b : Reading) (fault : FrameFault) → Passed (both_segments channels) a b → Failed (both_maps channels) b fault → Failed (header_fields channels) a fault
+pub maps_fail : (channels : ℕ) (a b : Reading) (fault : FrameFault) → HasPassed (both_segments channels) a b → IsAtFault (both_maps channels) b fault → IsAtFault (header_fields channels) a fault
 maps_fail channels a b fault h k = to_maps channels a b h ∙ failed_within (both_maps channels) (half_part channels) b fault k
 
-to_half : (channels : ℕ) (a b c : Reading) (maps : List ℕ × List ℕ) → Passed (both_segments channels) a b → Gave (both_maps channels) b maps c →
+to_half : (channels : ℕ) (a b c : Reading) (maps : List ℕ × List ℕ) → HasPassed (both_segments channels) a b → HasRead (both_maps channels) b maps c →
     read (header_fields channels) (left a) a.place ≡ read (half_part channels maps) (left c) c.place
 to_half channels a b c maps h k = to_maps channels a b h ∙ onto (both_maps channels) (half_part channels) b c maps k
 
-pub half_fails : (channels : ℕ) (a b c : Reading) (maps : List ℕ × List ℕ) (fault : FrameFault) → Passed (both_segments channels) a b → Gave (both_maps channels) b maps c →
-    Failed (times channels (number 1)) c fault → Failed (header_fields channels) a fault
+pub half_fails : (channels : ℕ) (a b c : Reading) (maps : List ℕ × List ℕ) (fault : FrameFault) → HasPassed (both_segments channels) a b → HasRead (both_maps channels) b maps c →
+    IsAtFault (times channels (number 1)) c fault → IsAtFault (header_fields channels) a fault
 half_fails channels a b c maps fault h k i = to_half channels a b c maps h k ∙ failed_within (times channels (number 1)) (filter_part maps) c fault i
 
-to_filters : (channels : ℕ) (a b c d : Reading) (maps : List ℕ × List ℕ) (half : List ℕ) → Passed (both_segments channels) a b → Gave (both_maps channels) b maps c → Gave (times channels (number 1)) c half d →
-    read (header_fields channels) (left a) a.place ≡ read (filter_part maps half) (left d) d.place
-to_filters channels a b c d maps half h k i = to_half channels a b c maps h k ∙ onto (times channels (number 1)) (filter_part maps) c d half i
+to_filters : (channels : ℕ) (a b c d : Reading) (maps : List ℕ × List ℕ) (half_prob : List ℕ) → HasPassed (both_segments channels) a b → HasRead (both_maps channels) b maps c → HasRead (times channels (number 1)) c half_prob d →
+    read (header_fields channels) (left a) a.place ≡ read (filter_part maps half_prob) (left d) d.place
+to_filters channels a b c d maps half_prob h k i = to_half channels a b c maps h k ∙ onto (times channels (number 1)) (filter_part maps) c d half_prob i
 
-pub filters_fail : (channels : ℕ) (a b c d : Reading) (maps : List ℕ × List ℕ) (half : List ℕ) (fault : FrameFault) → Passed (both_segments channels) a b → Gave (both_maps channels) b maps c →
-    Gave (times channels (number 1)) c half d → Failed (filters_for maps.0) d fault → Failed (header_fields channels) a fault
-filters_fail channels a b c d maps half fault h k i j = to_filters channels a b c d maps half h k i ∙ failed_within (filters_for maps.0) (prob_part maps half) d fault j
+pub filters_fail : (channels : ℕ) (a b c d : Reading) (maps : List ℕ × List ℕ) (half_prob : List ℕ) (fault : FrameFault) → HasPassed (both_segments channels) a b → HasRead (both_maps channels) b maps c →
+    HasRead (times channels (number 1)) c half_prob d → IsAtFault (filters_for maps.0) d fault → IsAtFault (header_fields channels) a fault
+filters_fail channels a b c d maps half_prob fault h k i j = to_filters channels a b c d maps half_prob h k i ∙ failed_within (filters_for maps.0) (prob_part maps half_prob) d fault j
 
-to_probs : (channels : ℕ) (a b c d e : Reading) (maps : List ℕ × List ℕ) (half : List ℕ) (filters : List (List ℤ)) → Passed (both_segments channels) a b → Gave (both_maps channels) b maps c →
-    Gave (times channels (number 1)) c half d → Gave (filters_for maps.0) d filters e → read (header_fields channels) (left a) a.place ≡ read (prob_part maps half filters) (left e) e.place
-to_probs channels a b c d e maps half filters h k i j = to_filters channels a b c d maps half h k i ∙ onto (filters_for maps.0) (prob_part maps half) d e filters j
+to_probs : (channels : ℕ) (a b c d e : Reading) (maps : List ℕ × List ℕ) (half_prob : List ℕ) (filters : List (List ℤ)) → HasPassed (both_segments channels) a b → HasRead (both_maps channels) b maps c →
+    HasRead (times channels (number 1)) c half_prob d → HasRead (filters_for maps.0) d filters e → read (header_fields channels) (left a) a.place ≡ read (prob_part maps half_prob filters) (left e) e.place
+to_probs channels a b c d e maps half_prob filters h k i j = to_filters channels a b c d maps half_prob h k i ∙ onto (filters_for maps.0) (prob_part maps half_prob) d e filters j
 
-pub probs_fail : (channels : ℕ) (a b c d e : Reading) (maps : List ℕ × List ℕ) (half : List ℕ) (filters : List (List ℤ)) (fault : FrameFault) → Passed (both_segments channels) a b → Gave (both_maps channels) b maps c →
-    Gave (times channels (number 1)) c half d → Gave (filters_for maps.0) d filters e → Failed (probs_for maps.1) e fault → Failed (header_fields channels) a fault
-probs_fail channels a b c d e maps half filters fault h k i j l =
-    to_probs channels a b c d e maps half filters h k i j ∙ failed_within (probs_for maps.1) (last_part maps half filters) e fault l
+pub probs_fail : (channels : ℕ) (a b c d e : Reading) (maps : List ℕ × List ℕ) (half_prob : List ℕ) (filters : List (List ℤ)) (fault : FrameFault) → HasPassed (both_segments channels) a b → HasRead (both_maps channels) b maps c →
+    HasRead (times channels (number 1)) c half_prob d → HasRead (filters_for maps.0) d filters e → IsAtFault (probs_for maps.1) e fault → IsAtFault (header_fields channels) a fault
+probs_fail channels a b c d e maps half_prob filters fault h k i j l =
+    to_probs channels a b c d e maps half_prob filters h k i j ∙ failed_within (probs_for maps.1) (last_part maps half_prob filters) e fault l
 
 -- ---- values as they run
-half_again : (half : List Bool) → map (λ b. b == 1) (map bit_of half) ≡ half
-half_again [] = refl
-half_again (true ∷ half) = ap (λ xs. true ∷ xs) (half_again half)
-half_again (false ∷ half) = ap (λ xs. false ∷ xs) (half_again half)
-
 filters_again : (filters : List (List ℤ)) → map (λ t. t) filters ≡ filters
 filters_again [] = refl
 filters_again (t ∷ filters) = ap (λ ts. t ∷ ts) (filters_again filters)
 
-entries_again : (entries : List ℕ) → map nat_abs (map pos entries) ≡ entries
-entries_again [] = refl
-entries_again (x ∷ entries) = ap (λ xs. x ∷ xs) (entries_again entries)
-
-probs_again : (probs : List (List ℕ)) → map (λ entries. map nat_abs entries) (map (λ t. map pos t) probs) ≡ probs
-probs_again [] = refl
-probs_again (t ∷ probs) = ap₂ (λ x xs. x ∷ xs) (entries_again t) (probs_again probs)
-
-pub header_gave : (channels : ℕ) (a b c d e f : Reading) (filter_map prob_map : List ℕ) (half : List Bool) (filters : List (List ℤ)) (probs : List (List ℕ)) →
-    Passed (both_segments channels) a b → Gave (both_maps channels) b (filter_map, prob_map) c → Gave (times channels (number 1)) c (map bit_of half) d →
-    Gave (filters_for filter_map) d (map (λ t. t) filters) e → Gave (probs_for prob_map) e (map (λ t. map pos t) probs) f →
-    Gave (header_fields channels) a (params_of filter_map prob_map half filters probs) f
+pub header_gave : (channels : ℕ) (a b c d e f : Reading) (filter_map prob_map : List ℕ) (half_prob : List Bool) (filters : List (List ℤ)) (probs : List (List ℕ)) →
+    HasPassed (both_segments channels) a b → HasRead (both_maps channels) b (filter_map, prob_map) c → HasRead (times channels (number 1)) c (map bit_of half_prob) d →
+    HasRead (filters_for filter_map) d (map (λ t. t) filters) e → HasRead (probs_for prob_map) e (map (λ t. map pos t) probs) f →
+    HasRead (header_fields channels) a (params_of filter_map prob_map half_prob filters probs) f
 unfolding read
-header_gave channels a b c d e f filter_map prob_map half filters probs h k i j l =
+header_gave channels a b c d e f filter_map prob_map half_prob filters probs h k i j l =
     let maps : List ℕ × List ℕ = (filter_map, prob_map) in
-    let hs = map bit_of half in
+    let hs = map bit_of half_prob in
     let fs = map (λ (t : List ℤ). t) filters in
     let ps = map (λ (t : List ℕ). map pos t) probs in
-    let same : made maps hs fs ps ≡ params_of filter_map prob_map half filters probs =
-    ap (λ x. record { filter_map = filter_map; prob_map = prob_map; half = x; filters = fs; probs = map (λ entries. map nat_abs entries) ps }) (half_again half)
-    ∙ ap₂ (λ x y. record { filter_map = filter_map; prob_map = prob_map; half = half; filters = x; probs = y }) (filters_again filters) (probs_again probs) in
+    let same : made maps hs fs ps ≡ params_of filter_map prob_map half_prob filters probs =
+    ap (λ x. record { filter_map = filter_map; prob_map = prob_map; half_prob = x; filters = fs; probs = map (λ entries. map nat_abs entries) ps }) (bits_again half_prob)
+    ∙ ap₂ (λ x y. record { filter_map = filter_map; prob_map = prob_map; half_prob = half_prob; filters = x; probs = y }) (filters_again filters) (probs_again probs) in
     to_probs channels a b c d e maps hs fs h k i j ∙ onto (probs_for prob_map) (last_part maps hs fs) e f ps l ∙ ap (λ P. Ok (P, left f, f.place)) same
 
 -- ---- what was read has a header's bits
@@ -119,7 +99,7 @@ pub record IsFound (channels : ℕ) (old new : Reading) (P : Params) : Type 0 wh
   pub header : HasHeader channels P (take new.place (bits old.bytes))
   pub inside : new.place ≤ 8 * length old.bytes
 
-pub header_found : (channels : ℕ) (old new : Reading) (P : Params) → 1 ≤ channels → old.place ≡ 1 → get_or (bits old.bytes) 0 0 ≡ 1 → Gave (header_fields channels) old P new → IsFound channels old new P
+pub header_found : (channels : ℕ) (old new : Reading) (P : Params) → 1 ≤ channels → old.place ≡ 1 → get_or (bits old.bytes) 0 0 ≡ 1 → HasRead (header_fields channels) old P new → IsFound channels old new P
 header_found zero old new P some place one h = absurd (omega arith)
 header_found (suc n) old new P some place one h =
     let t = Takes-header n (left old) old.place (P, left new, new.place) (are_bits_left old) h in
@@ -134,6 +114,6 @@ header_found (suc n) old new P some place one h =
       inside = omega (arith, long, ap length whole, length-append (1 ∷ w) (left new), length-bits old.bytes);
     }
 
-pub params_found : (channels : ℕ) (old new : Reading) (P : Params) → 1 ≤ channels → Gave (header_fields channels) old P new → IsParams channels P
+pub params_found : (channels : ℕ) (old new : Reading) (P : Params) → 1 ≤ channels → HasRead (header_fields channels) old P new → IsParams channels P
 params_found zero old new P some h = absurd (omega arith)
 params_found (suc n) old new P some h = let t = Takes-header n (left old) old.place (P, left new, new.place) (are_bits_left old) h in let k : HasHeader (suc n) P (1 ∷ t.bits) = t.related in k.params

@@ -4,8 +4,7 @@ ghost use Rattle.dst_spec.specs.Bits.{low_bits, number_from};
 ghost use Rattle.dst_spec.specs.Map.{map_bits as bits_behind};
 ghost use Rattle.dst_spec.specs.Fields.{gives, field, number};
 ghost use Rattle.dst_spec.specs.Offends.{end_rule, number_rule, stuffing_rule};
-ghost use Rattle.bit_io.specs.Reading.{left};
-ghost use Rattle.frame_header.specs.Steps.{Gave, Passed, Failed};
+ghost use Rattle.bit_io.specs.Reading.{left, HasRead, HasPassed, IsAtFault};
 
 use bit_io::BitReader;
 use dst_num::{FrameFault, Reason};
@@ -13,12 +12,12 @@ use dst_num::{FrameFault, Reason};
 /// The number of a field of `n` bits, at most 32, that has no rule.
 pub(crate) fn read_number(reader: &mut BitReader, n: u32) -> Result<u32, FrameFault>
     requires { n ≤ 32 }
-    ensures read { IfOk result (λ v. Gave (number n) reader.old v reader.new) }
+    ensures read { IfOk result (λ v. HasRead (number n) reader.old v reader.new) }
     ensures first { IfOk result (λ v. v ≡ number_from (left reader.old) 0 n) }
     ensures fits { IfOk result (λ v. v < 2 ^ n) }
     ensures bits { IfOk result (λ v. left reader.old ≡ low_bits n v ++ left reader.new) }
     ensures place { IfOk result (λ _. reader.new.place ≡ reader.old.place + n) }
-    ensures fault { IfErr result (Failed (number n) reader.old) }
+    ensures fault { IfErr result (IsAtFault (number n) reader.old) }
     ensures bytes { reader.new.bytes ≡ reader.old.bytes }
 {
     let bit = reader.place();
@@ -33,8 +32,8 @@ pub(crate) fn read_number(reader: &mut BitReader, n: u32) -> Result<u32, FrameFa
 
 /// Passes the end bit of a channel with one segment.
 pub(crate) fn read_end(reader: &mut BitReader) -> Result<(), FrameFault>
-    ensures read { IfOk result (λ _. Passed (field 1 end_rule gives) reader.old reader.new) }
-    ensures fault { IfErr result (Failed (field 1 end_rule gives) reader.old) }
+    ensures read { IfOk result (λ _. HasPassed (field 1 end_rule gives) reader.old reader.new) }
+    ensures fault { IfErr result (IsAtFault (field 1 end_rule gives) reader.old) }
     ensures bytes { reader.new.bytes ≡ reader.old.bytes }
 {
     let bit = reader.place();
@@ -50,9 +49,9 @@ pub(crate) fn read_end(reader: &mut BitReader) -> Result<(), FrameFault>
 
 /// The number of a channel's table, behind `count` different numbers.
 pub(crate) fn read_map_number(reader: &mut BitReader, count: u32) -> Result<u32, FrameFault>
-    ensures read { IfOk result (λ e. Gave (field (bits_behind count) (number_rule count) gives) reader.old e reader.new) }
+    ensures read { IfOk result (λ e. HasRead (field (bits_behind count) (number_rule count) gives) reader.old e reader.new) }
     ensures most { IfOk result (λ e. e < 8) }
-    ensures fault { IfErr result (Failed (field (bits_behind count) (number_rule count) gives) reader.old) }
+    ensures fault { IfErr result (IsAtFault (field (bits_behind count) (number_rule count) gives) reader.old) }
     ensures bytes { reader.new.bytes ≡ reader.old.bytes }
 {
     let bit = reader.place();
@@ -86,10 +85,10 @@ pub(crate) fn map_bits(count: u32) -> u32
 
 /// Passes the six bits of a plain frame that are 0.
 pub(crate) fn read_stuffing(reader: &mut BitReader) -> Result<(), FrameFault>
-    ensures read { IfOk result (λ _. Gave (field 6 stuffing_rule gives) reader.old 0 reader.new) }
+    ensures read { IfOk result (λ _. HasRead (field 6 stuffing_rule gives) reader.old 0 reader.new) }
     ensures zeros { IfOk result (λ _. left reader.old ≡ replicate 6 0 ++ left reader.new) }
     ensures place { IfOk result (λ _. reader.new.place ≡ reader.old.place + 6) }
-    ensures fault { IfErr result (Failed (field 6 stuffing_rule gives) reader.old) }
+    ensures fault { IfErr result (IsAtFault (field 6 stuffing_rule gives) reader.old) }
     ensures bytes { reader.new.bytes ≡ reader.old.bytes }
 {
     let bit = reader.place();

@@ -41,7 +41,7 @@ impl Front {
             count: 4,
         };
         front.put_maps(params.filter_map.elements(), params.prob_map.elements());
-        front.put_half_bits(params.half.as_slice());
+        front.put_half_bits(params.half_prob.as_slice());
         front
     }
 
@@ -64,7 +64,7 @@ impl Front {
         writer.put((self.number % (1 << low)) as u32, low);
     }
 
-    // Adds the maps, told at once where they are equal.
+    // Adds the maps, given at once where they are equal.
     fn put_maps(&mut self, filter_map: &[u8], prob_map: &[u8])
         requires filter_map { IsChannelMap filter_map.now }
         requires prob_map { IsChannelMap prob_map.now }
@@ -82,7 +82,7 @@ impl Front {
         }
     }
 
-    // Adds a map, told at once where it gives every channel element 0.
+    // Adds a map, given at once where it gives every channel element 0.
     fn put_map(&mut self, elements: &[u8])
         requires map { IsChannelMap elements.now }
         requires room { length self.old + 16 ≤ 60 }
@@ -113,12 +113,12 @@ impl Front {
     }
 
     // Adds the half bit of each channel.
-    fn put_half_bits(&mut self, half: &[bool])
-        requires few { length half.now ≤ 6 }
+    fn put_half_bits(&mut self, half_prob: &[bool])
+        requires few { length half_prob.now ≤ 6 }
         requires room { length self.old + 6 ≤ 60 }
-        ensures { self.new ≡ self.old ++ map bit_of half.now }
+        ensures { self.new ≡ self.old ++ map bit_of half_prob.now }
     {
-        for bit in half {
+        for bit in half_prob {
             self.put(u32::from(*bit), 1);
         }
     }

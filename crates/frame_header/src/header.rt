@@ -4,8 +4,7 @@ ghost use Rattle.dst_spec.specs.Bits.{bits};
 ghost use Rattle.dst_spec.specs.Header.{IsParams, HasHeader};
 ghost use Rattle.dst_spec.specs.Fields.{read};
 ghost use Rattle.dst_spec.specs.Offends.{header_fields};
-ghost use Rattle.bit_io.specs.Reading.{left};
-ghost use Rattle.frame_header.specs.Steps.{Gave, Failed};
+ghost use Rattle.bit_io.specs.Reading.{left, HasRead, IsAtFault};
 
 use crate::maps::read_both_maps;
 use crate::segments::read_both_segments;
@@ -14,7 +13,7 @@ use bit_io::BitReader;
 use dst_num::{Channels, FrameFault, Params};
 use table_code::{Filters, Probs};
 
-/// What a coded frame tells in front of its arithmetic code.
+/// What a coded frame has in front of its arithmetic code.
 #[derive(Drop, Debug)]
 pub struct Header {
     pub params: Params,
@@ -48,14 +47,14 @@ fn read_params(reader: &mut BitReader, channels: usize) -> Result<Params, FrameF
     requires least { 1 ≤ channels }
     requires most { channels ≤ 6 }
     requires few { length (left reader.old) ≤ 2000000 }
-    ensures read { IfOk result (λ params. Gave (header_fields channels) reader.old params reader.new) }
-    ensures fault { IfErr result (Failed (header_fields channels) reader.old) }
+    ensures read { IfOk result (λ params. HasRead (header_fields channels) reader.old params reader.new) }
+    ensures fault { IfErr result (IsAtFault (header_fields channels) reader.old) }
     ensures bytes { reader.new.bytes ≡ reader.old.bytes }
 {
     read_both_segments(reader, channels)?;
     let (filter_map, prob_map) = read_both_maps(reader, channels)?;
-    let half = read_half_bits(reader, channels)?;
+    let half_prob = read_half_bits(reader, channels)?;
     let filters = read_tables::<Filters>(reader, filter_map.count())?;
     let probs = read_tables::<Probs>(reader, prob_map.count())?;
-    Ok(Params::new(filter_map, prob_map, half, filters, probs).unwrap())
+    Ok(Params::new(filter_map, prob_map, half_prob, filters, probs).unwrap())
 }

@@ -1,22 +1,23 @@
 // Maps of channels to their tables.
 ghost use Rattle.std.specs.Prelude.{◌≡◌, ◌≤◌, replicate, IfOk, IfErr};
 ghost use Rattle.dst_spec.specs.Offends.{map_fields, both_maps};
-ghost use Rattle.frame_header.specs.Steps.{Gave, Failed, element_fields};
+ghost use Rattle.frame_header.specs.Steps.{element_fields};
+ghost use Rattle.bit_io.specs.Reading.{HasRead, IsAtFault};
 
 use crate::fields::{read_map_number, read_number};
 use arrayvec::ArrayVec;
 use bit_io::BitReader;
 use dst_num::{FrameFault, Map};
 
-/// The map of filters and that of probability tables, which may be told at once.
+/// The map of filters and that of probability tables, which may be given at once.
 pub(crate) fn read_both_maps(
     reader: &mut BitReader,
     channels: usize,
 ) -> Result<(Map, Map), FrameFault>
     requires least { 1 ≤ channels }
     requires most { channels ≤ 6 }
-    ensures read { IfOk result (λ maps. Gave (both_maps channels) reader.old (maps.0, maps.1) reader.new) }
-    ensures fault { IfErr result (Failed (both_maps channels) reader.old) }
+    ensures read { IfOk result (λ maps. HasRead (both_maps channels) reader.old (maps.0, maps.1) reader.new) }
+    ensures fault { IfErr result (IsAtFault (both_maps channels) reader.old) }
     ensures bytes { reader.new.bytes ≡ reader.old.bytes }
 {
     let same = read_number(reader, 1)?;
@@ -29,12 +30,12 @@ pub(crate) fn read_both_maps(
     Ok((filter_map, prob_map))
 }
 
-// One map, which is told for all channels at once or for each one.
+// One map, which is given for all channels at once or for each one.
 fn read_map(reader: &mut BitReader, channels: usize) -> Result<Map, FrameFault>
     requires least { 1 ≤ channels }
     requires most { channels ≤ 6 }
-    ensures read { IfOk result (λ map. Gave (map_fields channels) reader.old map reader.new) }
-    ensures fault { IfErr result (Failed (map_fields channels) reader.old) }
+    ensures read { IfOk result (λ map. HasRead (map_fields channels) reader.old map reader.new) }
+    ensures fault { IfErr result (IsAtFault (map_fields channels) reader.old) }
     ensures bytes { reader.new.bytes ≡ reader.old.bytes }
 {
     let elements = read_elements(reader, channels)?;
@@ -64,8 +65,8 @@ fn zeros(channels: usize) -> ArrayVec<u8, 6>
 fn read_elements(reader: &mut BitReader, channels: usize) -> Result<ArrayVec<u8, 6>, FrameFault>
     requires least { 1 ≤ channels }
     requires most { channels ≤ 6 }
-    ensures read { IfOk result (λ elements. Gave (map_fields channels) reader.old elements.items reader.new) }
-    ensures fault { IfErr result (Failed (map_fields channels) reader.old) }
+    ensures read { IfOk result (λ elements. HasRead (map_fields channels) reader.old elements.items reader.new) }
+    ensures fault { IfErr result (IsAtFault (map_fields channels) reader.old) }
     ensures bytes { reader.new.bytes ≡ reader.old.bytes }
 {
     let same = read_number(reader, 1)?;
@@ -80,8 +81,8 @@ fn read_elements(reader: &mut BitReader, channels: usize) -> Result<ArrayVec<u8,
 fn read_numbers(reader: &mut BitReader, channels: usize) -> Result<ArrayVec<u8, 6>, FrameFault>
     requires least { 1 ≤ channels }
     requires most { channels ≤ 6 }
-    ensures read { IfOk result (λ elements. Gave (element_fields channels) reader.old elements.items reader.new) }
-    ensures fault { IfErr result (Failed (element_fields channels) reader.old) }
+    ensures read { IfOk result (λ elements. HasRead (element_fields channels) reader.old elements.items reader.new) }
+    ensures fault { IfErr result (IsAtFault (element_fields channels) reader.old) }
     ensures bytes { reader.new.bytes ≡ reader.old.bytes }
 {
     let mut elements = ArrayVec::new();

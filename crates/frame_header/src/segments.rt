@@ -2,16 +2,16 @@
 ghost use Rattle.std.specs.Prelude.{◌≡◌, IfOk, IfErr};
 ghost use Rattle.dst_spec.specs.Fields.{gives, field};
 ghost use Rattle.dst_spec.specs.Offends.{times, end_rule, segment_fields, both_segments};
-ghost use Rattle.frame_header.specs.Steps.{Passed, Failed};
+ghost use Rattle.bit_io.specs.Reading.{HasPassed, IsAtFault};
 
 use crate::fields::{read_end, read_number};
 use bit_io::BitReader;
 use dst_num::FrameFault;
 
-/// Passes the segmentation of filters and that of probabilities, which may be told at once.
+/// Passes the segmentation of filters and that of probabilities, which may be given at once.
 pub(crate) fn read_both_segments(reader: &mut BitReader, channels: usize) -> Result<(), FrameFault>
-    ensures read { IfOk result (λ _. Passed (both_segments channels) reader.old reader.new) }
-    ensures fault { IfErr result (Failed (both_segments channels) reader.old) }
+    ensures read { IfOk result (λ _. HasPassed (both_segments channels) reader.old reader.new) }
+    ensures fault { IfErr result (IsAtFault (both_segments channels) reader.old) }
     ensures bytes { reader.new.bytes ≡ reader.old.bytes }
 {
     let same = read_number(reader, 1)?;
@@ -22,10 +22,10 @@ pub(crate) fn read_both_segments(reader: &mut BitReader, channels: usize) -> Res
     Ok(())
 }
 
-// Passes one segmentation, which is told for all channels at once or for each one.
+// Passes one segmentation, which is given for all channels at once or for each one.
 fn read_segments(reader: &mut BitReader, channels: usize) -> Result<(), FrameFault>
-    ensures read { IfOk result (λ _. Passed (segment_fields channels) reader.old reader.new) }
-    ensures fault { IfErr result (Failed (segment_fields channels) reader.old) }
+    ensures read { IfOk result (λ _. HasPassed (segment_fields channels) reader.old reader.new) }
+    ensures fault { IfErr result (IsAtFault (segment_fields channels) reader.old) }
     ensures bytes { reader.new.bytes ≡ reader.old.bytes }
 {
     let same = read_number(reader, 1)?;
@@ -35,8 +35,8 @@ fn read_segments(reader: &mut BitReader, channels: usize) -> Result<(), FrameFau
 
 // Passes so many end bits.
 fn read_ends(reader: &mut BitReader, count: usize) -> Result<(), FrameFault>
-    ensures read { IfOk result (λ _. Passed (times count (field 1 end_rule gives)) reader.old reader.new) }
-    ensures fault { IfErr result (Failed (times count (field 1 end_rule gives)) reader.old) }
+    ensures read { IfOk result (λ _. HasPassed (times count (field 1 end_rule gives)) reader.old reader.new) }
+    ensures fault { IfErr result (IsAtFault (times count (field 1 end_rule gives)) reader.old) }
     ensures bytes { reader.new.bytes ≡ reader.old.bytes }
 {
     for passed in 0..count {

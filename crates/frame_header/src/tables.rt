@@ -3,8 +3,7 @@ ghost use Rattle.std.specs.Prelude.{◌≡◌, ◌≤◌, length, map, IfOk, IfE
 ghost use Rattle.dst_spec.specs.Header.{bit_of};
 ghost use Rattle.dst_spec.specs.Fields.{number};
 ghost use Rattle.dst_spec.specs.Offends.{times, table_fields};
-ghost use Rattle.bit_io.specs.Reading.{left};
-ghost use Rattle.frame_header.specs.Steps.{Gave, Failed};
+ghost use Rattle.bit_io.specs.Reading.{left, HasRead, IsAtFault};
 
 use crate::fields::read_number;
 use arrayvec::ArrayVec;
@@ -18,16 +17,16 @@ pub(crate) fn read_half_bits(
     channels: usize,
 ) -> Result<ArrayVec<bool, 6>, FrameFault>
     requires { channels ≤ 6 }
-    ensures read { IfOk result (λ half. Gave (times channels (number 1)) reader.old (map bit_of half.items) reader.new) }
-    ensures fault { IfErr result (Failed (times channels (number 1)) reader.old) }
+    ensures read { IfOk result (λ half_prob. HasRead (times channels (number 1)) reader.old (map bit_of half_prob.items) reader.new) }
+    ensures fault { IfErr result (IsAtFault (times channels (number 1)) reader.old) }
     ensures bytes { reader.new.bytes ≡ reader.old.bytes }
 {
-    let mut half = ArrayVec::new();
+    let mut half_prob = ArrayVec::new();
     for channel in 0..channels {
         let bit = read_number(reader, 1)?;
-        half.push(bit == 1);
+        half_prob.push(bit == 1);
     }
-    Ok(half)
+    Ok(half_prob)
 }
 
 /// So many tables, at most 6.
@@ -39,8 +38,8 @@ where
     K::Table: Default + Drop,
     requires most { count ≤ 6 }
     requires few { length (left reader.old) ≤ 2000000 }
-    ensures read { IfOk result (λ tables. Gave (times count (table_fields K.kind)) reader.old (map K.values tables.items) reader.new) }
-    ensures fault { IfErr result (Failed (times count (table_fields K.kind)) reader.old) }
+    ensures read { IfOk result (λ tables. HasRead (times count (table_fields K.kind)) reader.old (map K.values tables.items) reader.new) }
+    ensures fault { IfErr result (IsAtFault (times count (table_fields K.kind)) reader.old) }
     ensures bytes { reader.new.bytes ≡ reader.old.bytes }
 {
     let mut tables = ArrayVec::new();

@@ -14,9 +14,9 @@ fn headers_end_where_their_code_begins(rt: HostRuntime) -> Result<(), Fail> {
         (&COEFFICIENT_0, 45, &[0], &[128, 128]),
         // a table of one probability
         (&[0xfc, 0x00, 0x00, 0x00], 30, &[0], &[128]),
-        // two segmentations, each told at once
+        // two segmentations, each given at once
         (&[0xbf, 0x00, 0x00, 0x01, 0x7f, 0xfe], 47, &[0], &[128, 128]),
-        // two segmentations and two maps, each told for the channel; the code is past the end
+        // two segmentations and two maps, each given for the channel; the code is past the end
         (&[0x94, 0x00, 0x00, 0x00, 0xbf, 0xff], 48, &[0], &[128, 128]),
         // three coefficients by method 2, which leave no residual
         (
@@ -34,7 +34,7 @@ fn headers_end_where_their_code_begins(rt: HostRuntime) -> Result<(), Fail> {
                 assert_eq!(rt; code.bytes, frame);
                 assert_eq!(rt; params.filter_map.elements(), [0].as_slice());
                 assert_eq!(rt; params.prob_map.elements(), [0].as_slice());
-                assert_eq!(rt; params.half.as_slice(), [false].as_slice());
+                assert_eq!(rt; params.half_prob.as_slice(), [false].as_slice());
                 assert_eq!(rt; params.filters.as_slice().len(), 1);
                 assert_eq!(rt; params.probs.as_slice().len(), 1);
                 for filter in params.filters.as_slice() {
@@ -80,7 +80,7 @@ fn the_first_field_at_fault_is_told(rt: HostRuntime) -> Result<(), Fail> {
     ];
     for (count, frame, reason, bit) in cases {
         let channels = Channels::new(count).ok_or("channels")?;
-        let _bytes = channels.frame_bytes();
+        let _bytes = channels.sound_bytes();
         assert!(rt; frame.len() <= 6);
         match view_frame(frame, channels) {
             Ok(_) => assert!(rt; false, "{frame:?} has no fault"),

@@ -6,8 +6,9 @@ ghost use Rattle.dst_spec.specs.Header.{IsParams, HasHeader};
 ghost use Rattle.dst_spec.specs.Means.{IsPlain};
 ghost use Rattle.dst_spec.specs.Offends.{Offends, plain_frame_fields};
 ghost use Rattle.dst_spec.specs.Reasons.{reason_number};
-ghost use Rattle.frame_header.specs.Steps.{IsRead, Failed};
+ghost use Rattle.frame_header.specs.Steps.{IsReadable};
 ghost use Rattle.frame_header.specs.View.{IfPlain, IfCoded, OffendsNowhere, first_bit_fault, range_fault};
+ghost use Rattle.bit_io.specs.Reading.{IsAtFault};
 
 use crate::fields::{read_number, read_stuffing};
 use crate::header::read_header;
@@ -61,13 +62,13 @@ fn lend_sound<'a>(
     requires place { reader.old.place ≡ 1 }
     requires plain { get_or (bits frame.now) 0 0 ≡ 0 }
     ensures plain { IfOk result (λ sound. IsPlain channels frame.now sound.now) }
-    ensures whole { IfOk result (λ _. IsRead (plain_frame_fields channels) reader.old) }
-    ensures fault { IfErr result (Failed (plain_frame_fields channels) reader.old) }
+    ensures whole { IfOk result (λ _. IsReadable (plain_frame_fields channels) reader.old) }
+    ensures fault { IfErr result (IsAtFault (plain_frame_fields channels) reader.old) }
 {
     let reserved = read_number(reader, 1)?;
     read_stuffing(reader)?;
     let bit = reader.place();
-    let bytes = channels.frame_bytes();
+    let bytes = channels.sound_bytes();
     if frame.len() < 1 + bytes {
         return Err(FrameFault {
             reason: Reason::Truncated,
@@ -81,5 +82,5 @@ fn lend_sound<'a>(
 fn check_bits(channels: Channels)
     ensures { 8 * (2 * (sound_bytes channels + 1)) ≤ 2000000 }
 {
-    let _ = channels.frame_bytes();
+    let _ = channels.sound_bytes();
 }

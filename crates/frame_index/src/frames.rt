@@ -169,5 +169,5 @@ pub(crate) fn longest_frame(form: &Form) -> u64
     ensures longest { result ≡ longest_frame (form_seen form.now) }
     ensures fits { result < 2 ^ 32 }
 {
-    2 * (form.channels.frame_bytes() as u64 + 1)
+    2 * (form.channels.sound_bytes() as u64 + 1)
 }

@@ -1,22 +1,16 @@
 -- Lists appended one after the other, and the room that is left.
 use Rattle.std.proofs.Common.{◌≡◌, true, false, ℕ, zero, suc, ◌+◌, ◌-◌, ◌<◌, ◌≤◌, List, [], ◌∷◌, ◌++◌, length, get_or, take, refl, ap, sym, ◌∙◌, arith, append_assoc, append-nil, length-append, ℤ, ◌+ℤ◌}
-use Rattle.std.proofs.lemmas.Grind.{flat_map-append}
-use Rattle.std.proofs.lemmas.List.{take_more}
 use Rattle.std.proofs.lemmas.List.Folds.{length-flat_map-take}
 use Rattle.std.specs.List.{flat_map}
 use Rattle.dst_spec.specs.Bits.{low_bits}
 use Rattle.dst_spec.specs.Rice.{rice}
 use Rattle.dst_spec.specs.Table.{Kind, Spelling, is_alone, plain_value, plain_values, eighth, later_values, body, table_bits}
 use Rattle.table_code.specs.Choices.{residuals}
+use Rattle.dst_spec.proofs.Lists.{flat_map-next}
 
 -- one part behind another
 pub joined : (a b c u v : List ℕ) → b ≡ a ++ u → c ≡ b ++ v → c ≡ a ++ (u ++ v)
 joined a b c u v e f = f ∙ ap (λ xs. xs ++ v) e ∙ append_assoc a u v
-
--- the part of one element more
-pub flat_map-next : {X : Type 0} (f : X → List ℕ) (xs : List X) (i : ℕ) (d : X) → i < length xs → flat_map f (take (i + 1) xs) ≡ flat_map f (take i xs) ++ f (get_or xs i d)
-flat_map-next f xs i d h =
-    ap (flat_map f) (take_more xs i d h) ∙ flat_map-append f (take i xs) (get_or xs i d ∷ []) ∙ ap (λ zs. flat_map f (take i xs) ++ zs) (append-nil (f (get_or xs i d)))
 
 pub next_bits : {X : Type 0} (f : X → List ℕ) (xs : List X) (i : ℕ) (d : X) (a b c : List ℕ) → i < length xs → b ≡ a ++ flat_map f (take i xs) → c ≡ b ++ f (get_or xs i d) → c ≡ a ++ flat_map f (take (i + 1) xs)
 next_bits f xs i d a b c h e g = joined a b c (flat_map f (take i xs)) (f (get_or xs i d)) e g ∙ ap (λ zs. a ++ zs) (sym (flat_map-next f xs i d h))

@@ -6,7 +6,7 @@ use Rattle.std.proofs.lemmas.List.Sums.{fold_push, fold-append}
 use Rattle.std.specs.List.{AllByRecursion, fold, range_with_len}
 use Rattle.dst_spec.specs.Table.{Kind, is_alone, Spelling, plain, coded, Suits, table_bits}
 use Rattle.dst_spec.specs.Spell.{coded_spellings, suits, shortest}
-use Rattle.dst_spec.proofs.Each.{all_map, all_flat_map, all_range}
+use Rattle.dst_spec.proofs.Lists.{all_map, all_flat_map, all_range}
 use Rattle.table_code.specs.declared.spelling.Spelling.{Spelling as Chosen}
 use Rattle.table_code.specs.declared.spelling.Spelling.TheVariants.{Coded}
 use Rattle.table_code.specs.Spellings.{spelled}
@@ -27,8 +27,8 @@ chosen K vs best r method m n together h k enough choice long e = go (nat_lt n b
         let taken = sym (ap₂ nat_lt long choice.long) ∙ test in
         (rw is (record { suited = suited; long = long }), rw (is, suits_coded K vs method m together enough, taken) refl)
     go false test is =
-        let kept = sym (ap₂ nat_lt long choice.long) ∙ test in
-        (rw is choice, rw (is, suits_coded K vs method m together enough, kept) refl)
+        let stays = sym (ap₂ nat_lt long choice.long) ∙ test in
+        (rw is choice, rw (is, suits_coded K vs method m together enough, stays) refl)
 
 pub of_method-more : (K : Kind) (vs : List ℤ) (method m : ℕ) (best s : Spelling) → s ≡ fold (shorter K vs) best (of_method method m) →
     shorter K vs s (coded method m) ≡ fold (shorter K vs) best (of_method method (m + 1))
@@ -41,8 +41,8 @@ of_method-more K vs method m best s e =
 none_suits : (K : Kind) (vs : List ℤ) (best : Spelling) (list : List Spelling) → AllByRecursion (λ s. suits K vs s ≡ false) list → fold (shorter K vs) best list ≡ best
 none_suits K vs best [] h = refl
 none_suits K vs best (s ∷ list) h =
-    let kept : shorter K vs best s ≡ best = rw h.0 refl in
-    ap (λ b. fold (shorter K vs) b list) kept ∙ none_suits K vs best list h.1
+    let stays : shorter K vs best s ≡ best = rw h.0 refl in
+    ap (λ b. fold (shorter K vs) b list) stays ∙ none_suits K vs best list h.1
 
 too_short : (K : Kind) (vs : List ℤ) (method m : ℕ) → length vs ≤ method → suits K vs (coded method m) ≡ false
 too_short K vs method m h = go (is_alone K (length vs))

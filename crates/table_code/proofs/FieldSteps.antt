@@ -6,8 +6,8 @@ use Rattle.dst_spec.specs.Fields.{Fields, gives, field, residual, any, number, r
 use Rattle.dst_spec.specs.declared.faults.FrameFault.{FrameFault}
 use Rattle.dst_spec.specs.declared.faults.Reason.{Reason}
 use Rattle.dst_spec.specs.declared.faults.Reason.TheVariants.{Truncated, MethodReserved, TableTooShort}
-use Rattle.dst_spec.proofs.Reading.{kept}
-use Rattle.dst_spec.proofs.Taking.{was_kept}
+use Rattle.dst_spec.proofs.Reading.{field_met}
+use Rattle.dst_spec.proofs.Taking.{was_met}
 
 was_cut : {A : Type 0} (b : Bool) (o : Option Reason) (t : FrameFault) (place : ℕ) (r : Result (A × List ℕ × ℕ) FrameFault) → b ≡ true →
     ◌≡◌ {A = Result (A × List ℕ × ℕ) FrameFault} (elim b [ true ↦ Err t | false ↦ elim o [ Some reason ↦ Err (record { reason = reason; bit = place }) | None ↦ r ] ]) (Err t)
@@ -27,7 +27,7 @@ pub field_passed : {A : Type 0} (n : ℕ) (rule : ℕ → Option Reason) (next :
 unfolding read
 field_passed n rule next xs p x enough value keeps =
     let v = number_from xs 0 n in
-    kept (nat_lt (length xs) n) (rule v) (record { reason = Truncated; bit = p }) p (read (next v) (drop n xs) (p + n)) (le-ltb (length xs) n enough) (ap rule (sym value) ∙ keeps)
+    field_met (nat_lt (length xs) n) (rule v) (record { reason = Truncated; bit = p }) p (read (next v) (drop n xs) (p + n)) (le-ltb (length xs) n enough) (ap rule (sym value) ∙ keeps)
     ∙ ap (λ y. read (next y) (drop n xs) (p + n)) (sym value)
 
 pub field_cut : {A : Type 0} (n : ℕ) (rule : ℕ → Option Reason) (next : ℕ → Fields A) (xs : List ℕ) (p : ℕ) → length xs < n →
@@ -50,7 +50,7 @@ unfolding read
 residual_passed m rule next xs p x enough value keeps =
     let n = residual_length m xs in
     let v = residual_value m xs in
-    kept (nat_lt (length xs) n) (rule v) (record { reason = Truncated; bit = p }) p (read (next v) (drop n xs) (p + n)) (le-ltb (length xs) n enough) (ap rule (sym value) ∙ keeps)
+    field_met (nat_lt (length xs) n) (rule v) (record { reason = Truncated; bit = p }) p (read (next v) (drop n xs) (p + n)) (le-ltb (length xs) n enough) (ap rule (sym value) ∙ keeps)
     ∙ ap (λ y. read (next y) (drop n xs) (p + n)) (sym value)
 
 pub residual_cut : {A : Type 0} (m : ℕ) (rule : ℤ → Option Reason) (next : ℤ → Fields A) (xs : List ℕ) (p : ℕ) → length xs < residual_length m xs →
@@ -79,9 +79,9 @@ pub as_field : {A : Type 0} (n : ℕ) (rule : ℕ → Option Reason) (next : ℕ
 unfolding read
 as_field n rule next xs ys p q x e keeps =
     let v = number_from xs 0 n in
-    let k = was_kept (nat_lt (length xs) n) None (record { reason = Truncated; bit = p }) p (Ok (v, drop n xs, p + n)) (x, ys, q) e in
+    let k = was_met (nat_lt (length xs) n) None (record { reason = Truncated; bit = p }) p (Ok (v, drop n xs, p + n)) (x, ys, q) e in
     let same : ◌≡◌ {A = ℕ × List ℕ × ℕ} (v, drop n xs, p + n) (x, ys, q) = cc (k.2) in
-    kept (nat_lt (length xs) n) (rule v) (record { reason = Truncated; bit = p }) p (read (next v) (drop n xs) (p + n)) k.0 (ap (λ r. rule r.0) same ∙ keeps)
+    field_met (nat_lt (length xs) n) (rule v) (record { reason = Truncated; bit = p }) p (read (next v) (drop n xs) (p + n)) k.0 (ap (λ r. rule r.0) same ∙ keeps)
     ∙ ap (λ (r : ℕ × List ℕ × ℕ). read (next r.0) r.1 r.2) same
 
 pub as_broken_field : {A : Type 0} (n : ℕ) (rule : ℕ → Option Reason) (next : ℕ → Fields A) (xs ys : List ℕ) (p q x : ℕ) (reason : Reason) → read (number n) xs p ≡ Ok (x, ys, q) → rule x ≡ Some reason →
@@ -89,7 +89,7 @@ pub as_broken_field : {A : Type 0} (n : ℕ) (rule : ℕ → Option Reason) (nex
 unfolding read
 as_broken_field n rule next xs ys p q x reason e breaks =
     let v = number_from xs 0 n in
-    let k = was_kept (nat_lt (length xs) n) None (record { reason = Truncated; bit = p }) p (Ok (v, drop n xs, p + n)) (x, ys, q) e in
+    let k = was_met (nat_lt (length xs) n) None (record { reason = Truncated; bit = p }) p (Ok (v, drop n xs, p + n)) (x, ys, q) e in
     let same : ◌≡◌ {A = ℕ × List ℕ × ℕ} (v, drop n xs, p + n) (x, ys, q) = cc (k.2) in
     was_broken (nat_lt (length xs) n) (rule v) (record { reason = Truncated; bit = p }) p (read (next v) (drop n xs) (p + n)) reason k.0 (ap (λ r. rule r.0) same ∙ breaks)
 
@@ -114,7 +114,3 @@ method_reserved count method e = rw e refl
 
 pub method_short : (count method : ℕ) → (method ≡ 3 → ⊥) → count < method + 1 → method_rule count method ≡ Some TableTooShort
 method_short count method h k = rw (ne_eqb method 3 h, lt-ltb count (method + 1) k) refl
-
-pub read-gives : {A : Type 0} (x : A) (xs : List ℕ) (p : ℕ) → read (gives x) xs p ≡ Ok (x, xs, p)
-unfolding read
-read-gives x xs p = refl

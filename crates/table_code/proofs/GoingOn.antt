@@ -8,8 +8,9 @@ use Rattle.dst_spec.specs.declared.faults.FrameFault.{FrameFault}
 use Rattle.dst_spec.specs.declared.faults.Reason.{Reason}
 use Rattle.dst_spec.specs.declared.faults.Reason.TheVariants.{Truncated}
 use Rattle.dst_spec.proofs.Reading.{onward, read-bind}
-use Rattle.table_code.proofs.FieldSteps.{residual_passed, residual_cut, residual_broken, read-gives}
+use Rattle.table_code.proofs.FieldSteps.{residual_passed, residual_cut, residual_broken}
 use Rattle.table_code.specs.Parts.{later_field, plain_rest, later_rest}
+use Rattle.dst_spec.proofs.Meaning.{read-gives}
 
 pub read-then : {A B : Type 0} (m : Fields A) (f : A → Fields B) (xs ys : List ℕ) (p q : ℕ) (x : A) → read m xs p ≡ Ok (x, ys, q) → read (m >>= f) xs p ≡ read (f x) ys q
 read-then m f xs ys p q x e = read-bind m f xs p ∙ ap (onward f) e

@@ -1,4 +1,4 @@
--- The value that a plain number tells.
+-- The value that a plain number spells.
 use Rattle.std.proofs.Common.{◌≡◌, ℕ, ◌-◌, ◌^◌, ◌<◌, ◌≤◌, nat_lt, Bool, true, false, ℤ, pos, negsuc, ◌+ℤ◌, ◌-ℤ◌, ◌≤ℤ◌, ◌<ℤ◌, refl, ap, sym, ◌∙◌, arith, le-ltb, lt-ltb, ltb-true, ltb-false}
 use Rattle.std.proofs.lemmas.Int.{ints}
 use mir.Val.{SFits, to_z, of_z}
@@ -31,7 +31,7 @@ value_from_least K x h = rw (not_negative K.least h) refl
 pub few_numbers : (K : Kind) → IsSmall K → 2 ^ K.value_bits ≤ 512
 few_numbers K s = pow_mono s.most_value
 
--- the number that tells a value
+-- the number that spells a value
 pub record IsNumber (K : Kind) (v : ℤ) (x : ℕ) : Type 0 where
   pub below : x < 2 ^ K.value_bits
   pub spelled : low_bits K.value_bits x ≡ plain_value K v
@@ -73,7 +73,7 @@ number_high K v law h least some = go (number_of K v law h)
             let is : pos p.0 -ℤ pos (2 ^ K.value_bits) ≡ v = sym (value_high K p.0 least (ltb-false p.0 (2 ^ (K.value_bits - 1)) e)) ∙ p.2 in
             omega (arith, ints)
 
--- the same in words of 32 bits
+-- the same in 32 bits
 pub moved_up : (v : ℤ) (n x : ℕ) → SFits w32 v → n ≤ 512 → x < n → v +ℤ pos n ≡ pos x → to_z w32 (of_z w32 (to_z w32 (of_z w32 v) +ℤ to_z w32 n)) ≡ pos x
 moved_up v n x fits few below e = omega (arith, ints)
 

@@ -6,11 +6,7 @@ use lib.Count.{count_leading_zeros}
 use Rattle.dst_spec.specs.Bits.{number_from, AreBits}
 use Rattle.dst_spec.specs.Fields.{zero_run}
 use Rattle.dst_spec.proofs.Numbers.{number_from-cons, number_from-past, number_from-below}
-
-pub AreBits-drop : (n : ℕ) (xs : List ℕ) → AreBits xs → AreBits (drop n xs)
-AreBits-drop zero xs h = h
-AreBits-drop (suc n) [] h = h
-AreBits-drop (suc n) (x ∷ xs) h = AreBits-drop n xs h.1
+use Rattle.dst_spec.proofs.Lists.{AreBits-drop}
 
 -- bits whose number is 0 are all 0
 pub run_past_zeros : (xs : List ℕ) (n : ℕ) → number_from xs 0 n ≡ 0 → zero_run xs ≡ min n (length xs) + zero_run (drop n xs)
@@ -47,15 +43,15 @@ run_by_top (suc zero ∷ xs) (suc n) (suc z) j bits e h k =
 run_by_top (suc (suc x) ∷ xs) n z j bits e h k = absurd (omega (arith, bits.0))
 
 -- 32 bits behind those that are passed have a one: its place
-pub one_found : (xs ys : List ℕ) (passed word : ℕ) → AreBits xs → ys ≡ drop passed xs → zero_run xs ≡ min passed (length xs) + zero_run ys →
-    word ≡ number_from ys 0 32 → word ≢ 0 → word < 2 ^ 32 →
-    (passed + count_leading_zeros 32 word ≡ zero_run xs) × (passed + count_leading_zeros 32 word < length xs)
-one_found xs ys passed word bits behind run value some fits =
-    let top = leading_top 32 word (omega arith) fits in
+pub one_found : (xs ys : List ℕ) (passed window : ℕ) → AreBits xs → ys ≡ drop passed xs → zero_run xs ≡ min passed (length xs) + zero_run ys →
+    window ≡ number_from ys 0 32 → window ≢ 0 → window < 2 ^ 32 →
+    (passed + count_leading_zeros 32 window ≡ zero_run xs) × (passed + count_leading_zeros 32 window < length xs)
+one_found xs ys passed window bits behind run value some fits =
+    let top = leading_top 32 window (omega arith) fits in
     let each : AreBits ys = subst AreBits (sym behind) (AreBits-drop passed xs bits) in
     let low : 2 ^ top.0 ≤ number_from ys 0 32 = omega (arith, top.2) in
     let high : number_from ys 0 32 < 2 ^ suc top.0 = omega (arith, top.3) in
-    let p = run_by_top ys 32 (count_leading_zeros 32 word) top.0 each top.1 low high in
+    let p = run_by_top ys 32 (count_leading_zeros 32 window) top.0 each top.1 low high in
     let long : length ys ≡ length xs - passed = ap length behind ∙ length-drop passed xs in
     (omega (arith, p.0, p.1), omega (arith, p.1))
 

@@ -1,19 +1,18 @@
 -- What is read as a table spells it, for each kind by its laws.
-use Rattle.std.proofs.Common.{◌≡◌, ℕ, ◌+◌, ◌-◌, ◌^◌, ◌<◌, Bool, true, false, cond, nat_lt, List, [], ◌∷◌, ◌++◌, length, refl, ap, sym, ◌∙◌, arith, append-nil, ℤ, pos, negsuc, ◌+ℤ◌, ◌-ℤ◌, ◌≤ℤ◌, nat_abs, Ok, if◌then◌else◌}
+use Rattle.std.proofs.Common.{◌≡◌, ℕ, ◌+◌, ◌-◌, ◌^◌, ◌<◌, Bool, true, false, cond, nat_lt, List, [], ◌∷◌, ◌++◌, length, refl, ap, sym, ◌∙◌, arith, append-nil, ℤ, pos, negsuc, ◌+ℤ◌, ◌-ℤ◌, nat_abs, Ok, if◌then◌else◌}
 use Rattle.std.proofs.lemmas.Int.{ints}
 use Rattle.std.proofs.lemmas.Nat.{pow_pos}
-use Rattle.std.specs.Prelude.{int_lt}
 use Rattle.std.specs.Int.{is_negative}
 use Rattle.dst_spec.specs.Bits.{low_bits, signed_bits, signed_value, AreBits}
 use Rattle.dst_spec.specs.Table.{Kind, InRange, plain_value, HasTable}
 use Rattle.dst_spec.specs.Header.{HasTables}
 use Rattle.dst_spec.specs.Fields.{gives, read}
 use Rattle.dst_spec.specs.Offends.{times, value_of, table_fields}
-use Rattle.dst_spec.proofs.Tables.{IsKind}
+use Rattle.dst_spec.proofs.Tables.{IsKind, not_below}
 use Rattle.dst_spec.proofs.TakingTables.{Takes-tables}
 use Rattle.table_code.specs.Kinds.{HasPlainValues}
-use Rattle.table_code.proofs.FieldSteps.{read-gives}
 use Rattle.table_code.proofs.GoingOn.{read-then}
+use Rattle.dst_spec.proofs.Meaning.{read-gives}
 
 signed_again : (n x : ℕ) → x < 2 ^ n → signed_bits n (signed_value n x) ≡ low_bits n x
 signed_again n x h = go (nat_lt x (2 ^ (n - 1)))
@@ -34,9 +33,6 @@ plain_value-value_of K x h = go (is_negative K.least)
     go false =
         let same : pos x +ℤ K.least -ℤ K.least ≡ pos x = omega (arith, ints) in
         ap (λ z. low_bits K.value_bits (nat_abs z)) same
-
-not_below : (a v : ℤ) → a ≤ℤ v → int_lt v a ≡ false
-not_below a v h = grind (arith, ints)
 
 pub is_kind : (K : Kind) → HasPlainValues K → IsKind K
 is_kind K law = record {

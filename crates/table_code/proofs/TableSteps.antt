@@ -1,12 +1,12 @@
 -- How reading a table goes on, step by step.
-use Rattle.std.proofs.Common.{◌≡◌, ◌≢◌, ℕ, ◌+◌, ◌-◌, ◌==◌, true, false, if◌then◌else◌, List, [], ◌∷◌, ◌++◌, length, reverse, ap, sym, ◌∙◌, ℤ, Result, Ok, Err, IfOk, IfErr, ne_eqb}
+use Rattle.std.proofs.Common.{◌≡◌, ◌≢◌, ℕ, ◌+◌, ◌-◌, ◌==◌, true, false, if◌then◌else◌, List, [], ◌∷◌, ◌++◌, length, reverse, ap, sym, ◌∙◌, ℤ, Ok, Err, ne_eqb}
 use Rattle.dst_spec.specs.Table.{Kind, is_alone}
 use Rattle.dst_spec.specs.Fields.{Fields, gives, field, ◌>>=◌, number, read}
 use Rattle.dst_spec.specs.Offends.{times, plain_fields, method_rule, later_fields, coded_fields, body_fields, table_fields}
 use Rattle.dst_spec.specs.declared.faults.FrameFault.{FrameFault}
 use Rattle.table_code.specs.Parts.{later_rest}
-use Rattle.table_code.proofs.FieldSteps.{read-gives}
 use Rattle.table_code.proofs.GoingOn.{read-then, read-stops}
+use Rattle.dst_spec.proofs.Meaning.{read-gives}
 
 -- what follows the method, the first values, and the Rice number of a coded table
 abbrev pub behind_m : Kind → ℕ → ℕ → List ℤ → ℕ → Fields (List ℤ)
@@ -78,12 +78,3 @@ pub bit_1_then : (K : Kind) (count x : ℕ) (xs ys : List ℕ) (p q : ℕ) → r
 bit_1_then K count x xs ys p q e some =
     read-then (number 1) (behind_bit K count) xs ys p q x e
     ∙ ap (λ b. read (if b then times count (plain_fields K) else coded_fields K count) ys q) (ne_eqb x 0 some)
-
--- what a call answers, told of what it is a part of
-pub ok_then : {A E : Type 0} (r : Result A E) (P Q : A → Type 0) → ((x : A) → P x → Q x) → IfOk r P → IfOk r Q
-ok_then (Ok x) P Q f h = f x h
-ok_then (Err e) P Q f h = h
-
-pub err_then : {A E : Type 0} (r : Result A E) (P Q : E → Type 0) → ((e : E) → P e → Q e) → IfErr r P → IfErr r Q
-err_then (Ok x) P Q f h = h
-err_then (Err e) P Q f h = f e h

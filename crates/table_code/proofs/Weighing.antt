@@ -8,7 +8,7 @@ use mathlib.Core.List.{reverse-cons}
 use Rattle.std.specs.Int.{int_div_euclid}
 use Rattle.std.specs.List.{AllByRecursion, sum_by}
 use Rattle.dst_spec.specs.Table.{Kind, InRange, weighted}
-use Rattle.dst_spec.proofs.Each.{all_append, get_all}
+use Rattle.dst_spec.proofs.Lists.{all_append, get_all}
 use Rattle.table_code.specs.Kinds.{IsSmall, HasWeights}
 
 -- sizes of signed numbers

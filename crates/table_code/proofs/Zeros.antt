@@ -1,15 +1,8 @@
 -- Zeros behind zeros.
-use Rattle.std.proofs.Common.{◌≡◌, ℕ, zero, suc, ◌+◌, ◌/◌, ◌%◌, ◌^◌, List, ◌++◌, replicate, refl, ap, ◌∙◌, arith, append_assoc}
+use Rattle.std.proofs.Common.{◌≡◌, ℕ, ◌+◌, List, ◌++◌, replicate, ap, ◌∙◌, append_assoc}
 use Rattle.std.proofs.lemmas.List.{replicate-append-replicate}
-use Rattle.std.proofs.Math.Nat.{zero-div}
 use Rattle.dst_spec.specs.Bits.{low_bits}
-
-pub low_bits-zero : (n : ℕ) → low_bits n 0 ≡ replicate n 0
-unfolding low_bits
-low_bits-zero zero = refl
-low_bits-zero (suc n) =
-    let top : 0 / 2 ^ n % 2 ≡ 0 = omega (arith, zero-div (2 ^ n)) in
-    rw (top, low_bits-zero n) refl
+use Rattle.dst_spec.proofs.LowBits.{low_bits-zero}
 
 pub zeros_more : (xs ys : List ℕ) (a b n : ℕ) → ys ≡ xs ++ replicate a 0 → a + b ≡ n → ys ++ low_bits b 0 ≡ xs ++ replicate n 0
 zeros_more xs ys a b n e same =

@@ -1,8 +1,8 @@
 -- The laws of both kinds of tables.
-use Rattle.std.proofs.Common.{◌≡◌, ℕ, zero, suc, pos, List, [], ◌∷◌, map, refl, ap₂, arith}
+use Rattle.std.proofs.Common.{◌≡◌, ℕ, zero, suc, ◌-◌, ◌<◌, ◌≤◌, Bool, true, false, nat_lt, cond, ℤ, pos, negsuc, ◌-ℤ◌, List, [], ◌∷◌, map, refl, ap₂, arith, ltb-true, ltb-false, lt-ltb, le-ltb}
 use Rattle.std.proofs.lemmas.Int.{ints}
-use Rattle.dst_spec.specs.Table.{filter_kind, prob_kind}
-use Rattle.dst_spec.proofs.Tables.{filters_are_kind, probs_are_kind}
+use Rattle.dst_spec.specs.Table.{filter_kind, prob_kind, InRange}
+use Rattle.dst_spec.specs.Offends.{value_of}
 use Rattle.table_code.specs.Kinds.{IsSmall, HasPlainValues, HasWeights}
 
 pub filter_small : IsSmall filter_kind
@@ -12,10 +12,33 @@ pub prob_small : IsSmall prob_kind
 prob_small = record { some_length = omega arith; most_length = omega arith; some_value = omega arith; most_value = omega arith; least = omega (arith, ints); greatest = omega (arith, ints) }
 
 pub filter_plain : HasPlainValues filter_kind
-filter_plain = (λ x h. (filters_are_kind.back x h).0, λ v h. let p = filters_are_kind.plain v h in (p.0, p.1, p.3))
+filter_plain = (λ x h. within x (nat_lt x 256) refl h, spelled)
+  where
+    within : (x : ℕ) (b : Bool) → nat_lt x 256 ≡ b → x < 512 → InRange filter_kind (cond b (pos x) (pos x -ℤ pos 512))
+    within x true e h =
+        let lt : x < 256 = omega (arith, ltb-true) in
+        (omega (arith, ints), omega (arith, ints))
+    within x false e h =
+        let le : 256 ≤ x = omega (arith, ltb-false) in
+        (omega (arith, ints), omega (arith, ints))
+
+    spelled : (v : ℤ) → InRange filter_kind v → (x : ℕ) × (x < 512) × (value_of filter_kind x ≡ v)
+    spelled (pos n) h =
+        let most : n ≤ 255 = omega (arith, ints, h.1) in
+        (n, omega arith, rw (lt-ltb n 256 (omega arith)) refl)
+    spelled (negsuc n) h =
+        let most : n ≤ 255 = omega (arith, ints, h.0) in
+        (511 - n, omega arith, rw (le-ltb (511 - n) 256 (omega arith)) (omega (arith, ints)))
 
 pub prob_plain : HasPlainValues prob_kind
-prob_plain = (λ x h. (probs_are_kind.back x h).0, λ v h. let p = probs_are_kind.plain v h in (p.0, p.1, p.3))
+prob_plain = (λ x h. (omega (arith, ints), omega (arith, ints)), spelled)
+  where
+    spelled : (v : ℤ) → InRange prob_kind v → (x : ℕ) × (x < 128) × (value_of prob_kind x ≡ v)
+    spelled (pos n) h =
+        let least : 1 ≤ n = omega (arith, ints, h.0) in
+        let most : n ≤ 128 = omega (arith, ints, h.1) in
+        (n - 1, omega arith, omega (arith, ints))
+    spelled (negsuc n) h = absurd (omega (arith, ints, h.0))
 
 pub filter_weights : HasWeights filter_kind
 filter_weights zero h = (refl, omega arith)

@@ -1,18 +1,8 @@
 -- Parts of a table as they are read one after the other.
-use Rattle.std.specs.Prelude.{◌≡◌, ℕ, ◌-◌, ℤ, ◌-ℤ◌, List, ◌++◌, length, reverse, Ok, Err}
+use Rattle.std.specs.Prelude.{ℕ, ◌-◌, ℤ, ◌-ℤ◌, List, ◌++◌, length, reverse}
 use Rattle.dst_spec.specs.Table.{Kind, eighth}
-use Rattle.dst_spec.specs.Fields.{Fields, gives, residual, ◌>>=◌, read}
+use Rattle.dst_spec.specs.Fields.{Fields, gives, residual, ◌>>=◌}
 use Rattle.dst_spec.specs.Offends.{times, plain_fields, range_rule, later_fields}
-use Rattle.dst_spec.specs.declared.faults.FrameFault.{FrameFault}
-use Rattle.bit_io.specs.Reading.{Reading, left}
-
--- fields that a reader passed, and what they gave
-abbrev pub Gives : {A : Type 0} → Fields A → Reading → Reading → A → Type 0
-Gives m old new x = read m (left old) old.place ≡ Ok (x, left new, new.place)
-
--- the first of them that is at fault
-abbrev pub Refuses : {A : Type 0} → Fields A → Reading → FrameFault → Type 0
-Refuses m old fault = read m (left old) old.place ≡ Err fault
 
 -- a value behind earlier ones, the nearest first
 abbrev pub later_field : Kind → List ℤ → ℕ → List ℤ → Fields ℤ

@@ -5,8 +5,8 @@ ghost use Rattle.dst_spec.specs.Table.{HasTable, InRange};
 ghost use Rattle.dst_spec.specs.Fields.{gives, field, number, read};
 ghost use Rattle.dst_spec.specs.Offends.{times, value_of, plain_fields, range_rule, method_rule, coded_fields, body_fields, table_fields};
 ghost use Rattle.dst_spec.specs.declared.faults.Reason.TheVariants.{CoefRange, ProbRange};
-ghost use Rattle.bit_io.specs.Reading.{left};
-ghost use Rattle.table_code.specs.Parts.{Gives, Refuses, later_field, later_rest};
+ghost use Rattle.bit_io.specs.Reading.{left, HasRead, IsAtFault};
+ghost use Rattle.table_code.specs.Parts.{later_field, later_rest};
 
 use crate::TableKind;
 use crate::kinds::is_alone;
@@ -34,8 +34,8 @@ pub fn read_table<K: TableKind>(reader: &mut BitReader) -> Result<K::Table, Fram
 // Reads the values of a table.
 fn read_values<K: TableKind>(reader: &mut BitReader) -> Result<ArrayVec<i32, 128>, FrameFault>
     requires { length (left reader.old) ≤ 2000000 }
-    ensures values { IfOk result (λ v. Gives (table_fields K.kind) reader.old reader.new v.items) }
-    ensures fault { IfErr result (Refuses (table_fields K.kind) reader.old) }
+    ensures values { IfOk result (λ v. HasRead (table_fields K.kind) reader.old v.items reader.new) }
+    ensures fault { IfErr result (IsAtFault (table_fields K.kind) reader.old) }
     ensures bytes { reader.new.bytes ≡ reader.old.bytes }
 {
     let longer = read_number(reader, K::LENGTH_BITS)?;
@@ -55,8 +55,8 @@ fn read_body<K: TableKind>(
 ) -> Result<ArrayVec<i32, 128>, FrameFault>
     requires short { length (left reader.old) ≤ 2000000 }
     requires most { count ≤ 128 }
-    ensures values { IfOk result (λ v. Gives (body_fields K.kind count) reader.old reader.new v.items) }
-    ensures fault { IfErr result (Refuses (body_fields K.kind count) reader.old) }
+    ensures values { IfOk result (λ v. HasRead (body_fields K.kind count) reader.old v.items reader.new) }
+    ensures fault { IfErr result (IsAtFault (body_fields K.kind count) reader.old) }
     ensures bytes { reader.new.bytes ≡ reader.old.bytes }
 {
     let coded = read_number(reader, 1)?;
@@ -74,8 +74,8 @@ fn read_coded<K: TableKind>(
 ) -> Result<ArrayVec<i32, 128>, FrameFault>
     requires short { length (left reader.old) ≤ 2000000 }
     requires most { count ≤ 128 }
-    ensures values { IfOk result (λ v. Gives (coded_fields K.kind count) reader.old reader.new v.items) }
-    ensures fault { IfErr result (Refuses (coded_fields K.kind count) reader.old) }
+    ensures values { IfOk result (λ v. HasRead (coded_fields K.kind count) reader.old v.items reader.new) }
+    ensures fault { IfErr result (IsAtFault (coded_fields K.kind count) reader.old) }
     ensures bytes { reader.new.bytes ≡ reader.old.bytes }
 {
     let method = read_method(reader, count)?;
@@ -100,8 +100,8 @@ fn read_later<K: TableKind>(
     requires some { method + 1 ≤ length values.old.items }
     requires few { length values.old.items ≤ count }
     requires each { AllByRecursion (InRange K.kind) values.old.items }
-    ensures values { IfOk result (λ _. Gives (later_rest K.kind (K.kind.weights method) m count values.old.items) reader.old reader.new values.new.items) }
-    ensures fault { IfErr result (Refuses (later_rest K.kind (K.kind.weights method) m count values.old.items) reader.old) }
+    ensures values { IfOk result (λ _. HasRead (later_rest K.kind (K.kind.weights method) m count values.old.items) reader.old values.new.items reader.new) }
+    ensures fault { IfErr result (IsAtFault (later_rest K.kind (K.kind.weights method) m count values.old.items) reader.old) }
     ensures bytes { reader.new.bytes ≡ reader.old.bytes }
 {
     for _ in values.len()..count {
@@ -123,8 +123,8 @@ fn read_later_value<K: TableKind>(
     requires small { m < 8 }
     requires some { method + 1 ≤ length earlier.now }
     requires each { AllByRecursion (InRange K.kind) earlier.now }
-    ensures value { IfOk result (Gives (later_field K.kind (K.kind.weights method) m (reverse earlier.now)) reader.old reader.new) }
-    ensures fault { IfErr result (Refuses (later_field K.kind (K.kind.weights method) m (reverse earlier.now)) reader.old) }
+    ensures value { IfOk result (λ v. HasRead (later_field K.kind (K.kind.weights method) m (reverse earlier.now)) reader.old v reader.new) }
+    ensures fault { IfErr result (IsAtFault (later_field K.kind (K.kind.weights method) m (reverse earlier.now)) reader.old) }
     ensures range { IfOk result (InRange K.kind) }
     ensures fewer { IfOk result (λ _. length (left reader.new) ≤ length (left reader.old)) }
     ensures bytes { reader.new.bytes ≡ reader.old.bytes }
@@ -143,7 +143,7 @@ fn read_later_value<K: TableKind>(
 // The value, if a table of the kind may hold it.
 fn within_range<K: TableKind>(value: i64) -> Option<i32>
     ensures none { IfNone result (range_rule K.kind value ≡ Some (if K.kind.lone then ProbRange else CoefRange)) }
-    ensures kept { IfSome result (λ _. range_rule K.kind value ≡ None) }
+    ensures met { IfSome result (λ _. range_rule K.kind value ≡ None) }
     ensures value { IfSome result (λ v. v ≡ value) }
 {
     if value < i64::from(K::LEAST) {
@@ -172,8 +172,8 @@ fn read_plain<K: TableKind>(
     count: usize,
 ) -> Result<ArrayVec<i32, 128>, FrameFault>
     requires { count ≤ 128 }
-    ensures values { IfOk result (λ v. Gives (times count (plain_fields K.kind)) reader.old reader.new v.items) }
-    ensures fault { IfErr result (Refuses (times count (plain_fields K.kind)) reader.old) }
+    ensures values { IfOk result (λ v. HasRead (times count (plain_fields K.kind)) reader.old v.items reader.new) }
+    ensures fault { IfErr result (IsAtFault (times count (plain_fields K.kind)) reader.old) }
     ensures length { IfOk result (λ v. length v.items ≡ count) }
     ensures each { IfOk result (λ v. AllByRecursion (InRange K.kind) v.items) }
     ensures fewer { IfOk result (λ _. length (left reader.new) ≤ length (left reader.old)) }
@@ -188,8 +188,8 @@ fn read_plain<K: TableKind>(
 
 // Reads a value plain.
 fn read_plain_value<K: TableKind>(reader: &mut BitReader) -> Result<i32, FrameFault>
-    ensures value { IfOk result (Gives (plain_fields K.kind) reader.old reader.new) }
-    ensures fault { IfErr result (Refuses (plain_fields K.kind) reader.old) }
+    ensures value { IfOk result (λ v. HasRead (plain_fields K.kind) reader.old v reader.new) }
+    ensures fault { IfErr result (IsAtFault (plain_fields K.kind) reader.old) }
     ensures range { IfOk result (InRange K.kind) }
     ensures fewer { IfOk result (λ _. length (left reader.new) ≤ length (left reader.old)) }
     ensures bytes { reader.new.bytes ≡ reader.old.bytes }
@@ -198,7 +198,7 @@ fn read_plain_value<K: TableKind>(reader: &mut BitReader) -> Result<i32, FrameFa
     Ok(plain_value::<K>(number))
 }
 
-// The value that a plain number tells.
+// The value that a plain number spells.
 fn plain_value<K: TableKind>(number: u32) -> i32
     requires { number < 2 ^ K.kind.value_bits }
     ensures { result ≡ value_of K.kind number }
@@ -215,8 +215,8 @@ fn plain_value<K: TableKind>(number: u32) -> i32
 
 // Reads the method of a table of so many values.
 fn read_method(reader: &mut BitReader, count: usize) -> Result<u32, FrameFault>
-    ensures method { IfOk result (Gives (field 2 (method_rule count) gives) reader.old reader.new) }
-    ensures fault { IfErr result (Refuses (field 2 (method_rule count) gives) reader.old) }
+    ensures method { IfOk result (λ v. HasRead (field 2 (method_rule count) gives) reader.old v reader.new) }
+    ensures fault { IfErr result (IsAtFault (field 2 (method_rule count) gives) reader.old) }
     ensures few { IfOk result (λ method. method < 3) }
     ensures enough { IfOk result (λ method. method + 1 ≤ count) }
     ensures fewer { IfOk result (λ _. length (left reader.new) ≤ length (left reader.old)) }
@@ -236,8 +236,8 @@ fn read_method(reader: &mut BitReader, count: usize) -> Result<u32, FrameFault>
 // Reads a number without a rule.
 fn read_number(reader: &mut BitReader, n: u32) -> Result<u32, FrameFault>
     requires { n ≤ 32 }
-    ensures number { IfOk result (Gives (number n) reader.old reader.new) }
-    ensures fault { IfErr result (Refuses (number n) reader.old) }
+    ensures number { IfOk result (λ v. HasRead (number n) reader.old v reader.new) }
+    ensures fault { IfErr result (IsAtFault (number n) reader.old) }
     ensures below { IfOk result (λ x. x < 2 ^ n) }
     ensures fewer { IfOk result (λ _. length (left reader.new) ≤ length (left reader.old)) }
     ensures bytes { reader.new.bytes ≡ reader.old.bytes }

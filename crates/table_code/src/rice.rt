@@ -63,12 +63,12 @@ fn pass_zeros(reader: &mut BitReader) -> Option<u32>
     ensures place { IfSome result (λ k. reader.new.place ≡ reader.old.place + (k + 1)) }
     ensures bytes { reader.new.bytes ≡ reader.old.bytes }
 {
-    let words = reader.left().div_ceil(32);
+    let windows = reader.left().div_ceil(32);
     let mut passed = 0;
-    for _ in 0..words {
-        let word = BitReader::over(reader.rest()).read_or_zero(32);
-        if word != 0 {
-            let zeros = word.leading_zeros();
+    for _ in 0..windows {
+        let window = BitReader::over(reader.rest()).read_or_zero(32);
+        if window != 0 {
+            let zeros = window.leading_zeros();
             reader.read_or_zero(zeros + 1);
             return Some(passed + zeros);
         }

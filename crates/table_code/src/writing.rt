@@ -101,7 +101,7 @@ fn append_values<K: TableKind>(writer: &mut BitWriter, values: &[i32])
     }
 }
 
-// The number that tells a value plainly.
+// The number that spells a value plainly.
 fn plain_number<K: TableKind>(value: i32) -> u32
     requires { InRange K.kind value }
     ensures bits { low_bits K.kind.value_bits result ≡ plain_value_of K.kind value }

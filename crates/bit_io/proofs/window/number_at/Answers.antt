@@ -12,7 +12,7 @@ returns-then-n-eq0-clause-number c = rw c.if-n-eq0.true refl
 pub overflow_cast-result-3 : goal.overflow_cast-result-3
 overflow_cast-result-3 c =
     let one = one_shl c.args.n 64 (omega (arith, c.requires.most)) in
-    let below = mod_below (c.word_at-word.result / 2 ^ (64 - c.args.place % 8 - c.args.n)) (2 ^ c.args.n) (pow_pos c.args.n) in
+    let below = mod_below (c.window_at-window.result / 2 ^ (64 - c.args.place % 8 - c.args.n)) (2 ^ c.args.n) (pow_pos c.args.n) in
     let most = pow_mono {i = c.args.n} {j = 32} c.requires.most in
     rw one (omega (arith, below, most))
 
@@ -26,6 +26,6 @@ returns-clause-number c =
     let one = one_shl n 64 (omega (arith, c.requires.most)) in
     let whole : 64 ≡ skipped + n + behind = omega (arith, c.requires.most) in
     let place : start + skipped ≡ c.args.place = omega arith in
-    rw one (ap (λ w. w / 2 ^ behind % 2 ^ n) (c.word_at-word.ensures.number ∙ ap (number_from all start) whole)
+    rw one (ap (λ w. w / 2 ^ behind % 2 ^ n) (c.window_at-window.ensures.number ∙ ap (number_from all start) whole)
     ∙ number_within c.args.bytes.now start skipped n behind
     ∙ ap (λ p. number_from all p n) place)

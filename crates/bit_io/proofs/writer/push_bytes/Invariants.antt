@@ -4,7 +4,7 @@ use Rattle.bit_io.proofs.writer.push_bytes.Given as goal
 
 abbrev pub invariant-loop-rest : goal.invariant-loop-rest
 invariant-loop-rest l = record {
-  bits : bits l.bytes.items ++ low_bits l.rest l.word ≡ bits l.fn.bytes.items ++ low_bits l.count l.word;
+  bits : bits l.bytes.items ++ low_bits l.rest l.number ≡ bits l.fn.bytes.items ++ low_bits l.count l.number;
   len : vec_len l.bytes + l.rest / 8 ≡ vec_len l.fn.bytes + l.count / 8;
   same : l.rest % 8 ≡ l.count % 8;
   most : l.rest ≤ l.count;

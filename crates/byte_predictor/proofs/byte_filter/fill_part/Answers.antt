@@ -33,8 +33,8 @@ loop-byte-preserved c =
     let under : neg_ℤ (pos 2048) ≤ℤ low = rw here bound.0 in
     let over : low ≤ℤ pos 2048 = rw here bound.1 in
     let stored = to_z w16 (of_z w16 (to_z w16 (of_z w16 low) +ℤ to_z w16 (of_z w16 (pos 2 *ℤ to_z w16 (of_z w16 coef))))) in
-    let kept : stored ≡ signed_sum (drop c.args.first c.args.coefs.now) (rising_bits 8 (c.loop-i.half + c.loop-byte.byte)) = omega (arith, ints) in
+    let stored_is : stored ≡ signed_sum (drop c.args.first c.args.coefs.now) (rising_bits 8 (c.loop-i.half + c.loop-byte.byte)) = omega (arith, ints) in
     let eighth : 2 * 2 ^ c.loop-i.i ≤ 256 = half-below c.loop-i.i (omega arith) in
     let power : c.loop-i.half ≡ 2 ^ c.loop-i.i = c.loop-i.invariant.0 in
     let inside : place < length c.loop-byte.part = omega arith in
-    (λ b lt. table-more c.loop-byte.part place stored (λ k. signed_sum (drop c.args.first c.args.coefs.now) (rising_bits 8 k)) inside c.loop-byte.invariant.0 kept b (omega arith), length-set c.loop-byte.part place stored ∙ c.loop-byte.invariant.1)
+    (λ b lt. table-more c.loop-byte.part place stored (λ k. signed_sum (drop c.args.first c.args.coefs.now) (rising_bits 8 k)) inside c.loop-byte.invariant.0 stored_is b (omega arith), length-set c.loop-byte.part place stored ∙ c.loop-byte.invariant.1)

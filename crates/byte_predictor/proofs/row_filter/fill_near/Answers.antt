@@ -46,8 +46,8 @@ loop-byte-preserved c =
     let most : upward_sum c.args.coefs.now (rising_bits 8 (c.loop-i.half + c.loop-byte.byte)) ≤ 2048 = step.1 in
     let fits : FitsSigned w16 coef = search rules in
     let place = c.loop-i.half + c.loop-byte.byte in
-    let kept : c.moved-sum.result ≡ upward_sum c.args.coefs.now (rising_bits 8 (c.loop-i.half + c.loop-byte.byte)) = omega (arith, ints, c.moved-sum.ensures) in
+    let stored_is : c.moved-sum.result ≡ upward_sum c.args.coefs.now (rising_bits 8 (c.loop-i.half + c.loop-byte.byte)) = omega (arith, ints, c.moved-sum.ensures) in
     let eighth : 2 * 2 ^ c.loop-i.i ≤ 256 = half-below c.loop-i.i (omega arith) in
     let power : c.loop-i.half ≡ 2 ^ c.loop-i.i = c.loop-i.invariant.0 in
     let inside : place < length c.loop-byte.near = omega arith in
-    (λ b lt. row-more c.loop-byte.near place c.moved-sum.result (λ k. upward_sum c.args.coefs.now (rising_bits 8 k)) inside c.loop-byte.invariant.0 kept b (omega arith), length-set c.loop-byte.near place c.moved-sum.result ∙ c.loop-byte.invariant.1)
+    (λ b lt. row-more c.loop-byte.near place c.moved-sum.result (λ k. upward_sum c.args.coefs.now (rising_bits 8 k)) inside c.loop-byte.invariant.0 stored_is b (omega arith), length-set c.loop-byte.near place c.moved-sum.result ∙ c.loop-byte.invariant.1)

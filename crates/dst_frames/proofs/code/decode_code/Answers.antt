@@ -11,11 +11,11 @@ returns-clause-sound c = λ f channels octets.
     let reserved = c.decode.result in
     let out = c.decode_all.new.out in
     let decoder = c.decode_all.new.decoder in
-    let kept : f.channels ≡ length c.build_all.new.tables = channels ∙ sym c.build_all.auto.tables in
+    let same_channels : f.channels ≡ length c.build_all.new.tables = channels ∙ sym c.build_all.auto.tables in
     let built = c.build_all.ensures.built f channels in
-    let begins = frame_begins f P reserved c.reserved_prob.result c.args.out.now c.decode.new.self c.build_all.new.states c.reserved_prob.ensures (c.decode.ensures.stands [] c.in-Ok.ensures.stands)
+    let begins = frame_begins f P reserved c.reserved_probability.result c.args.out.now c.decode.new.self c.build_all.new.states c.reserved_probability.ensures (c.decode.ensures.stands [] c.in-Ok.ensures.stands)
     (λ j other h. c.build_all.ensures.fresh j other (omega arith)) in
-    let whole = c.decode_all.ensures.sound f P reserved kept built begins in
+    let whole = c.decode_all.ensures.sound f P reserved same_channels built begins in
     let stands = frame_ends f P reserved c.args.octets out decoder c.decode_all.new.states octets whole in
     let bytes = c.decode_all.ensures.bytes ∙ c.decode.ensures.bytes ∙ c.in-Ok.ensures.bytes in
     let first = c.decode_all.ensures.first ∙ c.decode.ensures.first ∙ c.in-Ok.ensures.first in

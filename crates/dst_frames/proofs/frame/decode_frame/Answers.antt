@@ -5,7 +5,7 @@ use Rattle.dst_spec.specs.Means.{MeansWithTail}
 use Rattle.dst_spec.specs.Offends.{Offends}
 use Rattle.dst_spec.proofs.Meaning.{meaning_is_no_fault}
 use Rattle.arith_decoder.specs.Decoding.{IsCodeFault}
-use Rattle.dst_frames.specs.Scratch.{Kept}
+use Rattle.dst_frames.specs.Scratch.{ScratchShape}
 use Rattle.dst_frames.specs.Coded.{IsCodeOfSound}
 use Rattle.dst_frames.proofs.Frames.{is_sound, plain_means, coded_means, code_offends, no_fault_beside, no_sound_beside}
 use Rattle.dst_frames.proofs.frame.decode_frame.Goals as goal
@@ -34,8 +34,8 @@ result_means c =
     let bytes = rw c.in-Ok-Coded.field-0-is at c.in-Ok-Coded.ensures.bytes in
     let inside = rw c.in-Ok-Coded.field-0-is at c.in-Ok-Coded.ensures.inside in
     let header = rw c.in-Ok-Coded.field-0-is at c.in-Ok-Coded.ensures.header in
-    let kept = ap (λ (k : Kept). k.channels.channels) c.scratch.view_is ∙ ap (λ (g : Shape). g.channels) c.requires.scratch in
-    let channels = sym (ap length c.as_mut_slice-tables.ensures.value ∙ c.scratch.invariant.0 ∙ kept) in
+    let same_channels = ap (λ (k : ScratchShape). k.channels.channels) c.scratch.view_is ∙ ap (λ (g : Shape). g.channels) c.requires.scratch in
+    let channels = sym (ap length c.as_mut_slice-tables.ensures.value ∙ c.scratch.invariant.0 ∙ same_channels) in
     let s = is_sound f out (c.decode_code.auto.out ∙ c.requires.out) c.type_inv.out in
     elim c.match-decode_code.branch [
       | in-Err-decode_code w ↦ subst (λ r. IfOk r (MeansWithTail f frame out)) (sym w.result-is) tt

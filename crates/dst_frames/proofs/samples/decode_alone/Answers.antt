@@ -11,7 +11,7 @@ use Rattle.dst_frames.proofs.samples.decode_alone.Goals as goal
 use Rattle.dst_frames.proofs.samples.decode_alone.Goals.{then-early, else-early, then-sample, else-sample}
 
 pub returns-clause-ready : goal.returns-clause-ready
-returns-clause-ready c = λ filter probs samples half built ready.
+returns-clause-ready c = λ filter probs samples half_prob built ready.
     let tables = c.args.tables.now in
     let sample = beq c.decode-symbol.result (leb 128 c.args.state.now.next) in
     let before : IsAhead tables.filter c.args.place samples c.args.state.now.ahead = subst (λ coefs. IsAhead coefs c.args.place samples c.args.state.now.ahead) (sym built.filter_is) ready.ahead in
@@ -20,9 +20,9 @@ returns-clause-ready c = λ filter probs samples half built ready.
     let next : IsEntry (signed_sum filter (bit_of sample ∷ samples)) probs c.if-sample.state =
     elim c.if-sample.branch [
       | then-sample w ↦
-          entry_behind filter probs samples half true sample tables c.upward_after-behind_1.result c.if-sample.state built long (c.upward_after-behind_1.ensures samples before) w.state-is w.if-sample.true
+          entry_behind filter probs samples half_prob true sample tables c.upward_after-behind_1.result c.if-sample.state built long (c.upward_after-behind_1.ensures samples before) w.state-is w.if-sample.true
       | else-sample w ↦
-          entry_behind filter probs samples half false sample tables c.upward_after-behind_0.result c.if-sample.state built long (c.upward_after-behind_0.ensures samples before) w.state-is w.if-sample.false
+          entry_behind filter probs samples half_prob false sample tables c.upward_after-behind_0.result c.if-sample.state built long (c.upward_after-behind_0.ensures samples before) w.state-is w.if-sample.false
     ] in
     record { ahead = subst (λ coefs. IsAhead coefs (c.args.place + 1) (bit_of sample ∷ samples) c.push.new.self) built.filter_is pushed; next = next }
 

@@ -1,4 +1,4 @@
-use Rattle.std.proofs.Common.{◌≡◌, ◌+◌, ◌%◌, true, false, [], ◌∷◌, ◌++◌, if◌then◌else◌, get_or, refl, ap, sym, subst, ◌∙◌}
+use Rattle.std.proofs.Common.{◌≡◌, ◌+◌, ◌%◌, [], ◌∷◌, ◌++◌, if◌then◌else◌, get_or, refl, ap, sym, subst, ◌∙◌}
 use lib.Dec.{leb}
 use mathlib.Core.Bool.{beq}
 use Rattle.dst_spec.specs.Header.{bit_of}
@@ -11,13 +11,13 @@ use Rattle.dst_frames.proofs.samples.decode_among.Goals as goal
 use Rattle.dst_frames.proofs.samples.decode_among.Goals.{then-early, else-early}
 
 pub returns-clause-ready : goal.returns-clause-ready
-returns-clause-ready c = λ filter probs samples half built ready.
+returns-clause-ready c = λ filter probs samples half_prob built ready.
     let tables = c.args.tables.now in
     let sample = beq c.decode-symbol.result (leb 128 c.args.state.now.next) in
     let before : IsAhead tables.filter c.args.place samples c.args.state.now.ahead = subst (λ coefs. IsAhead coefs c.args.place samples c.args.state.now.ahead) (sym built.filter_is) ready.ahead in
     let pushed = c.push.ensures tables.filter c.args.place samples c.requires.place before in
     let next : IsEntry (signed_sum filter (bit_of sample ∷ samples)) probs (get_or tables.entries c.upward_after-behind.result 0) =
-    entry_behind filter probs samples half sample sample tables c.upward_after-behind.result (get_or tables.entries c.upward_after-behind.result 0) built ready.ahead.long (c.upward_after-behind.ensures samples before) refl refl in
+    entry_behind filter probs samples half_prob sample sample tables c.upward_after-behind.result (get_or tables.entries c.upward_after-behind.result 0) built ready.ahead.long (c.upward_after-behind.ensures samples before) refl refl in
     record { ahead = subst (λ coefs. IsAhead coefs (c.args.place + 1) (bit_of sample ∷ samples) c.push.new.self) built.filter_is pushed; next = next }
 
 pub returns-clause-symbol : goal.returns-clause-symbol

@@ -18,7 +18,7 @@ loop-place-init c = record {
 }
 
 pub returns-clause-sound : goal.returns-clause-sound
-returns-clause-sound c = λ f P reserved before after count built start same told.
+returns-clause-sound c = λ f P reserved before after count built start same given.
     let m = c.args.byte in
     let tables = c.args.tables.now in
     let states = c.loop-place.states in
@@ -30,7 +30,7 @@ returns-clause-sound c = λ f P reserved before after count built start same tol
     let all : c.loop-place.place ≡ 8 = omega arith in
     let u : IsUnderway f P reserved (8 * m + 8) 8 later c.loop-place.decoder states = subst (λ n. IsUnderway f P reserved (8 * m + n) n later c.loop-place.decoder states) all s.2 in
     let behind : (j : ℕ) → j < f.channels → drop 8 (later j) ≡ earlier f before j (8 * m) = λ j h. ap (λ n. drop n (later j)) (sym all) ∙ s.1 j h in
-    byte_ends f P reserved m before after c.finish_byte.new.out later c.loop-place.decoder states new u behind same told
+    byte_ends f P reserved m before after c.finish_byte.new.out later c.loop-place.decoder states new u behind same given
     (λ j h k l. c.finish_byte.ensures.newest j state (filter_of P j) (probs_of P j) (later j) 8 (omega arith) (u.ready j state h) k l)
     (λ j other h.
     let is = (built j table h).filter_is in

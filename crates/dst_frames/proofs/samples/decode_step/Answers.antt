@@ -26,15 +26,15 @@ loop-c-preserved c =
           let done = c.loop-c.c in
           let lt : done < f.channels = omega arith in
           let table = c.index-tables-c.result in
-          let here : IsBuilt (filter_of P done) (probs_of P done) (get_or P.half done false) table = subst (IsBuilt (filter_of P done) (probs_of P done) (get_or P.half done false)) (sym c.index-tables-c.is) (built done table lt) in
-          let early = c.is_early-early.ensures ∙ early_is (get_or P.half done false) c.args.head c.args.byte c.args.place table.early (length (filter_of P done)) here.early here.short c.requires.head in
+          let here : IsBuilt (filter_of P done) (probs_of P done) (get_or P.half_prob done false) table = subst (IsBuilt (filter_of P done) (probs_of P done) (get_or P.half_prob done false)) (sym c.index-tables-c.is) (built done table lt) in
+          let early = c.is_early-early.ensures ∙ early_is (get_or P.half_prob done false) c.args.start c.args.byte c.args.place table.early (length (filter_of P done)) here.early here.short c.requires.start in
           let row = c.loop-c.invariant.row f P reserved samples count built underway in
           let none : ChannelState = record { ahead = record { lanes = []; newest = 0 }; next = 0 } in
           let old = row.before done none (omega arith) lt in
-          let half = get_or P.half done false in
+          let half_prob = get_or P.half_prob done false in
           row_goes_on law f P reserved (8 * c.args.byte + c.args.place) c.args.place samples done c.loop-c.decoder c.decode_sample.new.decoder c.loop-c.states c.decode_sample.new.state
           c.is_early-early.result c.decode_sample.result row lt (omega arith) early here.short
-          (c.decode_sample.ensures.ready (filter_of P done) (probs_of P done) (samples done) half here old)
+          (c.decode_sample.ensures.ready (filter_of P done) (probs_of P done) (samples done) half_prob here old)
           (λ pairs stands. c.decode_sample.ensures.symbol (filter_of P done) (probs_of P done) (samples done) pairs old stands);
     }
 

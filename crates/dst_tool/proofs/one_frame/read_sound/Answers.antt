@@ -17,4 +17,4 @@ returns-in-Ok-decode_frame-clause-sound g c file told =
     let sound = lent_whole c.in-Ok-vec.sound.len _ c.decode_frame.new.out c.in-Ok-vec.sound.items refl (sym c.deref_mut-2.ensures.len ∙ ap length c.deref_mut-2.ensures.value) (c.decode_frame.auto.out ∙ ap length c.deref_mut-2.ensures.value) in
     subst (λ sound. IsSoundOf c.args.channels (frame_at file (entry_seen c.args.entry)) sound) (sym sound)
     (subst (λ frame. IsSoundOf c.args.channels frame c.decode_frame.new.out) read
-    (is_sound_of c.args.channels c.deref.result.now c.decode_frame.new.out c.in-Ok-decode_frame.field-0 c.frame_bytes.ensures.shape c.in-Ok-decode_frame.ensures.sound c.in-Ok-decode_frame.ensures.whole))
+    (is_sound_of c.args.channels c.deref.result.now c.decode_frame.new.out c.in-Ok-decode_frame.field-0 c.sound_bytes.ensures.shape c.in-Ok-decode_frame.ensures.sound c.in-Ok-decode_frame.ensures.whole))

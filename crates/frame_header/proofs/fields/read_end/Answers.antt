@@ -2,7 +2,7 @@ use Rattle.std.proofs.Common.{◌≡◌, ℕ, None, refl, ap}
 use Rattle.std.proofs.lemmas.Bool.{ne_eqb}
 use Rattle.dst_spec.specs.Offends.{end_rule}
 use Rattle.dst_spec.specs.declared.faults.Reason.TheVariants.{MultiSegment}
-use Rattle.frame_header.proofs.Stepping.{rule_kept, rule_broken, field_cut}
+use Rattle.frame_header.proofs.Stepping.{rule_met, rule_broken, field_cut}
 use Rattle.frame_header.proofs.fields.read_end.Goals as goal
 
 ends : (v : ℕ) → (v ≡ 0 → ⊥) → end_rule v ≡ None
@@ -16,7 +16,7 @@ returns-in-Ok-eq0-clause-fault c =
 pub returns-in-Ok-clause-read : goal.returns-in-Ok-clause-read
 returns-in-Ok-clause-read c =
     let a = c.in-Ok in
-    (a.field-0, rule_kept 1 end_rule c.args.reader.now c.read_number.new.reader a.field-0 a.ensures.read (ends a.field-0 a.field-0-test.1))
+    (a.field-0, rule_met 1 end_rule c.args.reader.now c.read_number.new.reader a.field-0 a.ensures.read (ends a.field-0 a.field-0-test.1))
 
 pub returns-in-Err-clause-fault : goal.returns-in-Err-clause-fault
 returns-in-Err-clause-fault c = field_cut 1 end_rule c.args.reader.now c.in-Err.fault c.in-Err.ensures.fault

@@ -2,7 +2,7 @@ use Rattle.std.proofs.Common.{◌≡◌, ℕ, ◌<◌, ◌≤◌, Some, None, re
 use Rattle.dst_spec.specs.Map.{map_bits}
 use Rattle.dst_spec.specs.Offends.{number_rule}
 use Rattle.dst_spec.specs.declared.faults.Reason.TheVariants.{MapSkips}
-use Rattle.frame_header.proofs.Stepping.{rule_kept, rule_broken, field_cut}
+use Rattle.frame_header.proofs.Stepping.{rule_met, rule_broken, field_cut}
 use Rattle.frame_header.proofs.fields.read_map_number.Goals as goal
 
 skips : (count e : ℕ) → count < e → number_rule count e ≡ Some MapSkips
@@ -23,7 +23,7 @@ returns-else-element-count-clause-read c =
     let count = c.args.count in
     let e = c.in-Ok.element in
     let a = rw c.map_bits.ensures.bits at c.in-Ok.ensures.read in
-    rule_kept (map_bits count) (number_rule count) c.args.reader.now c.read_number.new.reader e a (follows count e c.if-element-count.false)
+    rule_met (map_bits count) (number_rule count) c.args.reader.now c.read_number.new.reader e a (follows count e c.if-element-count.false)
 
 pub returns-in-Err-clause-fault : goal.returns-in-Err-clause-fault
 returns-in-Err-clause-fault c =

@@ -4,9 +4,8 @@ use Rattle.dst_spec.specs.Bits.{low_bits}
 use Rattle.dst_spec.specs.Fields.{field, gives}
 use Rattle.dst_spec.specs.Offends.{stuffing_rule}
 use Rattle.dst_spec.specs.declared.faults.Reason.TheVariants.{PlainStuffing}
-use Rattle.bit_io.specs.Reading.{left}
-use Rattle.frame_header.specs.Steps.{Gave}
-use Rattle.frame_header.proofs.Stepping.{rule_kept, rule_broken, field_cut}
+use Rattle.bit_io.specs.Reading.{left, HasRead}
+use Rattle.frame_header.proofs.Stepping.{rule_met, rule_broken, field_cut}
 use Rattle.frame_header.proofs.fields.read_stuffing.Goals as goal
 
 stuffed : (v : ℕ) → (v ≡ 0 → ⊥) → stuffing_rule v ≡ Some PlainStuffing
@@ -17,7 +16,7 @@ returns-in-Ok-eq0-clause-read c =
     let a = c.in-Ok-eq0 in
     let old = c.args.reader.now in
     let new = c.read_number.new.reader in
-    subst (λ v. Gave (field 6 stuffing_rule gives) old v new) a.field-0-test (rule_kept 6 stuffing_rule old new a.field-0 a.ensures.read (ap stuffing_rule a.field-0-test))
+    subst (λ v. HasRead (field 6 stuffing_rule gives) old v new) a.field-0-test (rule_met 6 stuffing_rule old new a.field-0 a.ensures.read (ap stuffing_rule a.field-0-test))
 
 pub returns-in-Ok-clause-fault : goal.returns-in-Ok-clause-fault
 returns-in-Ok-clause-fault c =

@@ -4,8 +4,7 @@ use Rattle.dst_spec.specs.Fields.{number}
 use Rattle.dst_spec.specs.Table.{filter_kind, prob_kind}
 use Rattle.dst_spec.specs.Offends.{times, both_segments, both_maps, table_fields, header_fields}
 use Rattle.dst_num.specs.Map.{params_of}
-use Rattle.bit_io.specs.Reading.{left}
-use Rattle.frame_header.specs.Steps.{Failed, Gave}
+use Rattle.bit_io.specs.Reading.{left, HasRead, IsAtFault}
 use Rattle.frame_header.proofs.Stepping.{handed_on, shorter, there_unless}
 use Rattle.frame_header.proofs.Whole.{segments_fail, maps_fail, half_fails, filters_fail, probs_fail, header_gave, params_found}
 use Rattle.frame_header.proofs.header.read_params.Goals as goal
@@ -14,25 +13,25 @@ pub returns-in_err-read_both_segments-clause-fault : goal.returns-in_err-read_bo
 returns-in_err-read_both_segments-clause-fault c =
     let fault = c.in_err-read_both_segments.field-0.0 in
     let a = c.args.reader.now in
-    handed_on c.from_residual.result fault (Failed (header_fields c.args.channels) a) c.from_residual.ensures.1 (segments_fail c.args.channels a fault c.in_err-read_both_segments.ensures.fault)
+    handed_on c.from_residual.result fault (IsAtFault (header_fields c.args.channels) a) c.from_residual.ensures.1 (segments_fail c.args.channels a fault c.in_err-read_both_segments.ensures.fault)
 
 pub returns-in_err-filter_map-clause-fault : goal.returns-in_err-filter_map-clause-fault
 returns-in_err-filter_map-clause-fault c =
     let fault = c.in_err-filter_map.field-0.0 in
     let a = c.args.reader.now in
     let b = c.read_both_segments.new.reader in
-    handed_on c.from_residual-in_err-filter_map.result fault (Failed (header_fields c.args.channels) a) c.from_residual-in_err-filter_map.ensures.1
+    handed_on c.from_residual-in_err-filter_map.result fault (IsAtFault (header_fields c.args.channels) a) c.from_residual-in_err-filter_map.ensures.1
     (maps_fail c.args.channels a b fault c.in_ok-read_both_segments.ensures.read c.in_err-filter_map.ensures.fault)
 
-pub returns-in_err-half-clause-fault : goal.returns-in_err-half-clause-fault
-returns-in_err-half-clause-fault c =
-    let fault = c.in_err-half.field-0.0 in
+pub returns-in_err-half_prob-clause-fault : goal.returns-in_err-half_prob-clause-fault
+returns-in_err-half_prob-clause-fault c =
+    let fault = c.in_err-half_prob.field-0.0 in
     let a = c.args.reader.now in
     let b = c.read_both_segments.new.reader in
     let d = c.read_both_maps.new.reader in
     let m = c.in_ok-filter_map in
-    handed_on c.from_residual-in_err-half.result fault (Failed (header_fields c.args.channels) a) c.from_residual-in_err-half.ensures.1
-    (half_fails c.args.channels a b d (m.filter_map, m.prob_map) fault c.in_ok-read_both_segments.ensures.read m.ensures.read c.in_err-half.ensures.fault)
+    handed_on c.from_residual-in_err-half_prob.result fault (IsAtFault (header_fields c.args.channels) a) c.from_residual-in_err-half_prob.ensures.1
+    (half_fails c.args.channels a b d (m.filter_map, m.prob_map) fault c.in_ok-read_both_segments.ensures.read m.ensures.read c.in_err-half_prob.ensures.fault)
 
 pub read_tables-requires : goal.read_tables-requires
 read_tables-requires c =
@@ -44,7 +43,7 @@ read_tables-requires c =
     let s = c.in_ok-read_both_segments.ensures.read in
     let first = shorter (both_segments c.args.channels) (left a) a.place (s.0, left b, b.place) s.1 in
     let second = shorter (both_maps c.args.channels) (left b) b.place ((m.filter_map, m.prob_map), left d, d.place) m.ensures.read in
-    let third = shorter (times c.args.channels (number 1)) (left d) d.place (map bit_of c.in_ok-half.half.items, left e, e.place) c.in_ok-half.ensures.read in
+    let third = shorter (times c.args.channels (number 1)) (left d) d.place (map bit_of c.in_ok-half_prob.half_prob.items, left e, e.place) c.in_ok-half_prob.ensures.read in
     let few : length (left e) ≤ 2000000 = omega (arith, first, second, third, c.requires.few) in
     let count : c.count.result ≤ 6 = omega (arith, c.count.ensures.most, c.count.ensures.map.1) in
     (lit< tt, (count, few))
@@ -57,9 +56,9 @@ returns-in_err-filters-clause-fault c =
     let d = c.read_both_maps.new.reader in
     let e = c.read_half_bits.new.reader in
     let m = c.in_ok-filter_map in
-    let failed = subst (λ n. Failed (times n (table_fields filter_kind)) e fault) c.count.ensures.count c.in_err-filters.ensures.fault in
-    handed_on c.from_residual-in_err-filters.result fault (Failed (header_fields c.args.channels) a) c.from_residual-in_err-filters.ensures.1
-    (filters_fail c.args.channels a b d e (m.filter_map, m.prob_map) (map bit_of c.in_ok-half.half.items) fault c.in_ok-read_both_segments.ensures.read m.ensures.read c.in_ok-half.ensures.read failed)
+    let failed = subst (λ n. IsAtFault (times n (table_fields filter_kind)) e fault) c.count.ensures.count c.in_err-filters.ensures.fault in
+    handed_on c.from_residual-in_err-filters.result fault (IsAtFault (header_fields c.args.channels) a) c.from_residual-in_err-filters.ensures.1
+    (filters_fail c.args.channels a b d e (m.filter_map, m.prob_map) (map bit_of c.in_ok-half_prob.half_prob.items) fault c.in_ok-read_both_segments.ensures.read m.ensures.read c.in_ok-half_prob.ensures.read failed)
 
 pub read_tables-requires-2 : goal.read_tables-requires-2
 read_tables-requires-2 c =
@@ -72,7 +71,7 @@ read_tables-requires-2 c =
     let s = c.in_ok-read_both_segments.ensures.read in
     let first = shorter (both_segments c.args.channels) (left a) a.place (s.0, left b, b.place) s.1 in
     let second = shorter (both_maps c.args.channels) (left b) b.place ((m.filter_map, m.prob_map), left d, d.place) m.ensures.read in
-    let third = shorter (times c.args.channels (number 1)) (left d) d.place (map bit_of c.in_ok-half.half.items, left e, e.place) c.in_ok-half.ensures.read in
+    let third = shorter (times c.args.channels (number 1)) (left d) d.place (map bit_of c.in_ok-half_prob.half_prob.items, left e, e.place) c.in_ok-half_prob.ensures.read in
     let fourth = shorter (times c.count.result (table_fields filter_kind)) (left e) e.place (map (λ t. t) c.in_ok-filters.filters.items, left f, f.place) c.in_ok-filters.ensures.read in
     let few : length (left f) ≤ 2000000 = omega (arith, first, second, third, fourth, c.requires.few) in
     let count : c.count-2.result ≤ 6 = omega (arith, c.count-2.ensures.most, c.count-2.ensures.map.1) in
@@ -88,10 +87,10 @@ returns-in_err-probs-clause-fault c =
     let f = c.read_tables.new.reader in
     let m = c.in_ok-filter_map in
     let filters = map (λ t. t) c.in_ok-filters.filters.items in
-    let gave = subst (λ n. Gave (times n (table_fields filter_kind)) e filters f) c.count.ensures.count c.in_ok-filters.ensures.read in
-    let failed = subst (λ n. Failed (times n (table_fields prob_kind)) f fault) c.count-2.ensures.count c.in_err-probs.ensures.fault in
-    handed_on c.from_residual-in_err-probs.result fault (Failed (header_fields c.args.channels) a) c.from_residual-in_err-probs.ensures.1
-    (probs_fail c.args.channels a b d e f (m.filter_map, m.prob_map) (map bit_of c.in_ok-half.half.items) filters fault c.in_ok-read_both_segments.ensures.read m.ensures.read c.in_ok-half.ensures.read gave failed)
+    let gave = subst (λ n. HasRead (times n (table_fields filter_kind)) e filters f) c.count.ensures.count c.in_ok-filters.ensures.read in
+    let failed = subst (λ n. IsAtFault (times n (table_fields prob_kind)) f fault) c.count-2.ensures.count c.in_err-probs.ensures.fault in
+    handed_on c.from_residual-in_err-probs.result fault (IsAtFault (header_fields c.args.channels) a) c.from_residual-in_err-probs.ensures.1
+    (probs_fail c.args.channels a b d e f (m.filter_map, m.prob_map) (map bit_of c.in_ok-half_prob.half_prob.items) filters fault c.in_ok-read_both_segments.ensures.read m.ensures.read c.in_ok-half_prob.ensures.read gave failed)
 
 pub unwrap-requires : goal.unwrap-requires
 unwrap-requires c =
@@ -100,16 +99,16 @@ unwrap-requires c =
     let f = c.read_tables.new.reader in
     let h = c.read_tables-2.new.reader in
     let m = c.in_ok-filter_map in
-    let half = c.in_ok-half.half.items in
+    let half_prob = c.in_ok-half_prob.half_prob.items in
     let filters = c.in_ok-filters.filters.items in
     let probs = c.in_ok-probs.probs.items in
-    let P = params_of m.filter_map m.prob_map half filters probs in
-    let gave_filters = subst (λ n. Gave (times n (table_fields filter_kind)) e (map (λ t. t) filters) f) c.count.ensures.count c.in_ok-filters.ensures.read in
-    let gave_probs = subst (λ n. Gave (times n (table_fields prob_kind)) f (map (λ t. map pos t) probs) h) c.count-2.ensures.count c.in_ok-probs.ensures.read in
-    let gave = header_gave c.args.channels a c.read_both_segments.new.reader c.read_both_maps.new.reader e f h m.filter_map m.prob_map half filters probs
-    c.in_ok-read_both_segments.ensures.read m.ensures.read c.in_ok-half.ensures.read gave_filters gave_probs in
+    let P = params_of m.filter_map m.prob_map half_prob filters probs in
+    let gave_filters = subst (λ n. HasRead (times n (table_fields filter_kind)) e (map (λ t. t) filters) f) c.count.ensures.count c.in_ok-filters.ensures.read in
+    let gave_probs = subst (λ n. HasRead (times n (table_fields prob_kind)) f (map (λ t. map pos t) probs) h) c.count-2.ensures.count c.in_ok-probs.ensures.read in
+    let gave = header_gave c.args.channels a c.read_both_segments.new.reader c.read_both_maps.new.reader e f h m.filter_map m.prob_map half_prob filters probs
+    c.in_ok-read_both_segments.ensures.read m.ensures.read c.in_ok-half_prob.ensures.read gave_filters gave_probs in
     let is = params_found c.args.channels a h P c.requires.least gave in
-    there_unless c.new.result (IsParams (length half) P) c.new.ensures.none (subst (λ n. IsParams n P) (sym is.half) is)
+    there_unless c.new.result (IsParams (length half_prob) P) c.new.ensures.none (subst (λ n. IsParams n P) (sym is.half_prob) is)
 
 pub returns-clause-read : goal.returns-clause-read
 returns-clause-read c =
@@ -118,13 +117,13 @@ returns-clause-read c =
     let f = c.read_tables.new.reader in
     let h = c.read_tables-2.new.reader in
     let m = c.in_ok-filter_map in
-    let half = c.in_ok-half.half.items in
+    let half_prob = c.in_ok-half_prob.half_prob.items in
     let filters = c.in_ok-filters.filters.items in
     let probs = c.in_ok-probs.probs.items in
-    let P = params_of m.filter_map m.prob_map half filters probs in
-    let gave_filters = subst (λ n. Gave (times n (table_fields filter_kind)) e (map (λ t. t) filters) f) c.count.ensures.count c.in_ok-filters.ensures.read in
-    let gave_probs = subst (λ n. Gave (times n (table_fields prob_kind)) f (map (λ t. map pos t) probs) h) c.count-2.ensures.count c.in_ok-probs.ensures.read in
-    let gave = header_gave c.args.channels a c.read_both_segments.new.reader c.read_both_maps.new.reader e f h m.filter_map m.prob_map half filters probs
-    c.in_ok-read_both_segments.ensures.read m.ensures.read c.in_ok-half.ensures.read gave_filters gave_probs in
+    let P = params_of m.filter_map m.prob_map half_prob filters probs in
+    let gave_filters = subst (λ n. HasRead (times n (table_fields filter_kind)) e (map (λ t. t) filters) f) c.count.ensures.count c.in_ok-filters.ensures.read in
+    let gave_probs = subst (λ n. HasRead (times n (table_fields prob_kind)) f (map (λ t. map pos t) probs) h) c.count-2.ensures.count c.in_ok-probs.ensures.read in
+    let gave = header_gave c.args.channels a c.read_both_segments.new.reader c.read_both_maps.new.reader e f h m.filter_map m.prob_map half_prob filters probs
+    c.in_ok-read_both_segments.ensures.read m.ensures.read c.in_ok-half_prob.ensures.read gave_filters gave_probs in
     let same : c.unwrap.result ≡ P = rw c.unwrap.ensures at c.new.ensures.params in
-    subst (λ Q. Gave (header_fields c.args.channels) a Q h) (sym same) gave
+    subst (λ Q. HasRead (header_fields c.args.channels) a Q h) (sym same) gave

@@ -1,8 +1,9 @@
 use Rattle.std.proofs.Common.{◌≡◌, ◌+◌, ◌∷◌, [], ◌++◌, length, max, refl, ap, sym, subst, ◌∙◌, arith}
-use Rattle.frame_header.specs.Steps.{Failed, element_fields}
+use Rattle.frame_header.specs.Steps.{element_fields}
 use Rattle.frame_header.proofs.Stepping.{handed_on}
 use Rattle.frame_header.proofs.Coming.{NumbersToCome, numbers_start, numbers_more, numbers_fail, numbers_end}
 use Rattle.frame_header.proofs.maps.read_numbers.Goals as goal
+use Rattle.bit_io.specs.Reading.{IsAtFault}
 
 pub loop-channel-init : goal.loop-channel-init
 loop-channel-init c =
@@ -19,7 +20,7 @@ returns-in_err-element-clause-fault c =
     let l = c.loop-channel in
     let fault = c.in_err-element.field-0.0 in
     let old = c.args.reader.now in
-    handed_on c.from_residual.result fault (Failed (element_fields c.args.channels) old) c.from_residual.ensures.1
+    handed_on c.from_residual.result fault (IsAtFault (element_fields c.args.channels) old) c.from_residual.ensures.1
     (numbers_fail c.args.channels old l.reader l.channel l.count l.elements.items fault l.invariant.coming c.loop-channel-test.true c.in_err-element.ensures.fault)
 
 pub loop-channel-preserved : goal.loop-channel-preserved

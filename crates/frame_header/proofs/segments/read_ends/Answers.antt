@@ -1,10 +1,10 @@
 use Rattle.std.proofs.Common.{[], ◌∷◌, ◌++◌, refl, ◌∙◌}
 use Rattle.dst_spec.specs.Fields.{gives, field}
 use Rattle.dst_spec.specs.Offends.{times, end_rule}
-use Rattle.frame_header.specs.Steps.{Failed}
 use Rattle.frame_header.proofs.Stepping.{handed_on}
 use Rattle.frame_header.proofs.Coming.{times_start, times_more, times_fail, times_end}
 use Rattle.frame_header.proofs.segments.read_ends.Goals as goal
+use Rattle.bit_io.specs.Reading.{IsAtFault}
 
 pub loop-passed-init : goal.loop-passed-init
 loop-passed-init c = record { bytes = refl; coming = ([], times_start (field 1 end_rule gives) c.args.count c.args.reader.now) }
@@ -14,7 +14,7 @@ returns-in_err-read_end-clause-fault c =
     let l = c.loop-passed in
     let fault = c.in_err-read_end.field-0.0 in
     let old = c.args.reader.now in
-    handed_on c.from_residual.result fault (Failed (times c.args.count (field 1 end_rule gives)) old) c.from_residual.ensures.1
+    handed_on c.from_residual.result fault (IsAtFault (times c.args.count (field 1 end_rule gives)) old) c.from_residual.ensures.1
     (times_fail (field 1 end_rule gives) c.args.count old l.reader l.passed l.invariant.coming.0 fault l.invariant.coming.1 c.loop-passed-test.true c.in_err-read_end.ensures.fault)
 
 pub loop-passed-preserved : goal.loop-passed-preserved

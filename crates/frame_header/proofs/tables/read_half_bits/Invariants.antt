@@ -8,6 +8,6 @@ use Rattle.frame_header.proofs.tables.read_half_bits.Given as goal
 abbrev pub invariant-loop-channel : goal.invariant-loop-channel
 invariant-loop-channel l = record {
   bytes : l.reader.bytes ≡ l.initial.reader.bytes;
-  long : array_vec_len l.half ≡ l.channel;
-  coming : TimesToCome (number 1) l.channels l.initial.reader l.channel (map bit_of l.half.items) l.reader;
+  long : array_vec_len l.half_prob ≡ l.channel;
+  coming : TimesToCome (number 1) l.channels l.initial.reader l.channel (map bit_of l.half_prob.items) l.reader;
 }

@@ -1,8 +1,7 @@
 use Rattle.std.proofs.Common.{◌≡◌, ◌≤◌, ◌+◌, [], ◌∷◌, ◌++◌, length, map, refl, ap, sym, subst, ◌∙◌, arith}
 use Rattle.std.proofs.lemmas.List.{map-append}
 use Rattle.dst_spec.specs.Offends.{times, table_fields}
-use Rattle.bit_io.specs.Reading.{left}
-use Rattle.frame_header.specs.Steps.{Failed}
+use Rattle.bit_io.specs.Reading.{left, IsAtFault}
 use Rattle.frame_header.proofs.Stepping.{handed_on, shorter}
 use Rattle.frame_header.proofs.Coming.{TimesToCome, times_start, times_more, times_fail, times_end}
 use Rattle.frame_header.proofs.tables.read_tables.Goals as goal
@@ -24,7 +23,7 @@ returns-in_err-table-clause-fault g c =
     let fault = c.in_err-table.field-0.0 in
     let old = c.args.reader.now in
     let m = table_fields g.K.TableKind.kind in
-    handed_on c.from_residual.result fault (Failed (times c.args.count m) old) c.from_residual.ensures.1
+    handed_on c.from_residual.result fault (IsAtFault (times c.args.count m) old) c.from_residual.ensures.1
     (times_fail m c.args.count old l.reader l.read (map g.K.TableKind.values l.tables.items) fault l.invariant.coming c.loop-read-test.true c.in_err-table.ensures.fault)
 
 pub loop-read-preserved : goal.loop-read-preserved

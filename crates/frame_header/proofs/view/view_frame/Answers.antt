@@ -6,8 +6,7 @@ use Rattle.dst_spec.specs.Offends.{Offends, header_fields, plain_frame_fields}
 use Rattle.dst_spec.specs.declared.faults.FrameFault.{FrameFault}
 use Rattle.dst_spec.proofs.Numbers.{length-bits}
 use Rattle.dst_spec.proofs.Meaning.{first_number}
-use Rattle.bit_io.specs.Reading.{left}
-use Rattle.frame_header.specs.Steps.{Gave, Failed}
+use Rattle.bit_io.specs.Reading.{left, HasRead, IsAtFault}
 use Rattle.frame_header.proofs.Stepping.{handed_on}
 use Rattle.frame_header.proofs.Early.{early_reason, early_number, early_header, early_plain_frame}
 use Rattle.frame_header.proofs.Frames.{Starts, first_cut, plain_fails, plain_nowhere, header_fails, IsCodedFrom, coded_from}
@@ -83,7 +82,7 @@ returns-in_err-header-clause-fault c =
     let b = c.read_number.new.reader in
     let starts : Starts c.args.frame.now a = record { bytes = c.new-reader.ensures.bytes; place = c.new-reader.ensures.place } in
     let place : b.place ≡ 1 = c.in_ok-coded.ensures.place ∙ ap (λ i. i + 1) c.new-reader.ensures.place in
-    let failed : Failed (header_fields c.args.channels.channels) b fault = ap (λ i. read (header_fields c.args.channels.channels) (left b) i) place ∙ c.in_err-header.ensures.fault in
+    let failed : IsAtFault (header_fields c.args.channels.channels) b fault = ap (λ i. read (header_fields c.args.channels.channels) (left b) i) place ∙ c.in_err-header.ensures.fault in
     handed_on c.from_residual-in_err-header.result fault (Offends c.args.channels c.args.frame.now) c.from_residual-in_err-header.ensures.1
     (header_fails c.args.channels c.args.frame.now a b c.in_ok-coded.coded fault starts c.in_ok-coded.ensures.read c.if-coded-eq0.false failed)
 
@@ -102,7 +101,7 @@ coded c =
     let h = c.in_ok-header in
     let starts : Starts c.args.frame.now a = record { bytes = c.new-reader.ensures.bytes; place = c.new-reader.ensures.place } in
     let place : b.place ≡ 1 = c.in_ok-coded.ensures.place ∙ ap (λ i. i + 1) c.new-reader.ensures.place in
-    let gave : Gave (header_fields c.args.channels.channels) b h.header.params d =
+    let gave : HasRead (header_fields c.args.channels.channels) b h.header.params d =
     ap (λ i. read (header_fields c.args.channels.channels) (left b) i) place ∙ h.ensures.fields ∙ ap (λ i. Ok (h.header.params, left d, i)) (sym h.ensures.place) in
     let bytes : d.bytes ≡ c.args.frame.now = h.ensures.bytes ∙ c.in_ok-coded.ensures.bytes ∙ c.new-reader.ensures.bytes in
     coded_from c.args.channels c.args.frame.now a b d c.in_ok-coded.coded h.header.params starts c.in_ok-coded.ensures.read c.if-coded-eq0.false gave bytes

@@ -1,9 +1,8 @@
 use Rattle.std.proofs.Common.{◌∙◌}
-use Rattle.std.proofs.lemmas.Result.{err_from_is_err_and}
+use Rattle.std.proofs.lemmas.Result.{err_from_is_err_and, IfOk-weaker, IfErr-weaker}
 use Rattle.dst_spec.specs.Offends.{times, plain_fields, coded_fields, body_fields}
-use Rattle.bit_io.specs.Reading.{left}
-use Rattle.table_code.specs.Parts.{Gives, Refuses}
-use Rattle.table_code.proofs.TableSteps.{bit_stops, bit_0_then, bit_1_then, ok_then, err_then}
+use Rattle.bit_io.specs.Reading.{left, HasRead, IsAtFault}
+use Rattle.table_code.proofs.TableSteps.{bit_stops, bit_0_then, bit_1_then}
 use Rattle.table_code.proofs.reading.read_body.Goals as goal
 
 pub returns-in_err-coded-clause-fault : goal.returns-in_err-coded-clause-fault
@@ -15,24 +14,24 @@ pub returns-then-coded-eq0-clause-values : goal.returns-then-coded-eq0-clause-va
 returns-then-coded-eq0-clause-values g c =
     let K = g.K.TableKind.kind in
     let e = bit_0_then K c.args.count c.in_ok-coded.coded (left c.args.reader.now) (left c.read_number.new.reader) c.args.reader.now.place c.read_number.new.reader.place c.in_ok-coded.ensures.number c.if-coded-eq0.true in
-    ok_then c.read_plain.result (λ v. Gives (times c.args.count (plain_fields K)) c.read_number.new.reader c.read_plain.new.reader v.items) (λ v. Gives (body_fields K c.args.count) c.args.reader.now c.read_plain.new.reader v.items)
+    IfOk-weaker c.read_plain.result (λ v. HasRead (times c.args.count (plain_fields K)) c.read_number.new.reader v.items c.read_plain.new.reader) (λ v. HasRead (body_fields K c.args.count) c.args.reader.now v.items c.read_plain.new.reader)
     (λ v h. e ∙ h) c.read_plain.ensures.values
 
 pub returns-then-coded-eq0-clause-fault : goal.returns-then-coded-eq0-clause-fault
 returns-then-coded-eq0-clause-fault g c =
     let K = g.K.TableKind.kind in
     let e = bit_0_then K c.args.count c.in_ok-coded.coded (left c.args.reader.now) (left c.read_number.new.reader) c.args.reader.now.place c.read_number.new.reader.place c.in_ok-coded.ensures.number c.if-coded-eq0.true in
-    err_then c.read_plain.result (Refuses (times c.args.count (plain_fields K)) c.read_number.new.reader) (Refuses (body_fields K c.args.count) c.args.reader.now) (λ t h. e ∙ h) c.read_plain.ensures.fault
+    IfErr-weaker c.read_plain.result (IsAtFault (times c.args.count (plain_fields K)) c.read_number.new.reader) (IsAtFault (body_fields K c.args.count) c.args.reader.now) (λ t h. e ∙ h) c.read_plain.ensures.fault
 
 pub returns-else-coded-eq0-clause-values : goal.returns-else-coded-eq0-clause-values
 returns-else-coded-eq0-clause-values g c =
     let K = g.K.TableKind.kind in
     let e = bit_1_then K c.args.count c.in_ok-coded.coded (left c.args.reader.now) (left c.read_number.new.reader) c.args.reader.now.place c.read_number.new.reader.place c.in_ok-coded.ensures.number c.if-coded-eq0.false in
-    ok_then c.read_coded.result (λ v. Gives (coded_fields K c.args.count) c.read_number.new.reader c.read_coded.new.reader v.items) (λ v. Gives (body_fields K c.args.count) c.args.reader.now c.read_coded.new.reader v.items)
+    IfOk-weaker c.read_coded.result (λ v. HasRead (coded_fields K c.args.count) c.read_number.new.reader v.items c.read_coded.new.reader) (λ v. HasRead (body_fields K c.args.count) c.args.reader.now v.items c.read_coded.new.reader)
     (λ v h. e ∙ h) c.read_coded.ensures.values
 
 pub returns-else-coded-eq0-clause-fault : goal.returns-else-coded-eq0-clause-fault
 returns-else-coded-eq0-clause-fault g c =
     let K = g.K.TableKind.kind in
     let e = bit_1_then K c.args.count c.in_ok-coded.coded (left c.args.reader.now) (left c.read_number.new.reader) c.args.reader.now.place c.read_number.new.reader.place c.in_ok-coded.ensures.number c.if-coded-eq0.false in
-    err_then c.read_coded.result (Refuses (coded_fields K c.args.count) c.read_number.new.reader) (Refuses (body_fields K c.args.count) c.args.reader.now) (λ t h. e ∙ h) c.read_coded.ensures.fault
+    IfErr-weaker c.read_coded.result (IsAtFault (coded_fields K c.args.count) c.read_number.new.reader) (IsAtFault (body_fields K c.args.count) c.args.reader.now) (λ t h. e ∙ h) c.read_coded.ensures.fault

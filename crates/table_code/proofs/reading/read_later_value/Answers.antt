@@ -25,7 +25,7 @@ returns-in-Some-within_range-clause-value g c =
     let fits_e : SFits w32 c.eighth.result = search rules in
     let is : v ≡ c.in-Some.residual -ℤ eighth (K.weights c.args.method) (reverse c.args.earlier.now) =
     omega (arith, ints, c.in-Some-within_range.ensures.value, c.from.ensures, c.from-2.ensures, c.eighth.ensures.eighth) in
-    let keeps = ap (range_rule K) c.in-Some-within_range.ensures.value ∙ c.in-Some-within_range.ensures.kept in
+    let keeps = ap (range_rule K) c.in-Some-within_range.ensures.value ∙ c.in-Some-within_range.ensures.met in
     rw (to_z-of_z w32 v fits, c.in-Some.ensures.rest, c.in-Some.ensures.place)
     (later_given K (K.weights c.args.method) c.args.m (reverse c.args.earlier.now) (left c.args.reader.now) c.args.reader.now.place c.in-Some.residual v c.in-Some.ensures.enough c.in-Some.ensures.residual is keeps)
 
@@ -33,7 +33,7 @@ pub returns-in-Some-within_range-clause-range : goal.returns-in-Some-within_rang
 returns-in-Some-within_range-clause-range g c =
     let K = g.K.TableKind.kind in
     let fits : SFits w32 c.in-Some-within_range.value = search rules in
-    let keeps = ap (range_rule K) c.in-Some-within_range.ensures.value ∙ c.in-Some-within_range.ensures.kept in
+    let keeps = ap (range_rule K) c.in-Some-within_range.ensures.value ∙ c.in-Some-within_range.ensures.met in
     rw (to_z-of_z w32 c.in-Some-within_range.value fits) (InRange-range_rule K c.in-Some-within_range.value keeps)
 
 pub returns-in-None-clause-fault : goal.returns-in-None-clause-fault

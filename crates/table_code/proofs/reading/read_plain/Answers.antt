@@ -6,7 +6,7 @@ use mir.Syntax.{w32}
 use Rattle.std.specs.List.{AllByRecursion}
 use Rattle.dst_spec.specs.Table.{InRange}
 use Rattle.dst_spec.specs.Fields.{read}
-use Rattle.dst_spec.proofs.Each.{all_append}
+use Rattle.dst_spec.proofs.Lists.{all_append}
 use Rattle.bit_io.specs.Reading.{left}
 use Rattle.table_code.specs.Parts.{plain_rest}
 use Rattle.table_code.proofs.GoingOn.{plain_begins, plain_next, plain_stops, plain_ends}

@@ -7,8 +7,9 @@ use Rattle.dst_spec.specs.Table.{InRange}
 use Rattle.dst_spec.specs.Fields.{gives, any}
 use Rattle.dst_spec.specs.Offends.{value_of}
 use Rattle.bit_io.specs.Reading.{left}
-use Rattle.table_code.proofs.FieldSteps.{as_field, as_cut_field, read-gives}
+use Rattle.table_code.proofs.FieldSteps.{as_field, as_cut_field}
 use Rattle.table_code.proofs.reading.read_plain_value.Goals as goal
+use Rattle.dst_spec.proofs.Meaning.{read-gives}
 
 pub returns-in_err-number-clause-fault : goal.returns-in_err-number-clause-fault
 returns-in_err-number-clause-fault g c =

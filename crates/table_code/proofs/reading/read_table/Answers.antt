@@ -3,9 +3,9 @@ use Rattle.dst_spec.specs.Bits.{bits}
 use Rattle.dst_spec.specs.Table.{IsTable}
 use Rattle.dst_spec.proofs.Numbers.{AreBits-bits}
 use Rattle.bit_io.specs.Reading.{left}
-use Rattle.table_code.proofs.Runs.{AreBits-drop}
 use Rattle.table_code.proofs.TableSpelled.{table_spelled}
 use Rattle.table_code.proofs.reading.read_table.Goals as goal
+use Rattle.dst_spec.proofs.Lists.{AreBits-drop}
 
 pub unreachable-requires : goal.unreachable-requires
 unreachable-requires g c =

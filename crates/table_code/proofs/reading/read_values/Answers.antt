@@ -1,12 +1,11 @@
 use Rattle.std.proofs.Common.{◌≡◌, ◌+◌, ◌∙◌, [], ◌∷◌, ◌++◌, rules, sym}
-use Rattle.std.proofs.lemmas.Result.{err_from_is_err_and}
+use Rattle.std.proofs.lemmas.Result.{err_from_is_err_and, IfOk-weaker, IfErr-weaker}
 use Rattle.std.proofs.lemmas.Int.{to_z-of_z}
 use mir.Val.{SFits}
 use mir.Syntax.{w32}
 use Rattle.dst_spec.specs.Offends.{body_fields, table_fields}
-use Rattle.bit_io.specs.Reading.{left}
-use Rattle.table_code.specs.Parts.{Gives, Refuses}
-use Rattle.table_code.proofs.TableSteps.{length_stops, length_alone, length_then, ok_then, err_then}
+use Rattle.bit_io.specs.Reading.{left, HasRead, IsAtFault}
+use Rattle.table_code.proofs.TableSteps.{length_stops, length_alone, length_then}
 use Rattle.table_code.proofs.reading.read_values.Goals as goal
 
 pub returns-in_err-longer-clause-fault : goal.returns-in_err-longer-clause-fault
@@ -33,7 +32,7 @@ returns-clause-values g c =
     let width : c.LENGTH_BITS.result ≡ K.length_bits = c.LENGTH_BITS.ensures ∙ g.met.K.TableKind.length_bits in
     let number = rw width at c.in_ok-longer.ensures.number in
     let e = length_then K c.in_ok-longer.longer (left c.args.reader.now) (left c.read_number.new.reader) c.args.reader.now.place c.read_number.new.reader.place number (sym c.is_alone.ensures ∙ c.if-is_alone.false) in
-    ok_then c.read_body.result (λ v. Gives (body_fields K (c.in_ok-longer.longer + 1)) c.read_number.new.reader c.read_body.new.reader v.items) (λ v. Gives (table_fields K) c.args.reader.now c.read_body.new.reader v.items)
+    IfOk-weaker c.read_body.result (λ v. HasRead (body_fields K (c.in_ok-longer.longer + 1)) c.read_number.new.reader v.items c.read_body.new.reader) (λ v. HasRead (table_fields K) c.args.reader.now v.items c.read_body.new.reader)
     (λ v h. e ∙ h) c.read_body.ensures.values
 
 pub returns-clause-fault : goal.returns-clause-fault
@@ -42,4 +41,4 @@ returns-clause-fault g c =
     let width : c.LENGTH_BITS.result ≡ K.length_bits = c.LENGTH_BITS.ensures ∙ g.met.K.TableKind.length_bits in
     let number = rw width at c.in_ok-longer.ensures.number in
     let e = length_then K c.in_ok-longer.longer (left c.args.reader.now) (left c.read_number.new.reader) c.args.reader.now.place c.read_number.new.reader.place number (sym c.is_alone.ensures ∙ c.if-is_alone.false) in
-    err_then c.read_body.result (Refuses (body_fields K (c.in_ok-longer.longer + 1)) c.read_number.new.reader) (Refuses (table_fields K) c.args.reader.now) (λ t h. e ∙ h) c.read_body.ensures.fault
+    IfErr-weaker c.read_body.result (IsAtFault (body_fields K (c.in_ok-longer.longer + 1)) c.read_number.new.reader) (IsAtFault (table_fields K) c.args.reader.now) (λ t h. e ∙ h) c.read_body.ensures.fault

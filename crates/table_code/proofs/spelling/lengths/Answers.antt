@@ -4,7 +4,7 @@ use Rattle.std.proofs.lemmas.List.Sums.{sum_by_more}
 use mir.Val.{SFits}
 use mir.Syntax.{w32}
 use Rattle.dst_spec.specs.Rice.{rice}
-use Rattle.dst_spec.proofs.Each.{get_all}
+use Rattle.dst_spec.proofs.Lists.{get_all}
 use Rattle.table_code.specs.Choices.{IsResidual}
 use Rattle.table_code.proofs.Lengths.{rice_most}
 use Rattle.table_code.proofs.spelling.lengths.Goals as goal

@@ -4,7 +4,7 @@ use Rattle.std.specs.List.{AllByRecursion}
 use mir.Val.{SFits}
 use mir.Syntax.{w32}
 use Rattle.dst_spec.specs.Table.{InRange, eighth}
-use Rattle.dst_spec.proofs.Each.{get_all, all_append}
+use Rattle.dst_spec.proofs.Lists.{get_all, all_append}
 use Rattle.table_code.specs.Choices.{residuals, IsResidual}
 use Rattle.table_code.proofs.Weighing.{abs_most}
 use Rattle.table_code.proofs.Lengths.{residuals_next}

@@ -2,7 +2,7 @@ use Rattle.std.proofs.Common.{arith}
 use Rattle.std.proofs.lemmas.List.{length-drop}
 use Rattle.dst_spec.specs.Bits.{bits}
 use Rattle.dst_spec.proofs.Numbers.{length-bits, AreBits-bits}
-use Rattle.bit_io.proofs.BitLists.{AreBits-drop}
+use Rattle.dst_spec.proofs.Lists.{AreBits-drop}
 use Rattle.bit_io.proofs.reader.BitReader.left.Goals as goal
 
 pub returns-clause-left : goal.returns-clause-left

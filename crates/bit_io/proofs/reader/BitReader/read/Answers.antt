@@ -3,7 +3,7 @@ use Rattle.std.proofs.lemmas.List.{drop-drop}
 use Rattle.dst_spec.specs.Bits.{bits, low_bits}
 use Rattle.dst_spec.proofs.Numbers.{AreBits-bits}
 use Rattle.dst_spec.proofs.Taking.{front-low_bits}
-use Rattle.bit_io.proofs.BitLists.{AreBits-drop}
+use Rattle.dst_spec.proofs.Lists.{AreBits-drop}
 use Rattle.bit_io.proofs.Windows.{number_left}
 use Rattle.bit_io.proofs.reader.BitReader.read.Goals as goal
 

@@ -20,4 +20,4 @@ invariant_of-self c =
       newest = c.fill_near.ensures;
       sizes = c.size_of_all-self-inside.ensures;
     } in
-    subst (λ t. HasRows t c.fill_rows.new.rows c.fill_near.new.near c.size_of_all-self-inside.result) (sym c.kept-self-inside.ensures) rule
+    subst (λ t. HasRows t c.fill_rows.new.rows c.fill_near.new.near c.size_of_all-self-inside.result) (sym c.with_zeros-self-inside.ensures) rule

@@ -6,7 +6,7 @@ use Rattle.dst_frames.specs.Tables.{IsEntry}
 use Rattle.dst_frames.proofs.state.ChannelState.fresh.Goals as goal
 
 pub returns : goal.returns
-returns c = λ filter probs half built.
+returns c = λ filter probs half_prob built.
     let samples = samples_of (replicate 16 170) in
     let fresh = c.fresh-ahead.ensures in
     let sum = sym (c.upward-upward.ensures samples fresh ∙ ap (λ coefs. upward_sum coefs samples) built.filter_is) in

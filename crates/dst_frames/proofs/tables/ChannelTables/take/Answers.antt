@@ -3,7 +3,7 @@ use Rattle.byte_predictor.specs.Samples.{signed_sum}
 use Rattle.byte_predictor.specs.Upward.{upward_sum}
 use Rattle.dst_frames.specs.Tables.{IsEntry}
 use Rattle.dst_frames.proofs.tables.ChannelTables.take.Goals as goal
-use Rattle.dst_frames.proofs.tables.ChannelTables.take.Goals.{then-half, else-half}
+use Rattle.dst_frames.proofs.tables.ChannelTables.take.Goals.{then-half_prob, else-half_prob}
 
 pub returns : goal.returns
 returns c =
@@ -11,10 +11,10 @@ returns c =
     let probs = c.args.probs.now in
     let P : List ℤ → List ℕ → Type 0 = λ coefs table. (samples : List ℕ) → 128 ≤ length samples → IsEntry (signed_sum coefs samples) table (get_or c.fill_entries.new.entries (upward_sum coefs samples) 0) in
     let coefs_are = c.coefs-length.ensures.coefs in
-    let early : c.if-half.self ≡ (if c.args.half then length filter else 0) =
-    elim c.if-half.branch [
-      | then-half w ↦ w.self-is ∙ ap length coefs_are ∙ sym (ap (λ b. if b then length filter else 0) w.if-half.true)
-      | else-half w ↦ w.self-is ∙ sym (ap (λ b. if b then length filter else 0) w.if-half.false)
+    let early : c.if-half_prob.self ≡ (if c.args.half_prob then length filter else 0) =
+    elim c.if-half_prob.branch [
+      | then-half_prob w ↦ w.self-is ∙ ap length coefs_are ∙ sym (ap (λ b. if b then length filter else 0) w.if-half_prob.true)
+      | else-half_prob w ↦ w.self-is ∙ sym (ap (λ b. if b then length filter else 0) w.if-half_prob.false)
     ] in
     record {
       filter_is = c.build.ensures;

@@ -1,7 +1,8 @@
 use Rattle.std.proofs.Common.{◌≡◌, ◌+◌, ◌≤◌, get_or, max, refl, rules, arith}
 use Rattle.dst_num.specs.Map.{IsChannelMap}
-use Rattle.dst_num.proofs.MapRules.{numbers_on, numbers_back, numbers_end}
+use Rattle.dst_num.proofs.MapRules.{numbers_back, numbers_end}
 use Rattle.dst_num.proofs.map.Map.new.Goals as goal
+use Rattle.dst_spec.proofs.MapNumbers.{numbers_on}
 
 pub returns-then-from-count-clause-none : goal.returns-then-from-count-clause-none
 returns-then-from-count-clause-none c h =

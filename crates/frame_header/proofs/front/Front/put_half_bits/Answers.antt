@@ -12,10 +12,10 @@ byte false = refl
 pub loop-bit-preserved : goal.loop-bit-preserved
 loop-bit-preserved c =
     let l = c.loop-bit in
-    let half = c.args.half.now in
-    let b = get_or half l.bit-index false in
+    let half_prob = c.args.half_prob.now in
+    let b = get_or half_prob l.bit-index false in
     let bit : c.from.result ≡ bit_of b = c.from.ensures ∙ byte b in
     record {
-      whole = half_step c.args.self.now l.self c.put.new.self half l.bit-index b c.loop-bit-test.true refl (c.put.ensures.bits ∙ ap (λ v. l.self ++ low_bits 1 v) bit) l.invariant.whole;
+      whole = half_step c.args.self.now l.self c.put.new.self half_prob l.bit-index b c.loop-bit-test.true refl (c.put.ensures.bits ∙ ap (λ v. l.self ++ low_bits 1 v) bit) l.invariant.whole;
       long = c.put.ensures.length ∙ omega (arith, l.invariant.long);
     }

@@ -10,9 +10,9 @@ told_once old mid next a b same first put =
     put ∙ ap (λ xs. xs ++ map_spelling a) first ∙ append_assoc old (1 ∷ []) (map_spelling a)
     ∙ ap (λ x. old ++ cond x (1 ∷ map_spelling a) (0 ∷ map_spelling a ++ map_spelling b)) (sym same)
 
-told_twice : (old mid half next a b : List ℕ) → same_numbers a b ≡ false → mid ≡ old ++ low_bits 1 0 → half ≡ mid ++ map_spelling a → next ≡ half ++ map_spelling b → next ≡ old ++ both_maps_spelling a b
+told_twice : (old mid half_prob next a b : List ℕ) → same_numbers a b ≡ false → mid ≡ old ++ low_bits 1 0 → half_prob ≡ mid ++ map_spelling a → next ≡ half_prob ++ map_spelling b → next ≡ old ++ both_maps_spelling a b
 unfolding low_bits
-told_twice old mid half next a b differ first put second =
+told_twice old mid half_prob next a b differ first put second =
     second
     ∙ ap (λ xs. xs ++ map_spelling b) (put ∙ ap (λ xs. xs ++ map_spelling a) first ∙ append_assoc old (0 ∷ []) (map_spelling a))
     ∙ append_assoc old (0 ∷ map_spelling a) (map_spelling b)

@@ -1,24 +1,25 @@
 use Rattle.std.proofs.Common.{◌≡◌, ◌+◌, ◌<◌, ◌≤◌, ◌++◌, max, get_or, ap₂, ◌∙◌, arith}
 use Rattle.dst_spec.specs.Bits.{low_bits}
 use Rattle.dst_spec.specs.Map.{map_bits}
-use Rattle.frame_header.proofs.SpelledMaps.{number_fits, number_at, numbers_step, numbers_done}
+use Rattle.frame_header.proofs.SpelledMaps.{numbers_step, numbers_done}
 use Rattle.frame_header.proofs.front.Front.put_numbers.Goals as goal
+use Rattle.dst_spec.proofs.MapNumbers.{number-fits, numbers_on}
 
 pub put-requires-clause-fits : goal.put-requires-clause-fits
 put-requires-clause-fits c =
     let l = c.loop-element in
     let es = c.args.elements.now in
     let e = get_or es l.element-index 0 in
-    let at = number_at es l.element-index l.count c.loop-element-test.true l.invariant.numbers in
+    let at = numbers_on es l.element-index l.count c.loop-element-test.true l.invariant.numbers in
     let few : l.count < 8 = omega (arith, l.invariant.count, c.loop-element-test.true, c.requires.few) in
-    rw (c.from.ensures, c.map_bits.ensures.bits) (number_fits l.count e at.0 few)
+    rw (c.from.ensures, c.map_bits.ensures.bits) (number-fits l.count e at.0 few)
 
 pub loop-element-preserved : goal.loop-element-preserved
 loop-element-preserved c =
     let l = c.loop-element in
     let es = c.args.elements.now in
     let e = get_or es l.element-index 0 in
-    let at = number_at es l.element-index l.count c.loop-element-test.true l.invariant.numbers in
+    let at = numbers_on es l.element-index l.count c.loop-element-test.true l.invariant.numbers in
     let next : c.max-count.result ≡ max l.count (e + 1) = grind (arith, c.max-count.ensures, c.from-in-loop-element.ensures) in
     let put : c.put.new.self ≡ l.self ++ low_bits (map_bits l.count) e = c.put.ensures.bits ∙ ap₂ (λ n v. l.self ++ low_bits n v) c.map_bits.ensures.bits c.from.ensures in
     let first : e ≤ l.count = at.0 in

@@ -2,8 +2,9 @@ use Rattle.std.proofs.Common.{◌≡◌, ◌+◌, ◌-◌, ◌*◌, ◌/◌, ◌
 use Rattle.std.proofs.lemmas.Nat.{one_shl}
 use Rattle.dst_spec.specs.Bits.{low_bits}
 use Rattle.dst_spec.proofs.Numbers.{length-low_bits}
-use Rattle.frame_header.proofs.LowBits.{low_bits-parts, low_bits-rest, below-above}
+use Rattle.frame_header.proofs.LowBits.{below-above}
 use Rattle.frame_header.proofs.front.Front.write.Goals as goal
+use Rattle.dst_spec.proofs.LowBits.{low_bits-split, low_bits-mod}
 
 pub put-requires-clause-fits : goal.put-requires-clause-fits
 put-requires-clause-fits c =
@@ -28,9 +29,9 @@ returns c =
     let left = a.room first in
     let second = b.written.1 (omega (arith, long, left, c.requires)) in
     let one : 1 * 2 ^ low % 2 ^ 64 ≡ 2 ^ low = one_shl low 64 small in
-    let rest : low_bits low (f.number % (1 * 2 ^ low % 2 ^ 64)) ≡ low_bits low f.number = ap (λ k. low_bits low (f.number % k)) one ∙ low_bits-rest low f.number in
+    let rest : low_bits low (f.number % (1 * 2 ^ low % 2 ^ 64)) ≡ low_bits low f.number = ap (λ k. low_bits low (f.number % k)) one ∙ low_bits-mod low f.number in
     let whole : low_bits high (f.number / 2 ^ low) ++ low_bits low f.number ≡ c.args.self.now =
-    sym (low_bits-parts high low f.number) ∙ ap (λ n. low_bits n f.number) sum ∙ c.self.view_is in
+    sym (low_bits-split high low f.number) ∙ ap (λ n. low_bits n f.number) sum ∙ c.self.view_is in
     record {
       bits = b.bits second ∙ ap₂ (λ xs ys. xs ++ ys) (a.bits first) rest ∙ append_assoc w.bits (low_bits high (f.number / 2 ^ low)) (low_bits low f.number) ∙ ap (λ xs. w.bits ++ xs) whole;
       room = omega (arith, long, left, b.room second);

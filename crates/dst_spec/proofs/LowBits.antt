@@ -1,8 +1,8 @@
 -- The low bits of numbers, in parts.
-use Rattle.std.proofs.Common.{◌≡◌, ℕ, zero, suc, ◌+◌, ◌*◌, ◌/◌, ◌%◌, ◌^◌, ◌<◌, List, [], ◌∷◌, ◌++◌, replicate, drop, refl, ap, sym, ◌∙◌, arith}
+use Rattle.std.proofs.Common.{◌≡◌, ℕ, zero, suc, ◌+◌, ◌*◌, ◌/◌, ◌%◌, ◌^◌, ◌<◌, ◌++◌, replicate, refl, ap, sym, ◌∙◌, arith}
 use Rattle.std.proofs.lemmas.Nat.{shr-shr, shr_high, shr_split}
 use Rattle.std.proofs.Math.Nat.{zero-div}
-use Rattle.dst_spec.specs.Bits.{low_bits, AreBits}
+use Rattle.dst_spec.specs.Bits.{low_bits}
 use Rattle.dst_spec.proofs.Numbers.{low_bits-high}
 
 -- m bits and n bits behind them
@@ -33,8 +33,3 @@ low_bits-zero zero = refl
 low_bits-zero (suc n) =
     let top : 0 / 2 ^ n % 2 ≡ 0 = omega (arith, zero-div (2 ^ n)) in
     rw (top, low_bits-zero n) refl
-
-pub AreBits-drop : (n : ℕ) (xs : List ℕ) → AreBits xs → AreBits (drop n xs)
-AreBits-drop zero xs h = h
-AreBits-drop (suc n) [] h = h
-AreBits-drop (suc n) (x ∷ xs) h = AreBits-drop n xs h.1
