@@ -1,7 +1,6 @@
 pub mod Begun
 pub mod Faults
 pub mod Gaps
-pub mod Masks
 pub mod Parting
 pub mod Ready
 pub mod Registers

@@ -2,8 +2,9 @@
 use Rattle.std.proofs.Common.{◌≡◌, ℕ, ◌+◌, ◌-◌, ◌*◌, ◌/◌, ◌%◌, ◌^◌, ◌<◌, ◌≤◌, Bool, true, false, not, nat_lt, if◌then◌else◌, refl, ap, ◌∙◌, arith, ltb-true, ltb-false, lt-ltb, le-ltb}
 use Rattle.std.proofs.lemmas.Nat.{mul-le}
 use Rattle.std.specs.Bool.{FalseIff}
-use Rattle.arith_decoder.specs.Registers.{IsRange, IsCut, IsStep, due, value_below}
+use Rattle.arith_decoder.specs.Registers.{IsCut, IsStep, due, value_below}
 use Rattle.arith_decoder.proofs.Steps.{before, step_is, value_behind, range_behind}
+use Rattle.arith_core.specs.Range.{IsRange}
 
 -- the gap behind a symbol, before its last doubling
 abbrev pub gap_behind : Bool → ℕ → ℕ → ℕ → ℕ
@@ -34,7 +35,7 @@ gap_is false gap part factor rest small most fits rest_fits is value =
     let large : part * 4503599627370496 ≤ gap = ltb-false gap (part * 4503599627370496) is in
     omega arith
 
--- The gap shows the symbol, as the kept number does.
+-- The gap shows the symbol, as the offset does.
 pub shown : (zero : Bool) (range gap part : ℕ) → part ≤ range → gap ≤ range * 2 ^ 52 → 0 < gap % 2 ^ 52 → nat_lt gap (part * 2 ^ 52) ≡ zero →
     nat_lt (value_below range gap / 2 ^ 52) (range - part) ≡ not zero
 shown true range gap part some within odd is =

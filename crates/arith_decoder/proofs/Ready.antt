@@ -4,10 +4,11 @@ use Rattle.std.specs.Int.{trailing_zeros, w64}
 use Rattle.dst_spec.specs.Bits.{bits}
 use Rattle.dst_spec.proofs.Numbers.{AreBits-bits}
 use Rattle.arith_decoder.specs.Decoding.{Decoding, StandsFor}
-use Rattle.arith_decoder.specs.Registers.{IsValue, IsRange, IsStep, AreRegisters}
-use Rattle.arith_decoder.proofs.Registers.{kept_of, zeros_of, few_zeros}
+use Rattle.arith_decoder.specs.Registers.{IsValue, IsStep, AreRegisters}
+use Rattle.arith_decoder.proofs.Registers.{offset_of, zeros_of, few_zeros}
 use Rattle.arith_decoder.proofs.Standing.{StandsFor-next}
 use Rattle.arith_decoder.proofs.Stepping.{stepped, decoding}
+use Rattle.arith_core.specs.Range.{IsRange}
 
 -- the registers hold enough bits for a symbol
 pub record IsReady (bytes : List ℕ) (first used place value range : ℕ) : Type 0 where
@@ -24,13 +25,13 @@ ready_as_it_is bytes first used place value range r h =
 pub ready_refilled : (bytes : List ℕ) (first used place value range more : ℕ) → AreRegisters bytes first used place value range →
     IsValue (bits bytes) (first + used) (place + 32) (value / 2 ^ 52) more → (more / 2 ^ 52 ≡ value / 2 ^ 52) × IsReady bytes first used (place + 32) more range
 ready_refilled bytes first used place value range more r v =
-    let kept = kept_of (bits bytes) (first + used) (place + 32) (value / 2 ^ 52) more (AreBits-bits bytes) v in
+    let offset = offset_of (bits bytes) (first + used) (place + 32) (value / 2 ^ 52) more (AreBits-bits bytes) v in
     let reach = v.reach in
     let full = v.full in
     let was = r.holds.reach in
     let were = r.holds.full in
     let below = r.below in
-    (kept, record { below = omega arith; holds = rw kept v; enough = omega arith })
+    (offset, record { below = omega arith; holds = rw offset v; enough = omega arith })
 
 -- behind a symbol
 pub record IsBehind (bytes : List ℕ) (first used place : ℕ) (before after : Decoding) (p : ℕ) (symbol : Bool) (value range : ℕ) : Type 0 where
@@ -44,7 +45,7 @@ pub behind : (bytes : List ℕ) (first used place value range p : ℕ) (symbol :
     length bytes ≤ 2 ^ 50 → first < 2 ^ 61 → 13 ≤ used → used ≤ 2 ^ 40 → value_after < 18446744073709551616 → IsRange range → IsReady bytes first used place value range →
     IsStep p value range symbol value_after range_after →
     IsBehind bytes first used place (decoding bytes first range value used)
-    (record { bytes = bytes; first = first; range = range_after; kept = value_after / 2 ^ 52; used = place + trailing_zeros w64 value_after - 51 - first })
+    (record { bytes = bytes; first = first; range = range_after; offset = value_after / 2 ^ 52; used = place + trailing_zeros w64 value_after - 51 - first })
     p symbol value_after range_after
 behind bytes first used place value range p symbol value_after range_after short early some small fits in_range r s =
     let t = stepped bytes first used place value range p symbol value_after range_after in_range r.holds r.enough s in

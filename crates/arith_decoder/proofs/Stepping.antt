@@ -3,15 +3,16 @@ use Rattle.std.proofs.Common.{◌≡◌, ℕ, ◌+◌, ◌-◌, ◌*◌, ◌/◌
 use Rattle.dst_spec.specs.Bits.{bits, number_from}
 use Rattle.dst_spec.proofs.Numbers.{AreBits-bits}
 use Rattle.arith_decoder.specs.Decoding.{Decoding}
-use Rattle.arith_decoder.specs.Registers.{IsValue, IsRange, IsStep, high_end}
-use Rattle.arith_decoder.proofs.Registers.{kept_of, value-doubled}
+use Rattle.arith_decoder.specs.Registers.{IsValue, IsStep, high_end}
+use Rattle.arith_decoder.proofs.Registers.{offset_of, value-doubled}
 use Rattle.arith_decoder.proofs.Standing.{IsNext}
+use Rattle.arith_core.specs.Range.{IsRange}
 
 -- what the decoder was, and what it becomes
 abbrev pub decoding : List ℕ → ℕ → ℕ → ℕ → ℕ → Decoding
-decoding bytes first range kept used = record { bytes = bytes; first = first; range = range; kept = kept / 2 ^ 52; used = used }
+decoding bytes first range offset used = record { bytes = bytes; first = first; range = range; offset = offset / 2 ^ 52; used = used }
 
--- what a symbol takes from the kept number
+-- what a symbol takes from the offset
 abbrev pub taken : Bool → ℕ → ℕ
 taken true h = 0
 taken false h = h
@@ -33,11 +34,11 @@ stepped bytes first used place value range p symbol value_after range_after r v 
     let h = high_end range p in
     let le : taken symbol h ≤ value / 2 ^ 52 = low_le symbol h s.chosen in
     let moved = value-doubled (bits bytes) (first + used) place (value / 2 ^ 52) value (taken symbol h) k le v (omega (arith, s.few)) in
-    let kept = (value / 2 ^ 52 - taken symbol h) * 2 ^ k + number_from (bits bytes) (first + used) k in
+    let offset = (value / 2 ^ 52 - taken symbol h) * 2 ^ k + number_from (bits bytes) (first + used) k in
     let value_is : value_after ≡ (value - taken symbol h * 2 ^ 52) * 2 ^ k = s.value_is ∙ ap (λ x. x * 2 ^ k) (value_low symbol h) in
     let at : first + used + k ≡ first + (used + k) = omega arith in
-    let holds : IsValue (bits bytes) (first + (used + k)) place kept value_after = rw (value_is, ← at) moved in
-    let kept_is = kept_of (bits bytes) (first + (used + k)) place kept value_after (AreBits-bits bytes) holds in
+    let holds : IsValue (bits bytes) (first + (used + k)) place offset value_after = rw (value_is, ← at) moved in
+    let offset_is = offset_of (bits bytes) (first + (used + k)) place offset value_after (AreBits-bits bytes) holds in
     let after = s.after in
     let below = s.below in
     record {
@@ -48,14 +49,14 @@ stepped bytes first used place value range p symbol value_after range_after r v 
         few = s.few;
         bytes = refl;
         first = refl;
-        kept = kept_is ∙ kept_low symbol h;
+        offset = offset_is ∙ offset_low symbol h;
         range = s.range_is;
         used = refl;
         least = after.least;
         most = after.most;
         below = omega arith;
       };
-      holds = rw kept_is holds;
+      holds = rw offset_is holds;
     }
   where
     low_le : (e : Bool) (h : ℕ) → e ≡ nat_lt (value / 2 ^ 52) h → taken e h ≤ value / 2 ^ 52
@@ -66,7 +67,7 @@ stepped bytes first used place value range p symbol value_after range_after r v 
     value_low true h = omega arith
     value_low false h = refl
 
-    kept_low : (e : Bool) (h : ℕ) → (value / 2 ^ 52 - taken e h) * 2 ^ s.doublings + number_from (bits bytes) (first + used) s.doublings
+    offset_low : (e : Bool) (h : ℕ) → (value / 2 ^ 52 - taken e h) * 2 ^ s.doublings + number_from (bits bytes) (first + used) s.doublings
         ≡ (if e then (value / 2 ^ 52) else (value / 2 ^ 52 - h)) * 2 ^ s.doublings + number_from (bits bytes) (first + used) s.doublings
-    kept_low true h = ap (λ x. x * 2 ^ s.doublings + number_from (bits bytes) (first + used) s.doublings) (less_none (value / 2 ^ 52))
-    kept_low false h = refl
+    offset_low true h = ap (λ x. x * 2 ^ s.doublings + number_from (bits bytes) (first + used) s.doublings) (less_none (value / 2 ^ 52))
+    offset_low false h = refl

@@ -3,8 +3,9 @@ use Rattle.std.proofs.Common.{◌≡◌, ℕ, ◌+◌, ◌-◌, ◌*◌, ◌/◌
 use Rattle.std.proofs.lemmas.Nat.{pow-add, pow_pos, mul-le}
 use Rattle.dst_spec.specs.Interval.{scale}
 use Rattle.dst_spec.proofs.Intervals.{scale-least, scale-below}
-use Rattle.arith_decoder.specs.Registers.{IsRange, IsCut, IsStep, due, high_end}
-use Rattle.arith_decoder.proofs.Masks.{high_least}
+use Rattle.arith_decoder.specs.Registers.{IsCut, IsStep, due, high_end}
+use Rattle.arith_core.specs.Range.{IsRange}
+use Rattle.arith_core.proofs.Masks.{high_least}
 
 -- At least a quarter of what fits, doubled once where it is below a half.
 pub record IsDoubled (range value range_after value_after : ℕ) : Type 0 where
@@ -52,12 +53,14 @@ pub before : (p value range part factor : ℕ) → p ≤ 128 → IsRange range �
 before p value range part factor k r n =
     let s = scale range in
     let f = n.factor_is in
+    let half : 128 ≤ p * factor = rw f.power f.shifted.least in
+    let whole : p * factor < 256 = rw f.power f.shifted.most in
     let eight : 8 ≤ s = scale-least range r.least in
     let fifteen : s < 16 = scale-below range r.most in
     record {
       small = rw n.part_is (high_least range p r.least k);
-      least = rw n.part_is (omega (arith, mul-le 8 128 s (p * factor) eight f.least));
-      most = rw n.part_is (omega (arith, mul-le s (p * factor) 15 255 (omega arith) (omega (arith, f.most))));
+      least = rw n.part_is (omega (arith, mul-le 8 128 s (p * factor) eight half));
+      most = rw n.part_is (omega (arith, mul-le s (p * factor) 15 255 (omega arith) (omega arith)));
       high = ap (λ x. range - x) (sym n.part_is);
       some = rw f.power (omega (arith, pow_pos f.shift));
     }
@@ -78,7 +81,7 @@ value_behind symbol value high factor = if symbol then value else ((value - high
 abbrev pub range_behind : Bool → ℕ → ℕ → ℕ
 range_behind symbol high low = if symbol then high else low
 
--- the kept number lies below the high end, or else the value has it
+-- the offset lies below the high end, or else the value has it
 below_high : (value h : ℕ) → nat_lt (value / 2 ^ 52) h ≡ true → value < h * 2 ^ 52
 below_high value h e =
     let lt : value / 2 ^ 52 < h = ltb-true (value / 2 ^ 52) h e in
@@ -124,7 +127,7 @@ finished p value range part factor false r2 y2 n high chosen d =
     record {
       chosen = chosen ∙ ap (nat_lt (value / 2 ^ 52)) (sym high);
       doublings = f.shift + d.doublings;
-      few = omega (arith, f.few, d.few);
+      few = omega (arith, f.shifted.few, d.few);
       value_is = d.value_is ∙ ap (λ x. (value - (range - part) * 2 ^ 52) * x * 2 ^ d.doublings) f.power ∙ both (value - (range - part) * 2 ^ 52) (2 ^ f.shift) (2 ^ d.doublings) (2 ^ (f.shift + d.doublings)) power
           ∙ ap (λ x. (value - x * 2 ^ 52) * 2 ^ (f.shift + d.doublings)) (sym high);
       range_is = d.range_is ∙ ap (λ x. x * 2 ^ d.doublings) (ap (λ x. x * factor) n.part_is ∙ ap (λ x. scale range * p * x) f.power) ∙ both (scale range * p) (2 ^ f.shift) (2 ^ d.doublings) (2 ^ (f.shift + d.doublings)) power;

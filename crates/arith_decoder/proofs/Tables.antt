@@ -1,15 +1,15 @@
 -- The scales of ranges, and the parts and factors of probabilities.
-use Rattle.std.proofs.Common.{◌≡◌, ℕ, suc, ◌+◌, ◌-◌, ◌*◌, ◌/◌, ◌%◌, ◌^◌, ◌<◌, ◌≤◌, bit_or, if◌then◌else◌, refl, ap, ap₂, sym, ◌∙◌, arith, Bool, true, false, List, map, take, drop, length, nat_lt, nat_eq, get_or, ltb-true, ltb-false, lt-ltb, le-ltb}
-use Rattle.std.proofs.lemmas.Bool.{eqb-true, eqb-false, ne_eqb}
+use Rattle.std.proofs.Common.{◌≡◌, ℕ, ◌+◌, ◌-◌, ◌*◌, ◌/◌, ◌%◌, ◌^◌, ◌<◌, ◌≤◌, bit_or, if◌then◌else◌, refl, ap, ap₂, sym, ◌∙◌, arith, Bool, true, false, List, map, take, drop, length, nat_lt, nat_eq, get_or, ltb-true, ltb-false, lt-ltb, le-ltb}
+use Rattle.std.proofs.lemmas.Bool.{ne_eqb}
 use Rattle.std.proofs.Math.Seq.{take-length}
 use Rattle.std.proofs.lemmas.List.{length-drop, get_or-drop}
 use Rattle.std.specs.List.{range_with_len}
 use Rattle.std.proofs.lemmas.List.FromFn.{get_or-map-range_with_len}
-use Rattle.std.proofs.lemmas.Nat.{leading_top, pow-add, pow_below, pow_pos, mul-le}
 use Rattle.dst_spec.specs.Interval.{scale}
 use Rattle.dst_spec.proofs.Intervals.{scale-below}
-use Rattle.arith_decoder.specs.Registers.{IsRange, IsFactor, AreEntries, due, scale_at}
-use lib.Count.{count_leading_zeros}
+use Rattle.arith_decoder.specs.Registers.{IsFactor, IsRow, due, scale_at}
+use Rattle.arith_core.specs.Range.{IsRange}
+use Rattle.arith_core.proofs.Shifts.{shift_of, is_shift, prob_at, prob_at-is}
 
 -- the scale of a range by its five highest bits
 scale_five : (range five : ℕ) → range / 128 ≡ five → scale range ≡ bit_or (five / 2) (five % 2)
@@ -49,53 +49,8 @@ scale_at-below six h = go (nat_lt (64 * six) 2048) refl
         scale-below (2 * (64 * six)) (omega arith)
     go false is = scale-below (64 * six) (omega arith)
 
--- the place of the highest bit of a probability
-record HasTop (p : ℕ) : Type 0 where
-  top : ℕ
-  low : top ≤ 7
-  is : count_leading_zeros 16 p - 8 ≡ 7 - top
-  many : 8 ≤ count_leading_zeros 16 p
-  least : 2 ^ top ≤ p
-  most : p < 2 ^ suc top
-
-has_top : (p : ℕ) → 1 ≤ p → p ≤ 128 → HasTop p
-has_top p h k =
-    let t = leading_top 16 p (omega arith) (omega arith) in
-    let low : t.0 ≤ 7 = below t.0 p k t.2 in
-    record { top = t.0; low = low; is = omega (arith, t.1); many = omega (arith, t.1); least = t.2; most = t.3 }
-  where
-    below : (t p : ℕ) → p ≤ 128 → 2 ^ t ≤ p → t ≤ 7
-    below t p h k = go (nat_lt 7 t) refl
-      where
-        go : (b : Bool) → nat_lt 7 t ≡ b → t ≤ 7
-        go true e =
-            let lt : 7 < t = ltb-true 7 t e in
-            let more = pow_below 7 t lt in
-            absurd (omega arith)
-        go false e = ltb-false 7 t e
-
-pub factor_of : (p : ℕ) → 1 ≤ p → p ≤ 128 → IsFactor p (2 ^ (count_leading_zeros 16 p - 8))
-factor_of p h k =
-    let t = has_top p h k in
-    let s = 7 - t.top in
-    let is = t.is in
-    let to_eight : suc t.top + s ≡ 8 = omega (arith, t.low) in
-    let to_seven : t.top + s ≡ 7 = omega (arith, t.low) in
-    let eight : 2 ^ suc t.top * 2 ^ s ≡ 256 = sym (pow-add 2 (suc t.top) s) ∙ ap (λ n. 2 ^ n) to_eight in
-    let seven : 2 ^ t.top * 2 ^ s ≡ 128 = sym (pow-add 2 t.top s) ∙ ap (λ n. 2 ^ n) to_seven in
-    let some = pow_pos s in
-    let most : p * 2 ^ s < 256 = omega (arith, times_lt p (2 ^ suc t.top) (2 ^ s) t.most some) in
-    let least : 128 ≤ p * 2 ^ s = omega (arith, mul-le (2 ^ t.top) (2 ^ s) p (2 ^ s) t.least (omega arith)) in
-    rw is (record {
-      shift = s;
-      power = refl;
-      few = omega arith;
-      least = least;
-      most = most;
-    })
-  where
-    times_lt : (a b c : ℕ) → a < b → 0 < c → a * c < b * c
-    times_lt a b c h k = omega (arith, mul-le (suc a) c b c (omega arith) (omega arith))
+pub factor_of : (p : ℕ) → 1 ≤ p → p ≤ 128 → IsFactor p (2 ^ shift_of p)
+factor_of p h k = record { shift = shift_of p; power = refl; shifted = is_shift p h k }
 
 -- a range with a doubling due, maybe
 pub bounds_of : (range : ℕ) → IsRange (due range range) → (1024 ≤ range) × (range ≤ 4095)
@@ -105,34 +60,23 @@ bounds_of range r = go (nat_lt range 2048) refl r.least r.most
     go true is least most = (omega arith, omega arith)
     go false is least most = (omega arith, most)
 
--- the probability at a place of the tables
-abbrev prob_at : ℕ → ℕ
-prob_at i = if nat_eq i 0 then 128 else i
-
-prob_at-is : (p : ℕ) → 1 ≤ p → p ≤ 128 → prob_at (p % 128) ≡ p
-prob_at-is p h k = go (nat_eq (p % 128) 0) refl
-  where
-    go : (e : Bool) → nat_eq (p % 128) 0 ≡ e → (if e then 128 else (p % 128)) ≡ p
-    go true is = let none : p % 128 ≡ 0 = eqb-true (p % 128) 0 is in omega arith
-    go false is = let some = eqb-false (p % 128) 0 is in omega arith
-
 -- what the columns have at each place
-abbrev entry_at : ℕ → ℕ → ℕ
-entry_at p column = if nat_eq column 0 then (2 ^ (count_leading_zeros 16 p - 8)) else if nat_lt column 16 then 0 else (scale_at column * p)
+abbrev at_place : ℕ → ℕ → ℕ
+at_place p column = if nat_eq column 0 then (2 ^ shift_of p) else if nat_lt column 16 then 0 else (scale_at column * p)
 
-abbrev pub all_entries : List ℕ
-all_entries = map (λ i. entry_at (prob_at (i % 128)) (i / 128)) (range_with_len 0 8192)
+abbrev pub all_rows : List ℕ
+all_rows = map (λ i. at_place (prob_at (i % 128)) (i / 128)) (range_with_len 0 8192)
 
-entry_is : (p column : ℕ) → 1 ≤ p → p ≤ 128 → column < 64 → get_or all_entries (p % 128 + column * 128) 0 ≡ entry_at p column
-entry_is p column least most few =
+place_is : (p column : ℕ) → 1 ≤ p → p ≤ 128 → column < 64 → get_or all_rows (p % 128 + column * 128) 0 ≡ at_place p column
+place_is p column least most few =
     let i = p % 128 + column * 128 in
     let at : i % 128 ≡ p % 128 = omega arith in
     let of : i / 128 ≡ column = omega arith in
-    get_or-map-range_with_len (λ i. entry_at (prob_at (i % 128)) (i / 128)) 0 8192 i i 0 (omega arith) (omega arith)
-    ∙ ap₂ (λ x y. entry_at (prob_at x) y) at of ∙ ap (λ q. entry_at q column) (prob_at-is p least most)
+    get_or-map-range_with_len (λ i. at_place (prob_at (i % 128)) (i / 128)) 0 8192 i i 0 (omega arith) (omega arith)
+    ∙ ap₂ (λ x y. at_place (prob_at x) y) at of ∙ ap (λ q. at_place q column) (prob_at-is p least most)
 
-pub are_entries : (p : ℕ) (flat : List ℕ) → 1 ≤ p → p ≤ 128 → flat ≡ all_entries → AreEntries p (take (length flat - p % 128) (drop (p % 128) flat))
-are_entries p flat least most is =
+pub is_row : (p : ℕ) (flat : List ℕ) → 1 ≤ p → p ≤ 128 → flat ≡ all_rows → IsRow p (take (length flat - p % 128) (drop (p % 128) flat))
+is_row p flat least most is =
     let many : length flat ≡ 8192 = ap length is in
     let short = length-drop (p % 128) flat in
     let whole : take (length flat - p % 128) (drop (p % 128) flat) ≡ drop (p % 128) flat = ap (λ n. take n (drop (p % 128) flat)) (sym short) ∙ take-length (drop (p % 128) flat) in
@@ -142,10 +86,10 @@ are_entries p flat least most is =
       part = λ six some few. at six few ∙ part_is six some;
     })
   where
-    at : (column : ℕ) → column < 64 → get_or (drop (p % 128) flat) (column * 128) 0 ≡ entry_at p column
-    at column few = get_or-drop (p % 128) flat (column * 128) 0 ∙ ap (λ xs. get_or xs (p % 128 + column * 128) 0) is ∙ entry_is p column least most few
+    at : (column : ℕ) → column < 64 → get_or (drop (p % 128) flat) (column * 128) 0 ≡ at_place p column
+    at column few = get_or-drop (p % 128) flat (column * 128) 0 ∙ ap (λ xs. get_or xs (p % 128 + column * 128) 0) is ∙ place_is p column least most few
 
-    part_is : (six : ℕ) → 16 ≤ six → entry_at p six ≡ scale_at six * p
+    part_is : (six : ℕ) → 16 ≤ six → at_place p six ≡ scale_at six * p
     part_is six some =
         let other : nat_eq six 0 ≡ false = ne_eqb six 0 (omega arith) in
         rw (other, le-ltb six 16 some) refl

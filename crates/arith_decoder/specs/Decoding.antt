@@ -7,22 +7,22 @@ use Rattle.dst_spec.specs.Offends.{first_bit_rule, range_of_code_rule}
 use Rattle.dst_spec.specs.declared.faults.FrameFault.{FrameFault}
 use Rattle.dst_spec.specs.declared.faults.Reason.TheVariants.{FirstCodeBit, CodeRange}
 
--- The lent bytes, the place of the first code bit, the range, what is kept of the code's number, and how many bits of
+-- The lent bytes, the place of the first code bit, the range, how far the code's number lies above the low end, and how many bits of
 -- the code are used.
 pub record Decoding : Type 0 where
   pub bytes : List ℕ
   pub first : ℕ
   pub range : ℕ
-  pub kept : ℕ
+  pub offset : ℕ
   pub used : ℕ
 
 -- The decoder has decoded these symbols with their probabilities, the oldest first: it has the range of their interval, the
--- kept number is what the code's number has above the low end and lies below the range, and the used bits are the
+-- offset is what the code's number has above the low end, and lies below the range, and the used bits are the
 -- first code bit, twelve, and one for each doubling.
 pub record StandsFor (d : Decoding) (pairs : List (Bool × ℕ)) : Type 0 where
   pub range : d.range ≡ (interval pairs).range
-  pub kept : (interval pairs).low + d.kept ≡ code_number (bits d.bytes) d.first (interval pairs).doublings
-  pub below : d.kept < d.range
+  pub offset : (interval pairs).low + d.offset ≡ code_number (bits d.bytes) d.first (interval pairs).doublings
+  pub below : d.offset < d.range
   pub used : d.used ≡ 13 + (interval pairs).doublings
 
 -- what is wrong with a code from place i on: its first bit is 1, or else the twelve behind that are all 1

@@ -1,24 +1,20 @@
--- What the registers of a decoder hold. The kept number stands in the twelve highest bits of its register.
+-- What the registers of a decoder hold. The offset stands in the twelve highest bits of its register.
 use Rattle.std.specs.Prelude.{◌≡◌, ℕ, ◌+◌, ◌-◌, ◌*◌, ◌/◌, ◌^◌, ◌<◌, ◌≤◌, Bool, if◌then◌else◌, nat_lt, List, length, get_or}
 use Rattle.dst_spec.specs.Bits.{bits, number_from}
 use Rattle.dst_spec.specs.Interval.{scale}
+use Rattle.arith_core.specs.Range.{IsRange, IsShift}
 
--- The value: the kept number, the next bits of the code, which begin at a place, a bit 1, and zeros.
-pub record IsValue (xs : List ℕ) (start place kept value : ℕ) : Type 0 where
+-- The value: the offset, the next bits of the code, which begin at a place, a bit 1, and zeros.
+pub record IsValue (xs : List ℕ) (start place offset value : ℕ) : Type 0 where
   pub ahead : ℕ
   pub zeros : ℕ
   pub full : ahead + zeros ≡ 51
   pub reach : start + ahead ≡ place
-  pub is : value ≡ kept * 2 ^ 52 + (2 * number_from xs start ahead + 1) * 2 ^ zeros
+  pub is : value ≡ offset * 2 ^ 52 + (2 * number_from xs start ahead + 1) * 2 ^ zeros
 
 -- A doubling can be due: where the range is below 2048, it and the value are doubled before the next symbol.
 abbrev pub due : ℕ → ℕ → ℕ
 due range x = if nat_lt range 2048 then (2 * x) else x
-
--- a range with no doubling due
-pub record IsRange (range : ℕ) : Type 0 where
-  pub least : 2048 ≤ range
-  pub most : range ≤ 4095
 
 -- all registers, with no doubling due, of a decoder that has used some bits of its code, which begins at a place
 pub record AreRegisters (bytes : List ℕ) (first used place value range : ℕ) : Type 0 where
@@ -38,19 +34,17 @@ value_below range gap = range * 2 ^ 52 - gap
 abbrev pub scale_at : ℕ → ℕ
 scale_at six = scale (due (64 * six) (64 * six))
 
--- a power of 2 with which a probability has eight bits
+-- the power of 2 with which a probability has eight bits
 pub record IsFactor (p factor : ℕ) : Type 0 where
   pub shift : ℕ
   pub power : factor ≡ 2 ^ shift
-  pub few : shift ≤ 7
-  pub least : 128 ≤ p * factor
-  pub most : p * factor < 256
+  pub shifted : IsShift p shift
 
--- the entries of a probability: its factor, and its part for each six highest bits of a range
-pub record AreEntries (p : ℕ) (entries : List ℕ) : Type 0 where
-  pub long : 63 * 128 < length entries
-  pub factor : IsFactor p (get_or entries 0 0)
-  pub part : (six : ℕ) → 16 ≤ six → six < 64 → get_or entries (six * 128) 0 ≡ scale_at six * p
+-- the row of a probability: its factor, and its part for each six highest bits of a range
+pub record IsRow (p : ℕ) (row : List ℕ) : Type 0 where
+  pub long : 63 * 128 < length row
+  pub factor : IsFactor p (get_or row 0 0)
+  pub part : (six : ℕ) → 16 ≤ six → six < 64 → get_or row (six * 128) 0 ≡ scale_at six * p
 
 -- what a symbol of a probability needs for a range
 pub record IsCut (p range part factor : ℕ) : Type 0 where

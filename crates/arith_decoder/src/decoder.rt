@@ -5,7 +5,7 @@ ghost use Rattle.dst_spec.specs.Fields.{read};
 ghost use Rattle.arith_decoder.specs.Decoding.{StandsFor, IsCodeFault, code_fields};
 ghost use Rattle.arith_decoder.specs.Registers.{IsValue, value_below};
 
-use crate::entries::entries;
+use crate::rows::row;
 use crate::step::{doubled, step};
 use bit_io::{BitReader, BitSlice};
 use dst_num::{FrameFault, Prob, Reason};
@@ -18,7 +18,7 @@ pub struct ArithDecoder<'a> {
     first: u64,
     // the place of the first bit that isn't in the value yet
     place: u64,
-    // how far the value lies below the end of the range: the value has the kept number in its twelve highest bits, then the
+    // how far the value lies below the end of the range: the value has the offset in its twelve highest bits, then the
     // next bits of the code, a bit 1, and zeros
     gap: u64,
     // a range below 2048 and its gap are doubled ahead of the next symbol
@@ -37,7 +37,7 @@ impl<'a> Model for ArithDecoder<'a> {
       bytes = d.bytes.now;
       first = d.first;
       range = due d.range d.range;
-      kept = due d.range (value_below d.range d.gap) / 2 ^ 52;
+      offset = due d.range (value_below d.range d.gap) / 2 ^ 52;
       used = d.place + trailing_zeros w64 (due d.range (value_below d.range d.gap)) - 51 - d.first;
     } };
 
@@ -91,8 +91,8 @@ impl<'a> ArithDecoder<'a> {
                 bit: code.first,
             });
         }
-        let kept = u64::from(reader.read_or_zero(12));
-        if kept == 4095 {
+        let offset = u64::from(reader.read_or_zero(12));
+        if offset == 4095 {
             return Err(FrameFault {
                 reason: Reason::CodeRange,
                 bit: code.first + 1,
@@ -103,7 +103,7 @@ impl<'a> ArithDecoder<'a> {
             bytes: code.bytes,
             first: code.first,
             place: code.first + 45,
-            gap: (4095 << 52) - (kept << 52 | (2 * next + 1) << 19),
+            gap: (4095 << 52) - (offset << 52 | (2 * next + 1) << 19),
             range: 4095,
         })
     }
@@ -119,9 +119,9 @@ impl<'a> ArithDecoder<'a> {
         ensures least { 1 ≤ p }
         ensures most { p ≤ 128 }
     {
-        let entries = entries(p.value());
-        let part = u64::from(entries[(self.range / 64 * 128) as usize]);
-        let factor = u64::from(entries[0]);
+        let row = row(p.value());
+        let part = u64::from(row[(self.range / 64 * 128) as usize]);
+        let factor = u64::from(row[0]);
         let (mut gap, range) = doubled(self.gap, self.range);
         if gap % (1 << 32) == 0 {
             gap = refilled(self.bytes, self.place, gap);

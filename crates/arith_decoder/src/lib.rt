@@ -9,8 +9,8 @@
 #![tactic(auto)]
 
 mod decoder;
-mod entries;
 pub mod laws;
+mod rows;
 mod step;
 #[cfg(test)]
 mod tests;

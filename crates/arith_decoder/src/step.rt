@@ -1,15 +1,9 @@
 // One symbol, without a branch.
-ghost use Rattle.std.specs.Prelude.{◌≡◌, ◌+◌, ◌*◌, ◌/◌, ◌%◌, ◌^◌, ◌<◌, ◌≤◌, ℕ, if◌then◌else◌};
-ghost use Rattle.arith_decoder.specs.Registers.{IsRange, IsCut, IsStep, due, value_below};
+ghost use Rattle.std.specs.Prelude.{◌≡◌, ◌+◌, ◌*◌, ◌/◌, ◌%◌, ◌^◌, ◌<◌, ◌≤◌, ℕ};
+ghost use Rattle.arith_core.specs.Range.{IsRange};
+ghost use Rattle.arith_decoder.specs.Registers.{IsCut, IsStep, due, value_below};
 
-// The first of two numbers where the test is true, by a mask.
-#[inline(always)]
-fn select(test: bool, first: u64, second: u64) -> u64
-    ensures { result ≡ (if test then first else second) }
-{
-    let ones = 0u64.wrapping_sub(u64::from(test));
-    second ^ ((second ^ first) & ones)
-}
+use arith_core::select;
 
 // The gap and the range, doubled where that is due.
 #[inline(always)]

@@ -1,4 +1,4 @@
-// Codes decoded, and codes refused.
+// Codes decoded, a long code, and codes refused.
 use super::*;
 use bit_io::BitSlice;
 use dst_num::{FrameFault, Prob, Reason};
@@ -45,4 +45,43 @@ fn codes_with_a_fault_are_refused_at_its_bit(rt: HostRuntime) {
         let refused = ArithDecoder::new(BitSlice { bytes, first }).err();
         assert_eq!(rt; refused, Some(FrameFault { reason, bit }));
     }
+}
+
+// One more of a linear congruence.
+fn next(state: u64) -> u64 {
+    state
+        .wrapping_mul(6364136223846793005)
+        .wrapping_add(1442695040888963407)
+}
+
+#[test]
+fn a_long_code_gives_the_symbols_of_whole_numbers(rt: HostRuntime) {
+    let mut bytes = [0; 20_000];
+    let mut state = 7;
+    for i in 0..20_000usize {
+        state = next(state);
+        bytes[i] = (state >> 56) as u8;
+    }
+    bytes[0] %= 128;
+    let code = BitSlice {
+        bytes: &bytes,
+        first: 0,
+    };
+    let mut decoder = ArithDecoder::new(code).expect(&rt, "a lawful code");
+    // each symbol goes into a hash by Fowler, Noll and Vo, FNV-1a of 64 bits
+    let mut hash: u64 = 0xcbf2_9ce4_8422_2325;
+    let mut ones: u32 = 0;
+    state = 1;
+    for _ in 0..100_000 {
+        state = next(state);
+        let p = Prob::new((state >> 57) as u32 + 1).expect(&rt, "a probability");
+        assert!(rt; decoder.used() <= 1_000_000);
+        let symbol = decoder.decode(p);
+        hash = (hash ^ u64::from(symbol)).wrapping_mul(0x100_0000_01b3);
+        ones = u32::from(symbol).wrapping_add(ones);
+    }
+    // by another program, which takes the code's number bit by bit
+    assert_eq!(rt; decoder.used(), 72_076);
+    assert_eq!(rt; ones, 75_041);
+    assert_eq!(rt; hash, 0x0932_d52a_ffc8_0c86);
 }

@@ -1,26 +1,14 @@
 -- Numbers in bits, one behind the other.
-use Rattle.std.proofs.Common.{◌≡◌, ℕ, zero, suc, ◌+◌, ◌-◌, ◌*◌, ◌/◌, ◌^◌, ◌<◌, ◌≤◌, List, ◌++◌, length, take, drop, refl, ap, ap₂, sym, ◌∙◌, arith, length-append, mod-eq_of_lt, shr-shr}
-use Rattle.std.proofs.lemmas.Nat.{shr_high}
+use Rattle.std.proofs.Common.{◌≡◌, ℕ, ◌+◌, ◌-◌, ◌*◌, ◌^◌, ◌<◌, ◌≤◌, List, ◌++◌, length, take, drop, ap, ap₂, sym, ◌∙◌, arith, length-append, mod-eq_of_lt}
 use Rattle.std.proofs.lemmas.List.{take-append-drop, length-drop}
 use Rattle.dst_spec.specs.Bits.{low_bits, number_from, AreBits}
-use Rattle.dst_spec.proofs.Numbers.{low_bits-high, length-low_bits, number_from-add, number_from-append_left, number_from-append_right, number_from-low_bits, number_from-drop, low_bits-number_from}
+use Rattle.dst_spec.proofs.Numbers.{length-low_bits, number_from-add, number_from-append_left, number_from-append_right, number_from-low_bits, number_from-drop, low_bits-number_from}
 use Rattle.arith_encoder.specs.Leaving.{written}
-
-split : (m n x : ℕ) → low_bits (m + n) x ≡ low_bits m (x / 2 ^ n) ++ low_bits n x
-unfolding low_bits
-split zero n x =
-    let none : zero + n ≡ n = omega arith in
-    rw none refl
-split (suc m) n x =
-    let more : suc m + n ≡ suc (m + n) = omega arith in
-    let order : m + n ≡ n + m = omega arith in
-    let top : x / 2 ^ (m + n) ≡ x / 2 ^ n / 2 ^ m = rw order (sym (shr-shr x n m)) in
-    let rest = split m n x in
-    rw (more, top, rest) refl
+use Rattle.dst_spec.proofs.LowBits.{low_bits-join}
 
 -- the bits of two numbers are those of one
 pub joined : (m n a b : ℕ) → b < 2 ^ n → low_bits m a ++ low_bits n b ≡ low_bits (m + n) (a * 2 ^ n + b)
-joined m n a b h = sym (split m n (a * 2 ^ n + b) ∙ rw (shr_high a n b h, low_bits-high n n a b (omega arith)) refl)
+joined m n a b h = sym (low_bits-join m n a b h)
 
 -- a number written behind what has left
 pub written-append : (xs : List ℕ) (first n x : ℕ) → first ≤ length xs → x < 2 ^ n → written (xs ++ low_bits n x) first ≡ written xs first * 2 ^ n + x

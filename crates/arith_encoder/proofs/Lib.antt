@@ -1,9 +1,7 @@
 pub mod Carrying
-pub mod Doubling
-pub mod Entries
 pub mod Joining
 pub mod Leaving
-pub mod Masks
 pub mod Moving
 pub mod Narrowing
+pub mod Scalings
 pub mod Spelling

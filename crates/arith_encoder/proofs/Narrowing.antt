@@ -4,10 +4,11 @@ use mir.Val.{bool_byte}
 use Rattle.std.proofs.lemmas.Nat.{pow-add, mul-le}
 use Rattle.dst_spec.specs.Interval.{Interval, scale, part, narrowed}
 use Rattle.dst_spec.proofs.Intervals.{scale-least, scale-below}
-use Rattle.arith_encoder.specs.declared.entry.Entry.{Entry}
-use Rattle.arith_encoder.specs.Registers.{IsRange, IsEntry}
-use Rattle.arith_encoder.proofs.Doubling.{doubled_by}
-use Rattle.arith_encoder.proofs.Masks.{high_least}
+use Rattle.arith_encoder.specs.declared.scaling.Scaling.{Scaling}
+use Rattle.arith_encoder.specs.Registers.{IsScaling}
+use Rattle.arith_core.specs.Range.{IsRange}
+use Rattle.arith_core.proofs.Masks.{high_least}
+use Rattle.arith_core.proofs.Doubling.{doubled_by}
 
 -- a number below what a range is at least, doubled once
 pub record IsDoubled (m more : ℕ) : Type 0 where
@@ -76,22 +77,24 @@ from_part range p false start range_after d few least most s_is r_is within = re
         let low : start ≡ i.range - scale i.range * p = rw is s_is in
         e ∙ rw (same, low) refl
 
-pub narrow_is : (range p : ℕ) (symbol : Bool) (e : Entry) (s m start shift : ℕ) → IsRange range → 1 ≤ p → p ≤ 128 → IsEntry p e → s ≡ scale range →
+pub narrow_is : (range p : ℕ) (symbol : Bool) (e : Scaling) (s m start shift : ℕ) → IsRange range → 1 ≤ p → p ≤ 128 → IsScaling p e → s ≡ scale range →
     m ≡ spans symbol (range - s * p) (s * e.scaled) → start ≡ starts symbol (range - s * p) → shift ≡ shifts symbol e.shift →
     IsNarrowed range p symbol start (m + (if nat_lt m 2048 then m else 0)) (shift + bool_byte (nat_lt m 2048))
 narrow_is range p symbol e s m start shift r h k n is m_is start_is shift_is =
+    let half : 128 ≤ e.scaled = rw n.scaled n.shifted.least in
+    let whole : e.scaled < 256 = rw n.scaled n.shifted.most in
     let small : s * p + 1024 ≤ range = rw is (high_least range p r.least k) in
     let eight : 8 ≤ s = rw is (scale-least range r.least) in
     let fifteen : s < 16 = rw is (scale-below range r.most) in
-    let low = mul-le 8 128 s e.scaled eight n.least in
-    let high = mul-le s e.scaled 15 255 (omega arith) (omega (arith, n.most)) in
+    let low = mul-le 8 128 s e.scaled eight half in
+    let high = mul-le s e.scaled 15 255 (omega arith) (omega arith) in
     let most = r.most in
     let larger : s * e.scaled ≡ s * p * 2 ^ e.shift = ap (λ x. s * x) n.scaled ∙ omega arith in
     let within : 1024 ≤ m × m < 4096 = rw m_is (sizes symbol (range - s * p) (s * e.scaled) (omega arith) (omega arith) (omega arith) (omega arith)) in
     let more = bool_byte (nat_lt m 2048) in
     let once = doubled_once m within.0 within.1 (nat_lt m 2048) refl in
     let d = once.0 in
-    let few : shift + more ≤ 8 = omega (arith, shift_few symbol e.shift shift n.few shift_is, d.few) in
+    let few : shift + more ≤ 8 = omega (arith, shift_few symbol e.shift shift n.shifted.few shift_is, d.few) in
     let span : m * 2 ^ more ≡ spans symbol (range - scale range * p) (scale range * p) * 2 ^ (shift + more) =
     ap (λ x. x * 2 ^ more) m_is ∙ spanned symbol (range - s * p) (s * e.scaled) (s * p) e.shift shift more larger shift_is
     ∙ ap (λ x. spans symbol (range - x * p) (x * p) * 2 ^ (shift + more)) is in

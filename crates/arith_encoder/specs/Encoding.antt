@@ -3,7 +3,7 @@ use Rattle.std.specs.Prelude.{◌≡◌, ℕ, Bool, List}
 use Rattle.dst_spec.specs.Interval.{Interval, interval}
 
 -- What the writer had in front of the code, the room that it had for it in bits, and the interval of the symbols so far,
--- whose low end is kept whole.
+-- whose low end is whole.
 pub record Encoding : Type 0 where
   pub before : List ℕ
   pub room : ℕ

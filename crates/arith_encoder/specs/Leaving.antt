@@ -13,16 +13,16 @@ pub record Leaving : Type 0 where
 abbrev pub written : List ℕ → ℕ → ℕ
 written bits first = number_from bits first (length bits - first)
 
--- a held word of some bits behind a number, and behind it so many words of 32 ones
+-- a held block of some bits behind a number, and behind it so many blocks of 32 ones
 abbrev pub with_held : ℕ → ℕ → ℕ → ℕ → ℕ
-with_held number width word run = (number * 2 ^ width + word + 1) * 2 ^ (32 * run) - 1
+with_held number width block run = (number * 2 ^ width + block + 1) * 2 ^ (32 * run) - 1
 
--- What is kept: a word that isn't all ones, and room for all that is held.
-pub record IsHeld (bits : List ℕ) (room first word width run : ℕ) : Type 0 where
+-- What is held: a block that isn't all ones, and room for all that is held.
+pub record IsHeld (bits : List ℕ) (room first block width run : ℕ) : Type 0 where
   pub within : first ≤ length bits
   pub are_bits : AreBits (drop first bits)
   pub some : 1 ≤ width
   pub most : width ≤ 32
-  pub free : word + 1 < 2 ^ width
+  pub free : block + 1 < 2 ^ width
   pub fits : width + 32 * run ≤ room
   pub small : room ≤ 2 ^ 53

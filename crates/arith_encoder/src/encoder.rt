@@ -5,7 +5,7 @@ ghost use Rattle.dst_spec.specs.Spell.{code_spelling};
 ghost use Rattle.bit_io.specs.Writing.{to_byte_end};
 ghost use Rattle.arith_encoder.specs.Encoding.{StandsFor};
 
-use crate::entry::entries;
+use crate::scaling::scalings;
 use crate::held::Held;
 use crate::narrow::narrow;
 use bit_io::BitWriter;
@@ -88,8 +88,8 @@ impl ArithEncoder {
             self.count -= 32;
             self.left -= 32;
         }
-        let entry = entries()[(p.value() % 128) as usize];
-        let part = narrow(self.range, symbol, u64::from(p.value()), entry);
+        let scaling = scalings()[(p.value() % 128) as usize];
+        let part = narrow(self.range, symbol, u64::from(p.value()), scaling);
         let count = self.count + part.doublings;
         if count > self.left {
             return false;

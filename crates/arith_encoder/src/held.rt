@@ -5,17 +5,17 @@ ghost use Rattle.dst_spec.specs.Bits.{low_bits};
 use bit_io::BitWriter;
 use std::marker::Model;
 
-// A number that leaves from its highest bits on. A word of it and the words of 32 ones behind that are held back, since a
+// A number that leaves from its highest bits on. A block of it and the blocks of 32 ones behind that are held back, since a
 // carry can still come to them; what is written doesn't change.
 #[derive(Drop)]
 pub(crate) struct Held {
     writer: BitWriter,
     // how many bits the writer had before
     first: u64,
-    // the held word, and how many bits it has
-    word: u32,
+    // the held block, and how many bits it has
+    block: u32,
     width: u32,
-    // how many words of ones are behind it
+    // how many blocks of ones are behind it
     run: u64,
 }
 
@@ -29,10 +29,10 @@ impl Model for Held {
       before = take h.first h.writer.bits;
       room = h.writer.room + (length h.writer.bits - h.first);
       count = length h.writer.bits - h.first + (h.width + 32 * h.run);
-      number = with_held (written h.writer.bits h.first) h.width h.word h.run;
+      number = with_held (written h.writer.bits h.first) h.width h.block h.run;
     } };
 
-    ghost invariant = { λ h. IsHeld h.writer.bits h.writer.room h.first h.word h.width h.run };
+    ghost invariant = { λ h. IsHeld h.writer.bits h.writer.room h.first h.block h.width h.run };
 }
 
 impl Held {
@@ -48,7 +48,7 @@ impl Held {
         Held {
             writer,
             first,
-            word: 0,
+            block: 0,
             width: 1,
             run: 0,
         }
@@ -66,13 +66,13 @@ impl Held {
         ensures room { self.new.room ≡ self.old.room }
     {
         let carry = bits >= 1 << 32;
-        let word = (bits % (1 << 32)) as u32;
-        if !carry && word == u32::MAX {
+        let block = (bits % (1 << 32)) as u32;
+        if !carry && block == u32::MAX {
             self.run += 1;
             return;
         }
-        let_go(&mut self.writer, self.word, self.width, self.run, carry);
-        self.word = word;
+        let_go(&mut self.writer, self.block, self.width, self.run, carry);
+        self.block = block;
         self.width = 32;
         self.run = 0;
     }
@@ -87,7 +87,7 @@ impl Held {
     {
         let mut writer = self.writer;
         let carry = bits >> (12 + more) == 1;
-        let_go(&mut writer, self.word, self.width, self.run, carry);
+        let_go(&mut writer, self.block, self.width, self.run, carry);
         writer.put(((bits >> 12) % (1 << more)) as u32, more);
         writer.put((bits % 4096) as u32, 12);
         writer
@@ -104,15 +104,15 @@ impl Held {
     }
 }
 
-// Writes a word of some bits and so many words of ones behind it, turned over by a carry.
-fn let_go(writer: &mut BitWriter, word: u32, width: u32, run: u64, carry: bool)
+// Writes a block of some bits and so many blocks of ones behind it, turned over by a carry.
+fn let_go(writer: &mut BitWriter, block: u32, width: u32, run: u64, carry: bool)
     requires most { width ≤ 32 }
-    requires free { word + 1 < 2 ^ width }
+    requires free { block + 1 < 2 ^ width }
     requires room { width + 32 * run ≤ writer.old.room }
-    ensures bits { writer.new.bits ≡ writer.old.bits ++ low_bits (width + 32 * run) ((word + 1) * 2 ^ (32 * run) - (if carry then 0 else 1)) }
+    ensures bits { writer.new.bits ≡ writer.old.bits ++ low_bits (width + 32 * run) ((block + 1) * 2 ^ (32 * run) - (if carry then 0 else 1)) }
     ensures room { writer.new.room + (width + 32 * run) ≡ writer.old.room }
 {
-    writer.put(word + u32::from(carry), width);
+    writer.put(block + u32::from(carry), width);
     let behind = if carry { 0 } else { u32::MAX };
     for turn in 0..run {
         writer.put(behind, 32);

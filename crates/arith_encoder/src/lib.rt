@@ -12,9 +12,9 @@
 #![tactic(auto)]
 
 mod encoder;
-mod entry;
 mod held;
 mod narrow;
+mod scaling;
 #[cfg(test)]
 mod tests;
 

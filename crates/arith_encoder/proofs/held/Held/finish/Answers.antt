@@ -17,7 +17,7 @@ returns-clause-bits c =
     let done_all = c.put-2.ensures.written.1 (omega arith) in
     let one = one_shl c.args.more 64 (omega (arith, c.requires.few)) in
     let more = rw one at (c.put.ensures.bits done) in
-    let all = all_let_go i.writer.bits i.writer.room i.first i.word i.width i.run c.args.more c.args.bits c.self.invariant c.requires.carry in
+    let all = all_let_go i.writer.bits i.writer.room i.first i.block i.width i.run c.args.more c.args.bits c.self.invariant c.requires.carry in
     rw (← c.self.view_is, c.put-2.ensures.bits done_all, more, c.let_go.ensures.bits) all
 
 pub returns-clause-room : goal.returns-clause-room

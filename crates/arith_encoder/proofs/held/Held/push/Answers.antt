@@ -4,34 +4,34 @@ use Rattle.arith_encoder.specs.Leaving.{written, with_held}
 use Rattle.arith_encoder.proofs.Leaving.{held-more, let_go_is, number_let_go, with_carry, not_all_ones}
 use Rattle.arith_encoder.proofs.held.Held.push.Goals as goal
 
-pub returns-then-word-clause-number : goal.returns-then-word-clause-number
-returns-then-word-clause-number c =
+pub returns-then-block-clause-number : goal.returns-then-block-clause-number
+returns-then-block-clause-number c =
     let i = c.self.inside in
-    let ones : c.args.bits ≡ 4294967295 = omega (arith, c.if-word.true, c.if-not-carry.true) in
-    rw (← c.self.view_is, ones) (held-more (written i.writer.bits i.first) i.width i.word i.run)
+    let ones : c.args.bits ≡ 4294967295 = omega (arith, c.if-block.true, c.if-not-carry.true) in
+    rw (← c.self.view_is, ones) (held-more (written i.writer.bits i.first) i.width i.block i.run)
 
 pub invariant_of-self-2 : goal.invariant_of-self-2
 invariant_of-self-2 c =
     let i = c.self.inside in
     let room = rw (← c.self.view_is) at c.requires.room in
     let free = not_all_ones c.args.bits c.requires.carry c.else-not-carry.either in
-    let g = let_go_is i.writer.bits c.let_go.new.writer.bits i.writer.room c.let_go.new.writer.room i.first i.word i.width i.run (c.args.bits % 4294967296) _
+    let g = let_go_is i.writer.bits c.let_go.new.writer.bits i.writer.room c.let_go.new.writer.room i.first i.block i.width i.run (c.args.bits % 4294967296) _
     c.self.invariant c.let_go.ensures.bits c.let_go.ensures.room (omega arith) free in
     g.held
 
 pub returns-clause-number : goal.returns-clause-number
 returns-clause-number c =
     let i = c.self.inside in
-    let number = number_let_go i.writer.bits c.let_go.new.writer.bits i.writer.room i.first i.word i.width i.run (c.args.bits % 4294967296) (leb 4294967296 c.args.bits) c.self.invariant c.let_go.ensures.bits in
+    let number = number_let_go i.writer.bits c.let_go.new.writer.bits i.writer.room i.first i.block i.width i.run (c.args.bits % 4294967296) (leb 4294967296 c.args.bits) c.self.invariant c.let_go.ensures.bits in
     let bits = with_carry c.args.bits (omega (arith, c.requires.carry)) in
-    rw (← c.self.view_is) (number ∙ ap (λ x. with_held (written i.writer.bits i.first) i.width i.word i.run * 4294967296 + x) (sym bits))
+    rw (← c.self.view_is) (number ∙ ap (λ x. with_held (written i.writer.bits i.first) i.width i.block i.run * 4294967296 + x) (sym bits))
 
 pub returns-clause-count : goal.returns-clause-count
 returns-clause-count c =
     let i = c.self.inside in
     let room = rw (← c.self.view_is) at c.requires.room in
     let free = not_all_ones c.args.bits c.requires.carry c.else-not-carry.either in
-    let g = let_go_is i.writer.bits c.let_go.new.writer.bits i.writer.room c.let_go.new.writer.room i.first i.word i.width i.run (c.args.bits % 4294967296) _
+    let g = let_go_is i.writer.bits c.let_go.new.writer.bits i.writer.room c.let_go.new.writer.room i.first i.block i.width i.run (c.args.bits % 4294967296) _
     c.self.invariant c.let_go.ensures.bits c.let_go.ensures.room (omega arith) free in
     let count = g.count in
     rw (← c.self.view_is) (omega arith)
@@ -41,7 +41,7 @@ returns-clause-before c =
     let i = c.self.inside in
     let room = rw (← c.self.view_is) at c.requires.room in
     let free = not_all_ones c.args.bits c.requires.carry c.else-not-carry.either in
-    let g = let_go_is i.writer.bits c.let_go.new.writer.bits i.writer.room c.let_go.new.writer.room i.first i.word i.width i.run (c.args.bits % 4294967296) _
+    let g = let_go_is i.writer.bits c.let_go.new.writer.bits i.writer.room c.let_go.new.writer.room i.first i.block i.width i.run (c.args.bits % 4294967296) _
     c.self.invariant c.let_go.ensures.bits c.let_go.ensures.room (omega arith) free in
     rw (← c.self.view_is) g.before
 
@@ -50,7 +50,7 @@ returns-clause-room c =
     let i = c.self.inside in
     let room = rw (← c.self.view_is) at c.requires.room in
     let free = not_all_ones c.args.bits c.requires.carry c.else-not-carry.either in
-    let g = let_go_is i.writer.bits c.let_go.new.writer.bits i.writer.room c.let_go.new.writer.room i.first i.word i.width i.run (c.args.bits % 4294967296) _
+    let g = let_go_is i.writer.bits c.let_go.new.writer.bits i.writer.room c.let_go.new.writer.room i.first i.block i.width i.run (c.args.bits % 4294967296) _
     c.self.invariant c.let_go.ensures.bits c.let_go.ensures.room (omega arith) free in
     let count = g.count in
     let left = c.let_go.ensures.room in

@@ -1,7 +1,7 @@
 use Rattle.std.proofs.Common.{arith}
 use Rattle.dst_spec.proofs.Intervals.{scale-least, scale-below}
-use Rattle.arith_encoder.proofs.Masks.{scale_shifted}
-use Rattle.arith_encoder.proofs.narrow.scale.Goals as goal
+use Rattle.arith_core.proofs.Masks.{scale_shifted}
+use Rattle.arith_core.proofs.step.scale.Goals as goal
 
 pub returns-clause-scale : goal.returns-clause-scale
 returns-clause-scale c = scale_shifted c.args.range

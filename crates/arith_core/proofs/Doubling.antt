@@ -1,4 +1,4 @@
--- So many doublings at once.
+-- So many doublings of an interval at once.
 use Rattle.std.proofs.Common.{◌≡◌, ℕ, zero, suc, ◌+◌, ◌*◌, ◌^◌, ◌<◌, ◌≤◌, ap, sym, ◌∙◌, arith, pow-suc, lt-ltb}
 use Rattle.std.proofs.lemmas.Nat.{pow_pos}
 use Rattle.dst_spec.specs.Interval.{Interval, double, doubled}
@@ -7,7 +7,7 @@ use Rattle.dst_spec.proofs.Intervals.{doubled-enough}
 abbrev made : ℕ → ℕ → ℕ → Interval
 made low range doublings = record { low = low; range = range; doublings = doublings }
 
-same_interval : (i : Interval) (low range doublings : ℕ) → i.low ≡ low → i.range ≡ range → i.doublings ≡ doublings → i ≡ record { low = low; range = range; doublings = doublings }
+pub same_interval : (i : Interval) (low range doublings : ℕ) → i.low ≡ low → i.range ≡ range → i.doublings ≡ doublings → i ≡ record { low = low; range = range; doublings = doublings }
 same_interval i low range doublings a b c =
     ap (λ x. made x i.range i.doublings) a ∙ ap (λ x. made low x i.doublings) b ∙ ap (λ x. made low range x) c
 

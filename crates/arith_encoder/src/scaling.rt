@@ -1,21 +1,21 @@
 // What a symbol needs of its probability.
-ghost use Rattle.arith_encoder.specs.Registers.{AreEntries};
+ghost use Rattle.arith_encoder.specs.Registers.{AreScalings};
 
 // How far a probability is shifted to have eight bits, and what it is then.
 #[derive(Clone, Copy)]
-pub(crate) struct Entry {
+pub(crate) struct Scaling {
     pub(crate) scaled: u64,
     pub(crate) shift: u64,
 }
 
-macro_rules! entries {
+macro_rules! scalings {
     ($($shift:literal: $($p:literal)*;)*) => {
-        [$($(Entry { scaled: $p << $shift, shift: $shift }),*),*]
+        [$($(Scaling { scaled: $p << $shift, shift: $shift }),*),*]
     };
 }
 
-// The entry of each probability from 1 to 127 at its place, that of 128 at place 0.
-static ENTRIES: [Entry; 128] = entries! {
+// The scaling of each probability from 1 to 127 at its place, that of 128 at place 0.
+static SCALINGS: [Scaling; 128] = scalings! {
     0: 128;
     7: 1;
     6: 2 3;
@@ -29,8 +29,8 @@ static ENTRIES: [Entry; 128] = entries! {
 };
 
 #[inline(always)]
-pub(crate) fn entries() -> &'static [Entry; 128]
-    ensures { AreEntries result.now }
+pub(crate) fn scalings() -> &'static [Scaling; 128]
+    ensures { AreScalings result.now }
 {
-    &ENTRIES
+    &SCALINGS
 }

@@ -1,6 +1,6 @@
 // What a symbol needs of its probability and of the range.
 ghost use Rattle.std.specs.Prelude.{◌≤◌};
-ghost use Rattle.arith_decoder.specs.Registers.{AreEntries};
+ghost use Rattle.arith_decoder.specs.Registers.{IsRow};
 
 // The part of symbol 0 of a probability for the five highest bits of a range: its scale times the probability.
 macro_rules! part {
@@ -52,12 +52,12 @@ macro_rules! columns {
 
 static COLUMNS: [[u16; 128]; 64] = columns!(16 17 18 19 20 21 22 23 24 25 26 27 28 29 30 31);
 
-// The entries of a probability, 128 places from column to column. Its place comes first, since the range is known last.
+// The row of a probability, 128 places from column to column. Its place comes first, since the range is known last.
 #[inline(always)]
-pub(crate) fn entries(p: u32) -> &'static [u16]
+pub(crate) fn row(p: u32) -> &'static [u16]
     requires least { 1 ≤ p }
     requires most { p ≤ 128 }
-    ensures { AreEntries p result.now }
+    ensures { IsRow p result.now }
 {
     &COLUMNS.as_flattened()[(p % 128) as usize..]
 }

@@ -1,11 +1,8 @@
--- The entries of probabilities.
-use Rattle.std.proofs.Common.{◌≡◌, ℕ, suc, ◌+◌, ◌-◌, ◌*◌, ◌%◌, ◌^◌, ◌<◌, ◌≤◌, if◌then◌else◌, List, map, get_or, refl, ap, sym, ◌∙◌, arith, Bool, true, false, nat_lt, nat_eq, ltb-true, ltb-false}
-use Rattle.std.specs.List.{range_with_len}
+-- The doublings that give a probability eight bits, and the probabilities at the places of a table.
+use Rattle.std.proofs.Common.{◌≡◌, ℕ, suc, ◌+◌, ◌-◌, ◌*◌, ◌%◌, ◌^◌, ◌<◌, ◌≤◌, if◌then◌else◌, refl, ap, sym, ◌∙◌, arith, Bool, true, false, nat_lt, nat_eq, ltb-true, ltb-false}
 use Rattle.std.proofs.lemmas.Bool.{eqb-true, eqb-false}
-use Rattle.std.proofs.lemmas.List.FromFn.{get_or-map-range_with_len}
 use Rattle.std.proofs.lemmas.Nat.{leading_top, pow-add, pow_below, pow_pos, mul-le}
-use Rattle.arith_encoder.specs.Registers.{IsEntry, AreEntries, no_entry}
-use Rattle.arith_encoder.specs.declared.entry.Entry.{Entry}
+use Rattle.arith_core.specs.Range.{IsShift}
 use lib.Count.{count_leading_zeros}
 
 -- the place of the highest bit of a probability
@@ -33,11 +30,12 @@ has_top p h k =
             absurd (omega arith)
         go false e = ltb-false 7 t e
 
-pub entry_of : (p : ℕ) → 1 ≤ p → p ≤ 128 → IsEntry p (record {
-  scaled = p * 2 ^ (count_leading_zeros 64 p - 56);
-  shift = count_leading_zeros 64 p - 56;
-})
-entry_of p h k =
+-- the zeros in front of a probability in eight bits
+abbrev pub shift_of : ℕ → ℕ
+shift_of p = count_leading_zeros 64 p - 56
+
+pub is_shift : (p : ℕ) → 1 ≤ p → p ≤ 128 → IsShift p (shift_of p)
+is_shift p h k =
     let t = has_top p h k in
     let s = 7 - t.top in
     let is = t.is in
@@ -48,31 +46,18 @@ entry_of p h k =
     let some = pow_pos s in
     let most : p * 2 ^ s < 256 = omega (arith, times_lt p (2 ^ suc t.top) (2 ^ s) t.most some) in
     let least : 128 ≤ p * 2 ^ s = omega (arith, mul-le (2 ^ t.top) (2 ^ s) p (2 ^ s) t.least (omega arith)) in
-    rw is (record { scaled = refl; few = omega arith; least = least; most = most })
+    rw is (record { few = omega arith; least = least; most = most })
   where
     times_lt : (a b c : ℕ) → a < b → 0 < c → a * c < b * c
     times_lt a b c h k = omega (arith, mul-le (suc a) c b c (omega arith) (omega arith))
 
--- the probability at a place of the table
-abbrev prob_at : ℕ → ℕ
+-- the probability at a place of a table
+abbrev pub prob_at : ℕ → ℕ
 prob_at i = if nat_eq i 0 then 128 else i
 
-prob_at-is : (p : ℕ) → 1 ≤ p → p ≤ 128 → prob_at (p % 128) ≡ p
+pub prob_at-is : (p : ℕ) → 1 ≤ p → p ≤ 128 → prob_at (p % 128) ≡ p
 prob_at-is p h k = go (nat_eq (p % 128) 0) refl
   where
     go : (e : Bool) → nat_eq (p % 128) 0 ≡ e → (if e then 128 else (p % 128)) ≡ p
     go true is = let none : p % 128 ≡ 0 = eqb-true (p % 128) 0 is in omega arith
     go false is = let some = eqb-false (p % 128) 0 is in omega arith
-
-abbrev entry_at : ℕ → Entry
-entry_at p = record { scaled = p * 2 ^ (count_leading_zeros 64 p - 56); shift = count_leading_zeros 64 p - 56 }
-
-abbrev pub all_entries : List Entry
-all_entries = map (λ i. entry_at (prob_at i)) (range_with_len 0 128)
-
-pub are_entries : (entries : List Entry) → entries ≡ all_entries → AreEntries entries
-are_entries entries is p least most =
-    let found = ap (λ es. get_or es (p % 128) no_entry) is
-    ∙ get_or-map-range_with_len (λ i. entry_at (prob_at i)) 0 128 (p % 128) (p % 128) no_entry (omega arith) (omega arith)
-    ∙ ap entry_at (prob_at-is p least most) in
-    rw found (entry_of p least most)

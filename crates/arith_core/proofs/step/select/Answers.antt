@@ -1,5 +1,5 @@
-use Rattle.arith_encoder.proofs.Masks.{chosen_by_mask}
-use Rattle.arith_encoder.proofs.narrow.select.Goals as goal
+use Rattle.arith_core.proofs.Masks.{chosen_by_mask}
+use Rattle.arith_core.proofs.step.select.Goals as goal
 
 pub returns : goal.returns
 returns c = chosen_by_mask c.args.test c.args.first c.args.second c.from-ones.result c.ranges.first.fits c.ranges.second.fits c.from-ones.ensures

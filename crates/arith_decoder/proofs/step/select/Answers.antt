@@ -1,5 +1,0 @@
-use Rattle.arith_decoder.proofs.Masks.{chosen_by_mask}
-use Rattle.arith_decoder.proofs.step.select.Goals as goal
-
-pub returns : goal.returns
-returns c = chosen_by_mask c.args.test c.args.first c.args.second c.from-ones.result c.ranges.first.fits c.ranges.second.fits c.from-ones.ensures
