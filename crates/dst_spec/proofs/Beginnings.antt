@@ -39,7 +39,12 @@ filter_minus_1 = record {
 pub filter_of_three_by_method_2 : HasTable filter_kind (pos 0 ∷ pos 0 ∷ pos 0 ∷ []) (0 ∷ 0 ∷ 0 ∷ 0 ∷ 0 ∷ 1 ∷ 0 ∷ 1 ∷ 1 ∷ 0 ∷ replicate 30 0)
 unfolding spelling_open
 filter_of_three_by_method_2 = record {
-  table = record { least = omega arith; most = omega arith; each = ((le_z_yes tt, le_z_yes tt), ((le_z_yes tt, le_z_yes tt), ((le_z_yes tt, le_z_yes tt), tt))); alone = λ e. absurd cc };
+  table = record {
+    least = omega arith;
+    most = omega arith;
+    each = ((le_z_yes tt, le_z_yes tt), ((le_z_yes tt, le_z_yes tt), ((le_z_yes tt, le_z_yes tt), tt)));
+    alone = λ e. absurd cc;
+  };
   spelling = coded 2 0;
   suits = (refl, omega arith, omega arith, omega arith);
   spelled = refl;
@@ -48,7 +53,12 @@ filter_of_three_by_method_2 = record {
 pub probs_128_128 : HasTable prob_kind (pos 128 ∷ pos 128 ∷ []) (0 ∷ 0 ∷ 0 ∷ 0 ∷ 0 ∷ 1 ∷ 0 ∷ replicate 14 1)
 unfolding spelling_open
 probs_128_128 = record {
-  table = record { least = omega arith; most = omega arith; each = ((le_z_yes tt, le_z_yes tt), ((le_z_yes tt, le_z_yes tt), tt)); alone = λ e f. absurd (omega arith) };
+  table = record {
+    least = omega arith;
+    most = omega arith;
+    each = ((le_z_yes tt, le_z_yes tt), ((le_z_yes tt, le_z_yes tt), tt));
+    alone = λ e f. absurd (omega arith);
+  };
   spelling = plain;
   suits = tt;
   spelled = refl;
@@ -76,7 +86,8 @@ mono_params filter probs f p = record {
   probs = (p, tt);
 }
 
-pub mono_header : (filter : List ℤ) (probs segments maps front behind w : List ℕ) → HasSegments 1 segments → HasMaps (0 ∷ []) (0 ∷ []) maps → HasTable filter_kind filter front → HasTable prob_kind (map pos probs) behind →
+pub mono_header : (filter : List ℤ) (probs segments maps front behind w : List ℕ) → HasSegments 1 segments → HasMaps (0 ∷ []) (0 ∷ []) maps →
+    HasTable filter_kind filter front → HasTable prob_kind (map pos probs) behind →
     w ≡ 1 ∷ segments ++ maps ++ (0 ∷ []) ++ (front ++ []) ++ (behind ++ []) → HasHeader 1 (params_of filter probs) w
 unfolding HasTables
 mono_header filter probs segments maps front behind w s m f p e = record {
@@ -105,26 +116,32 @@ maps_at_once = inl (1 ∷ [], inl (refl, refl), refl, refl)
 -- ---- the headers of frames, up to their first code bit
 pub header_to_45 : HasHeader 1 (params_of (pos 0 ∷ []) (128 ∷ 128 ∷ [])) (take 45 (bits (252 ∷ 0 ∷ 0 ∷ 5 ∷ 255 ∷ 248 ∷ [])))
 unfolding bits low_bits
-header_to_45 = mono_header (pos 0 ∷ []) (128 ∷ 128 ∷ []) at_once (1 ∷ 1 ∷ []) (replicate 17 0) (0 ∷ 0 ∷ 0 ∷ 0 ∷ 0 ∷ 1 ∷ 0 ∷ replicate 14 1) (take 45 (bits (252 ∷ 0 ∷ 0 ∷ 5 ∷ 255 ∷ 248 ∷ []))) segments_at_once maps_at_once filter_0 probs_128_128 refl
+header_to_45 = mono_header (pos 0 ∷ []) (128 ∷ 128 ∷ []) at_once (1 ∷ 1 ∷ []) (replicate 17 0) (0 ∷ 0 ∷ 0 ∷ 0 ∷ 0 ∷ 1 ∷ 0 ∷ replicate 14 1)
+    (take 45 (bits (252 ∷ 0 ∷ 0 ∷ 5 ∷ 255 ∷ 248 ∷ []))) segments_at_once maps_at_once filter_0 probs_128_128 refl
 
 pub header_of_coefficient_1 : HasHeader 1 (params_of (pos 1 ∷ []) (128 ∷ 128 ∷ [])) (take 45 (bits (252 ∷ 0 ∷ 1 ∷ 5 ∷ 255 ∷ 248 ∷ [])))
 unfolding bits low_bits
-header_of_coefficient_1 = mono_header (pos 1 ∷ []) (128 ∷ 128 ∷ []) at_once (1 ∷ 1 ∷ []) (replicate 16 0 ++ 1 ∷ []) (0 ∷ 0 ∷ 0 ∷ 0 ∷ 0 ∷ 1 ∷ 0 ∷ replicate 14 1) (take 45 (bits (252 ∷ 0 ∷ 1 ∷ 5 ∷ 255 ∷ 248 ∷ []))) segments_at_once maps_at_once filter_1 probs_128_128 refl
+header_of_coefficient_1 = mono_header (pos 1 ∷ []) (128 ∷ 128 ∷ []) at_once (1 ∷ 1 ∷ []) (replicate 16 0 ++ 1 ∷ [])
+    (0 ∷ 0 ∷ 0 ∷ 0 ∷ 0 ∷ 1 ∷ 0 ∷ replicate 14 1) (take 45 (bits (252 ∷ 0 ∷ 1 ∷ 5 ∷ 255 ∷ 248 ∷ []))) segments_at_once maps_at_once filter_1 probs_128_128 refl
 
 pub header_of_coefficient_minus_1 : HasHeader 1 (params_of (negsuc 0 ∷ []) (128 ∷ 128 ∷ [])) (take 45 (bits (252 ∷ 1 ∷ 255 ∷ 5 ∷ 255 ∷ 248 ∷ [])))
 unfolding bits low_bits
-header_of_coefficient_minus_1 = mono_header (negsuc 0 ∷ []) (128 ∷ 128 ∷ []) at_once (1 ∷ 1 ∷ []) (replicate 8 0 ++ replicate 9 1) (0 ∷ 0 ∷ 0 ∷ 0 ∷ 0 ∷ 1 ∷ 0 ∷ replicate 14 1) (take 45 (bits (252 ∷ 1 ∷ 255 ∷ 5 ∷ 255 ∷ 248 ∷ []))) segments_at_once maps_at_once filter_minus_1 probs_128_128 refl
+header_of_coefficient_minus_1 = mono_header (negsuc 0 ∷ []) (128 ∷ 128 ∷ []) at_once (1 ∷ 1 ∷ []) (replicate 8 0 ++ replicate 9 1)
+    (0 ∷ 0 ∷ 0 ∷ 0 ∷ 0 ∷ 1 ∷ 0 ∷ replicate 14 1) (take 45 (bits (252 ∷ 1 ∷ 255 ∷ 5 ∷ 255 ∷ 248 ∷ []))) segments_at_once maps_at_once filter_minus_1
+    probs_128_128 refl
 
 -- two segmentations, each given for all channels at once
 pub header_of_two_segmentations : HasHeader 1 (params_of (pos 0 ∷ []) (128 ∷ 128 ∷ [])) (take 47 (bits (191 ∷ 0 ∷ 0 ∷ 1 ∷ 127 ∷ 254 ∷ [])))
 unfolding bits low_bits
-header_of_two_segmentations = mono_header (pos 0 ∷ []) (128 ∷ 128 ∷ []) (0 ∷ 1 ∷ 1 ∷ 1 ∷ 1 ∷ []) (1 ∷ 1 ∷ []) (replicate 17 0) (0 ∷ 0 ∷ 0 ∷ 0 ∷ 0 ∷ 1 ∷ 0 ∷ replicate 14 1) (take 47 (bits (191 ∷ 0 ∷ 0 ∷ 1 ∷ 127 ∷ 254 ∷ [])))
+header_of_two_segmentations = mono_header (pos 0 ∷ []) (128 ∷ 128 ∷ []) (0 ∷ 1 ∷ 1 ∷ 1 ∷ 1 ∷ []) (1 ∷ 1 ∷ []) (replicate 17 0)
+    (0 ∷ 0 ∷ 0 ∷ 0 ∷ 0 ∷ 1 ∷ 0 ∷ replicate 14 1) (take 47 (bits (191 ∷ 0 ∷ 0 ∷ 1 ∷ 127 ∷ 254 ∷ [])))
     (inr (1 ∷ 1 ∷ [], 1 ∷ 1 ∷ [], inl refl, inl refl, refl)) maps_at_once filter_0 probs_128_128 refl
 
 -- two segmentations and two maps, each given for each channel
 pub header_of_two_maps : HasHeader 1 (params_of (pos 0 ∷ []) (128 ∷ 128 ∷ [])) (take 48 (bits (148 ∷ 0 ∷ 0 ∷ 0 ∷ 191 ∷ 255 ∷ [])))
 unfolding bits spelling_open
-header_of_two_maps = mono_header (pos 0 ∷ []) (128 ∷ 128 ∷ []) (0 ∷ 0 ∷ 1 ∷ 0 ∷ 1 ∷ []) (0 ∷ 0 ∷ 0 ∷ []) (replicate 17 0) (0 ∷ 0 ∷ 0 ∷ 0 ∷ 0 ∷ 1 ∷ 0 ∷ replicate 14 1) (take 48 (bits (148 ∷ 0 ∷ 0 ∷ 0 ∷ 191 ∷ 255 ∷ [])))
+header_of_two_maps = mono_header (pos 0 ∷ []) (128 ∷ 128 ∷ []) (0 ∷ 0 ∷ 1 ∷ 0 ∷ 1 ∷ []) (0 ∷ 0 ∷ 0 ∷ []) (replicate 17 0)
+    (0 ∷ 0 ∷ 0 ∷ 0 ∷ 0 ∷ 1 ∷ 0 ∷ replicate 14 1) (take 48 (bits (148 ∷ 0 ∷ 0 ∷ 0 ∷ 191 ∷ 255 ∷ [])))
     (inr (0 ∷ 1 ∷ [], 0 ∷ 1 ∷ [], inr refl, inr refl, refl)) two_maps filter_0 probs_128_128 refl
   where
     two_maps : HasMaps (0 ∷ []) (0 ∷ []) (0 ∷ 0 ∷ 0 ∷ [])
@@ -133,16 +150,19 @@ header_of_two_maps = mono_header (pos 0 ∷ []) (128 ∷ 128 ∷ []) (0 ∷ 0 �
 -- a filter of three coefficients by method 2, without a residual
 pub header_of_method_2 : HasHeader 1 (params_of (pos 0 ∷ pos 0 ∷ pos 0 ∷ []) (128 ∷ 128 ∷ [])) (take 68 (bits (252 ∷ 11 ∷ 0 ∷ 0 ∷ 0 ∷ 0 ∷ 11 ∷ 255 ∷ 240 ∷ [])))
 unfolding bits low_bits
-header_of_method_2 = mono_header (pos 0 ∷ pos 0 ∷ pos 0 ∷ []) (128 ∷ 128 ∷ []) at_once (1 ∷ 1 ∷ []) (0 ∷ 0 ∷ 0 ∷ 0 ∷ 0 ∷ 1 ∷ 0 ∷ 1 ∷ 1 ∷ 0 ∷ replicate 30 0) (0 ∷ 0 ∷ 0 ∷ 0 ∷ 0 ∷ 1 ∷ 0 ∷ replicate 14 1) (take 68 (bits (252 ∷ 11 ∷ 0 ∷ 0 ∷ 0 ∷ 0 ∷ 11 ∷ 255 ∷ 240 ∷ [])))
+header_of_method_2 = mono_header (pos 0 ∷ pos 0 ∷ pos 0 ∷ []) (128 ∷ 128 ∷ []) at_once (1 ∷ 1 ∷ []) (0 ∷ 0 ∷ 0 ∷ 0 ∷ 0 ∷ 1 ∷ 0 ∷ 1 ∷ 1 ∷ 0 ∷ replicate 30 0)
+    (0 ∷ 0 ∷ 0 ∷ 0 ∷ 0 ∷ 1 ∷ 0 ∷ replicate 14 1) (take 68 (bits (252 ∷ 11 ∷ 0 ∷ 0 ∷ 0 ∷ 0 ∷ 11 ∷ 255 ∷ 240 ∷ [])))
     segments_at_once maps_at_once filter_of_three_by_method_2 probs_128_128 refl
 
 -- a table of one probability, which is its length field alone
 pub header_of_one_probability : HasHeader 1 (params_of (pos 0 ∷ []) (128 ∷ [])) (take 30 (bits (252 ∷ 0 ∷ 0 ∷ 0 ∷ [])))
 unfolding bits low_bits
-header_of_one_probability = mono_header (pos 0 ∷ []) (128 ∷ []) at_once (1 ∷ 1 ∷ []) (replicate 17 0) (replicate 6 0) (take 30 (bits (252 ∷ 0 ∷ 0 ∷ 0 ∷ []))) segments_at_once maps_at_once filter_0 prob_128_alone refl
+header_of_one_probability = mono_header (pos 0 ∷ []) (128 ∷ []) at_once (1 ∷ 1 ∷ []) (replicate 17 0) (replicate 6 0)
+    (take 30 (bits (252 ∷ 0 ∷ 0 ∷ 0 ∷ []))) segments_at_once maps_at_once filter_0 prob_128_alone refl
 
 -- ---- a header of two channels: the maps differ, and the second channel has a half bit
-filter_20_minus_8 : HasTable filter_kind (pos 20 ∷ negsuc 7 ∷ []) ((0 ∷ 0 ∷ 0 ∷ 0 ∷ 0 ∷ 0 ∷ 1 ∷ 0 ∷ []) ++ (0 ∷ 0 ∷ 0 ∷ 0 ∷ 1 ∷ 0 ∷ 1 ∷ 0 ∷ 0 ∷ []) ++ (1 ∷ 1 ∷ 1 ∷ 1 ∷ 1 ∷ 1 ∷ 0 ∷ 0 ∷ 0 ∷ []))
+filter_20_minus_8 : HasTable filter_kind (pos 20 ∷ negsuc 7 ∷ [])
+    ((0 ∷ 0 ∷ 0 ∷ 0 ∷ 0 ∷ 0 ∷ 1 ∷ 0 ∷ []) ++ (0 ∷ 0 ∷ 0 ∷ 0 ∷ 1 ∷ 0 ∷ 1 ∷ 0 ∷ 0 ∷ []) ++ (1 ∷ 1 ∷ 1 ∷ 1 ∷ 1 ∷ 1 ∷ 0 ∷ 0 ∷ 0 ∷ []))
 unfolding spelling_open
 filter_20_minus_8 = record {
   table = record { least = omega arith; most = omega arith; each = ((le_z_yes tt, le_z_yes tt), ((le_z_yes tt, le_z_yes tt), tt)); alone = λ e. absurd cc };
@@ -152,10 +172,16 @@ filter_20_minus_8 = record {
 }
 
 -- 5, 6, 7 by method 0, with the residuals 1 and 1
-probs_5_6_7 : HasTable prob_kind (pos 5 ∷ pos 6 ∷ pos 7 ∷ []) ((0 ∷ 0 ∷ 0 ∷ 0 ∷ 1 ∷ 0 ∷ 1 ∷ 0 ∷ 0 ∷ []) ++ (0 ∷ 0 ∷ 0 ∷ 0 ∷ 1 ∷ 0 ∷ 0 ∷ []) ++ (0 ∷ 0 ∷ 0 ∷ []) ++ (0 ∷ 1 ∷ 0 ∷ []) ++ (0 ∷ 1 ∷ 0 ∷ []))
+probs_5_6_7 : HasTable prob_kind (pos 5 ∷ pos 6 ∷ pos 7 ∷ [])
+    ((0 ∷ 0 ∷ 0 ∷ 0 ∷ 1 ∷ 0 ∷ 1 ∷ 0 ∷ 0 ∷ []) ++ (0 ∷ 0 ∷ 0 ∷ 0 ∷ 1 ∷ 0 ∷ 0 ∷ []) ++ (0 ∷ 0 ∷ 0 ∷ []) ++ (0 ∷ 1 ∷ 0 ∷ []) ++ (0 ∷ 1 ∷ 0 ∷ []))
 unfolding spelling_open
 probs_5_6_7 = record {
-  table = record { least = omega arith; most = omega arith; each = ((le_z_yes tt, le_z_yes tt), ((le_z_yes tt, le_z_yes tt), ((le_z_yes tt, le_z_yes tt), tt))); alone = λ e f. absurd (omega (arith, f)) };
+  table = record {
+    least = omega arith;
+    most = omega arith;
+    each = ((le_z_yes tt, le_z_yes tt), ((le_z_yes tt, le_z_yes tt), ((le_z_yes tt, le_z_yes tt), tt)));
+    alone = λ e f. absurd (omega (arith, f));
+  };
   spelling = coded 0 0;
   suits = (refl, omega arith, omega arith, omega arith);
   spelled = refl;

@@ -1,5 +1,6 @@
 -- Where every sample is as guessed, the code is the number 0.
-use Rattle.std.proofs.Common.{◌≡◌, ℕ, zero, suc, ◌+◌, ◌-◌, ◌*◌, ◌/◌, ◌%◌, ◌^◌, ◌<◌, ◌≤◌, ◌==◌, not, Bool, true, false, cond, if◌then◌else◌, ℤ, pos, negsuc, ◌+ℤ◌, neg_ℤ, nat_abs, List, [], ◌∷◌, map, replicate, refl, ◌∙◌, arith}
+use Rattle.std.proofs.Common.{◌≡◌, ℕ, zero, suc, ◌+◌, ◌-◌, ◌*◌, ◌/◌, ◌%◌, ◌^◌, ◌<◌, ◌≤◌, ◌==◌, not, Bool, true, false, cond, if◌then◌else◌, ℤ, pos}
+use Rattle.std.proofs.Common.{negsuc, ◌+ℤ◌, neg_ℤ, nat_abs, List, [], ◌∷◌, map, replicate, refl, ◌∙◌, arith}
 use Rattle.std.proofs.lemmas.List.{get_or-replicate, length-replicate}
 use Rattle.std.proofs.Math.Nat.{zero-div}
 use Rattle.std.specs.List.{AllByRecursion, range_with_len}
@@ -63,8 +64,10 @@ unfolding symbols
 symbols_are_sure P n sound s =
     let at : ℕ → List (Bool × ℕ) = λ t. map (λ c. (as_guessed (mono n) P sound c t, probability (mono n) P sound c t)) (range_with_len 0 1) in
     let first : IsSure (true, reserved_probability P) = (refl, (s.reserved_least, s.reserved_most)) in
-    let sure : (t : ℕ) → t < 8 * n → IsSure (as_guessed (mono n) P sound 0 t, probability (mono n) P sound 0 t) = λ t h. (s.guessed t h, (omega (arith, s.probable t), omega (arith, s.probable t))) in
-    let each : AllByRecursion (λ t. AllByRecursion IsSure (at t)) (range_with_len 0 (8 * n)) = all_range (λ t. AllByRecursion IsSure (at t)) 0 (8 * n) (λ t h. (sure t (omega arith), tt)) in
+    let sure : (t : ℕ) → t < 8 * n → IsSure (as_guessed (mono n) P sound 0 t, probability (mono n) P sound 0 t) =
+    λ t h. (s.guessed t h, (omega (arith, s.probable t), omega (arith, s.probable t))) in
+    let each : AllByRecursion (λ t. AllByRecursion IsSure (at t)) (range_with_len 0 (8 * n)) =
+    all_range (λ t. AllByRecursion IsSure (at t)) 0 (8 * n) (λ t h. (sure t (omega arith), tt)) in
     (first, all_flat_map IsSure at (range_with_len 0 (8 * n)) each)
 
 pub IsSound-same : (n b : ℕ) → b < 256 → IsSound (mono n) (replicate n b)
@@ -100,13 +103,25 @@ pub ones_two_probs : (k n : ℕ) → IsGuessed (params_of (replicate (suc k) (po
 unfolding reserved_probability low_bits number_from
 ones_two_probs k n =
     let zero_predicted = λ (t : ℕ). zeros_predict_zero (mono n) (replicate n 255) 0 (suc k) (pos t) in
-    record { sound_is = IsSound-same n 255 (omega arith); guessed = λ t h. rw (zero_predicted t, sample_of_ones n t h) refl; probable = λ t. rw (zero_predicted t) refl; reserved_least = omega arith; reserved_most = omega arith }
+    record {
+      sound_is = IsSound-same n 255 (omega arith);
+      guessed = λ t h. rw (zero_predicted t, sample_of_ones n t h) refl;
+      probable = λ t. rw (zero_predicted t) refl;
+      reserved_least = omega arith;
+      reserved_most = omega arith;
+    }
 
 pub ones_one_prob : (k n : ℕ) → IsGuessed (params_of (replicate (suc k) (pos 0)) (128 ∷ [])) n (replicate n 255)
 unfolding reserved_probability low_bits number_from
 ones_one_prob k n =
     let zero_predicted = λ (t : ℕ). zeros_predict_zero (mono n) (replicate n 255) 0 (suc k) (pos t) in
-    record { sound_is = IsSound-same n 255 (omega arith); guessed = λ t h. rw (zero_predicted t, sample_of_ones n t h) refl; probable = λ t. rw (zero_predicted t) refl; reserved_least = omega arith; reserved_most = omega arith }
+    record {
+      sound_is = IsSound-same n 255 (omega arith);
+      guessed = λ t h. rw (zero_predicted t, sample_of_ones n t h) refl;
+      probable = λ t. rw (zero_predicted t) refl;
+      reserved_least = omega arith;
+      reserved_most = omega arith;
+    }
 
 -- bytes 00, with the coefficient 1: each sample is guessed as the one before it
 sample_of_zeros : (n t : ℕ) → sample (mono n) (replicate n 0) 0 (pos t) ≡ 0
@@ -119,7 +134,13 @@ zeros_predict_down n (suc t) = rw (sample_of_zeros n t) refl
 
 pub zeros_guessed : (n : ℕ) → IsGuessed (params_of (pos 1 ∷ []) (128 ∷ 128 ∷ [])) n (replicate n 0)
 unfolding reserved_probability low_bits number_from
-zeros_guessed n = record { sound_is = IsSound-same n 0 (omega arith); guessed = λ t h. rw (zeros_predict_down n t, sample_of_zeros n t) refl; probable = λ t. rw (zeros_predict_down n t) refl; reserved_least = omega arith; reserved_most = omega arith }
+zeros_guessed n = record {
+  sound_is = IsSound-same n 0 (omega arith);
+  guessed = λ t h. rw (zeros_predict_down n t, sample_of_zeros n t) refl;
+  probable = λ t. rw (zeros_predict_down n t) refl;
+  reserved_least = omega arith;
+  reserved_most = omega arith;
+}
 
 -- bytes AA, with the coefficient -1: each sample is guessed as the other one than that before it
 bit_of_turns : (k : ℕ) → k < 8 → 170 / 2 ^ k % 2 ≡ k % 2

@@ -1,5 +1,6 @@
 -- Where a frame is refused for its code, its header stands whole in front of it.
-use Rattle.std.proofs.Common.{◌≡◌, ℕ, zero, suc, ◌+◌, ◌<◌, ◌≤◌, ◌==◌, nat_lt, if◌then◌else◌, Bool, true, false, List, [], ◌∷◌, ◌++◌, length, take, drop, refl, ap, sym, subst, ◌∙◌, arith, length-append, take_at, Option, Some, None, Result, Ok, Err, ltb-false}
+use Rattle.std.proofs.Common.{◌≡◌, ℕ, zero, suc, ◌+◌, ◌<◌, ◌≤◌, ◌==◌, nat_lt, if◌then◌else◌, Bool, true, false, List, [], ◌∷◌, ◌++◌, length, take}
+use Rattle.std.proofs.Common.{drop, refl, ap, sym, subst, ◌∙◌, arith, length-append, take_at, Option, Some, None, Result, Ok, Err, ltb-false}
 use Rattle.dst_spec.specs.Bits.{bits, number_from, AreBits}
 use Rattle.dst_spec.specs.Sample.{Shape, IsShape}
 use Rattle.dst_spec.specs.Header.{Params, HasHeader}
@@ -16,13 +17,18 @@ use Rattle.dst_spec.proofs.HeaderFaults.{IsHeaderReason, IsHeaderRule, AreHeader
 use Rattle.dst_spec.proofs.Lists.{same_err}
 
 -- a field without a rule is cut short, or the fault is behind it
-behind_any : {A : Type 0} (n : ℕ) (next : ℕ → Fields A) (xs : List ℕ) (place : ℕ) (fault : FrameFault) → (IsHeaderReason fault.reason → ⊥) → read (field n any next) xs place ≡ Err fault →
+behind_any : {A : Type 0} (n : ℕ) (next : ℕ → Fields A) (xs : List ℕ) (place : ℕ) (fault : FrameFault) → (IsHeaderReason fault.reason → ⊥) →
+    read (field n any next) xs place ≡ Err fault →
     (n ≤ length xs) × (read (next (number_from xs 0 n)) (drop n xs) (place + n) ≡ Err fault)
 unfolding read
 behind_any {A} n next xs place fault other e = go (nat_lt (length xs) n) refl e
   where
     go : (b : Bool) → nat_lt (length xs) n ≡ b →
-        ◌≡◌ {A = Result (A × List ℕ × ℕ) FrameFault} (elim b [ true ↦ Err (record { reason = Truncated; bit = place }) | false ↦ read (next (number_from xs 0 n)) (drop n xs) (place + n) ]) (Err fault) →
+        ◌≡◌ {A = Result (A × List ℕ × ℕ) FrameFault} (elim b [
+          | true ↦ Err (record { reason = Truncated; bit = place })
+          | false ↦ read
+              (next (number_from xs 0 n)) (drop n xs) (place + n)
+        ]) (Err fault) →
         (n ≤ length xs) × (read (next (number_from xs 0 n)) (drop n xs) (place + n) ≡ Err fault)
     go true is h = absurd (other (subst (λ (f : FrameFault). IsHeaderReason f.reason) (same_err (record { reason = Truncated; bit = place }) fault h) tt))
     go false is h = (ltb-false (length xs) n is, h)
@@ -35,7 +41,8 @@ plain_fields_are f = ((λ v. tt), (λ reserved. ((λ v. rule (v == 0)), (λ stuf
     rule true = tt
     rule false = tt
 
-header_took : (n : ℕ) → 1 ≤ n → (ys : List ℕ) (place : ℕ) (q : Params × List ℕ × ℕ) → AreBits ys → read (header_fields n) ys place ≡ Ok q → Took (λ w P. HasHeader n P (1 ∷ w)) ys place q
+header_took : (n : ℕ) → 1 ≤ n → (ys : List ℕ) (place : ℕ) (q : Params × List ℕ × ℕ) → AreBits ys → read (header_fields n) ys place ≡ Ok q →
+    Took (λ w P. HasHeader n P (1 ∷ w)) ys place q
 header_took zero h = absurd (omega arith)
 header_took (suc n) h = Takes-header n
 
@@ -43,14 +50,17 @@ abbrev HeaderInFront : Shape → List ℕ → Type 0
 HeaderInFront f xs = (P : Params) × (place : ℕ) × (place ≤ length xs) × HasHeader f.channels P (take place xs)
 
 -- the bits behind the first
-coded_front : (f : Shape) (xs ys : List ℕ) (fault : FrameFault) → IsShape f → AreBits ys → xs ≡ 1 ∷ ys → (IsHeaderReason fault.reason → ⊥) → read (coded_frame_fields f) ys 1 ≡ Err fault → HeaderInFront f xs
+coded_front : (f : Shape) (xs ys : List ℕ) (fault : FrameFault) → IsShape f → AreBits ys → xs ≡ 1 ∷ ys → (IsHeaderReason fault.reason → ⊥) →
+    read (coded_frame_fields f) ys 1 ≡ Err fault → HeaderInFront f xs
 unfolding coded_frame_fields
 coded_front f xs ys fault shape bits_behind from_one other e =
-    let parts : Params → Fields (Option Params) = λ P. code 1 first_bit_rule gives >>= (λ first. code 12 range_of_code_rule gives >>= (λ twelve. gives (Some P))) in
+    let parts : Params → Fields (Option Params) = λ P. code 1 first_bit_rule gives >>=
+    (λ first. code 12 range_of_code_rule gives >>= (λ twelve. gives (Some P))) in
     go (read (header_fields f.channels) ys 1) refl (sym (read-bind (header_fields f.channels) parts ys 1) ∙ e)
   where
     go : (q : Result (Params × List ℕ × ℕ) FrameFault) → read (header_fields f.channels) ys 1 ≡ q →
-        onward (λ P. code 1 first_bit_rule gives >>= (λ first. code 12 range_of_code_rule gives >>= (λ twelve. gives (Some P)))) q ≡ Err fault → HeaderInFront f xs
+        onward (λ P. code 1 first_bit_rule gives >>= (λ first. code 12 range_of_code_rule gives >>= (λ twelve. gives (Some P)))) q ≡ Err fault →
+        HeaderInFront f xs
     go (Err t) is h =
         let same = same_err t fault h in
         absurd (other (read_fault (header_fields f.channels) ys 1 fault (header f.channels) (is ∙ ap Err same)))
@@ -65,7 +75,8 @@ cons_is : (xs : List ℕ) → 1 ≤ length xs → number_from xs 0 1 ≡ 1 → x
 cons_is [] h one = absurd (omega arith)
 cons_is (x ∷ xs) h one = ap (λ b. b ∷ xs) (sym (first_number (x ∷ xs)) ∙ one)
 
-pub header_in_front : (f : Shape) (frame : List ℕ) (fault : FrameFault) → IsShape f → Offends f frame fault → (IsHeaderReason fault.reason → ⊥) → HeaderInFront f (bits frame)
+pub header_in_front : (f : Shape) (frame : List ℕ) (fault : FrameFault) → IsShape f → Offends f frame fault → (IsHeaderReason fault.reason → ⊥) →
+    HeaderInFront f (bits frame)
 unfolding frame_fields
 header_in_front f frame fault shape offends other =
     let xs = bits frame in

@@ -1,5 +1,7 @@
 -- A code that lies in the whole interval has one sound, for given parameters.
-use Rattle.std.proofs.Common.{◌≡◌, ◌≢◌, ℕ, zero, suc, ◌+◌, ◌-◌, ◌*◌, ◌/◌, ◌%◌, ◌<◌, ◌≤◌, ◌==◌, nat_lt, Bool, true, false, not, if◌then◌else◌, List, [], ◌∷◌, ◌++◌, map, flat_map, refl, ap, ap₂, sym, subst, subst₂, ◌∙◌, arith, pos, eq-eqb, ne_eqb, div-add-mod', ltb-true, ltb-false}
+use Rattle.std.proofs.Common.{◌≡◌, ◌≢◌, ℕ, zero, suc, ◌+◌, ◌-◌, ◌*◌, ◌/◌, ◌%◌, ◌<◌, ◌≤◌, ◌==◌, nat_lt, Bool, true, false, not, if◌then◌else◌, List}
+use Rattle.std.proofs.Common.{[], ◌∷◌, ◌++◌, map, flat_map, refl, ap, ap₂, sym, subst, subst₂, ◌∙◌, arith, pos, eq-eqb, ne_eqb, div-add-mod'}
+use Rattle.std.proofs.Common.{ltb-true, ltb-false}
 use Rattle.std.proofs.lemmas.Nat.{mod-mul-add, div-mul-add, div_below}
 use Rattle.std.specs.List.{range_with_len}
 use Rattle.std.specs.Int.{is_negative}
@@ -9,7 +11,8 @@ use Rattle.dst_spec.specs.Header.{Params, IsParams, bit_of}
 use Rattle.dst_spec.specs.Guess.{prediction, probability, as_guessed}
 use Rattle.dst_spec.specs.Symbols.{reserved_probability, symbols}
 use Rattle.dst_spec.specs.Interval.{Interval, part, narrowed, interval_from, IsWithin}
-use Rattle.dst_spec.proofs.Intervals.{IsNormal, IsNormal-narrowed, IsNormal-interval_from, AreLawful, interval_from-append, within_doubled, within_narrowed, within_front, within_part, IsPart-part, one_part}
+use Rattle.dst_spec.proofs.Intervals.{IsNormal, IsNormal-narrowed, IsNormal-interval_from, AreLawful, interval_from-append, within_doubled}
+use Rattle.dst_spec.proofs.Intervals.{within_narrowed, within_front, within_part, IsPart-part, one_part}
 use Rattle.dst_spec.proofs.Probabilities.{IsProb-probability}
 use Rattle.dst_spec.proofs.Causal.{sound_of, sample-sound_of, probability-same, prediction-same, from_symbol, guessed_from}
 
@@ -34,15 +37,18 @@ map-append : {A B : Type 0} (g : A → B) (xs ys : List A) → map g (xs ++ ys) 
 map-append g [] ys = refl
 map-append g (x ∷ xs) ys = ap (λ zs. g x ∷ zs) (map-append g xs ys)
 
-row : {B : Type 0} (g : ℕ → ℕ → B) (w a j m : ℕ) → j + m ≤ w → map (λ c. g c a) (range_with_len j m) ≡ map (λ k. g (k % w) (k / w)) (range_with_len (a * w + j) m)
+row : {B : Type 0} (g : ℕ → ℕ → B) (w a j m : ℕ) → j + m ≤ w →
+    map (λ c. g c a) (range_with_len j m) ≡ map (λ k. g (k % w) (k / w)) (range_with_len (a * w + j) m)
 row g w a j zero h = refl
 row g w a j (suc m) h =
     let lt : j < w = omega arith in
     let next : a * w + j + 1 ≡ a * w + (j + 1) = omega arith in
     let rest = row g w a (j + 1) m (omega arith) in
-    ap₂ (λ x xs. x ∷ xs) (sym (ap₂ g (mod-mul-add a w j lt) (div-mul-add a w j lt))) (rest ∙ ap (λ p. map (λ k. g (k % w) (k / w)) (range_with_len p m)) (sym next))
+    ap₂ (λ x xs. x ∷ xs) (sym (ap₂ g (mod-mul-add a w j lt) (div-mul-add a w j lt))) (rest
+    ∙ ap (λ p. map (λ k. g (k % w) (k / w)) (range_with_len p m)) (sym next))
 
-rows : {B : Type 0} (g : ℕ → ℕ → B) (w a n : ℕ) → flat_map (λ t. map (λ c. g c t) (range_with_len 0 w)) (range_with_len a n) ≡ map (λ k. g (k % w) (k / w)) (range_with_len (a * w) (n * w))
+rows : {B : Type 0} (g : ℕ → ℕ → B) (w a n : ℕ) → flat_map (λ t. map (λ c. g c t) (range_with_len 0 w)) (range_with_len a n) ≡ map (λ k. g (k % w) (k / w))
+    (range_with_len (a * w) (n * w))
 rows g w a zero =
     let none : zero * w ≡ zero = omega arith in
     rw none refl
@@ -51,12 +57,14 @@ rows g w a (suc n) =
     let size : suc n * w ≡ w + n * w = omega arith in
     let start : a * w + 0 ≡ a * w = omega arith in
     let next : a * w + w ≡ (a + 1) * w = omega arith in
-    ap₂ (λ x y. x ++ y) (row g w a 0 w (omega arith) ∙ ap (λ p. map h (range_with_len p w)) start) (rows g w (a + 1) n ∙ ap (λ p. map h (range_with_len p (n * w))) (sym next))
+    ap₂ (λ x y. x ++ y) (row g w a 0 w (omega arith) ∙ ap (λ p. map h (range_with_len p w)) start) (rows g w (a + 1) n
+    ∙ ap (λ p. map h (range_with_len p (n * w))) (sym next))
     ∙ sym (map-append h (range_with_len (a * w) w) (range_with_len (a * w + w) (n * w)))
     ∙ ap (map h) (sym (range-append (a * w) w (n * w)))
     ∙ ap (λ m. map h (range_with_len (a * w) m)) (sym size)
 
-pub symbols-by_place : (f : Shape) (P : Params) (sound : List ℕ) (e : Bool) → symbols f P sound e ≡ (e, reserved_probability P) ∷ pairs_from f P sound 0 (samples f * f.channels)
+pub symbols-by_place : (f : Shape) (P : Params) (sound : List ℕ) (e : Bool) →
+    symbols f P sound e ≡ (e, reserved_probability P) ∷ pairs_from f P sound 0 (samples f * f.channels)
 unfolding symbols
 symbols-by_place f P sound e =
     let start : 0 * f.channels ≡ 0 = omega arith in
@@ -87,22 +95,27 @@ prediction_at f P a b k h same =
     let p = earlier_place f.channels k u h l in
     subst₂ (λ c t. sample f a c (pos t) ≡ sample f b c (pos t)) p.1 p.2 (same (u * f.channels + k % f.channels) p.0))
 
-pair_same : (f : Shape) (P : Params) (a b : List ℕ) (k : ℕ) → 0 < f.channels → ((j : ℕ) → j < k + 1 → sample_at f a j ≡ sample_at f b j) → pair_at f P a k ≡ pair_at f P b k
+pair_same : (f : Shape) (P : Params) (a b : List ℕ) (k : ℕ) → 0 < f.channels → ((j : ℕ) → j < k + 1 → sample_at f a j ≡ sample_at f b j) →
+    pair_at f P a k ≡ pair_at f P b k
 pair_same f P a b k h same =
     let c = k % f.channels in
     let t = k / f.channels in
     let predicted = prediction_at f P a b k h (λ j l. same j (omega arith)) in
-    ap₂ (λ x y. (x, y)) (ap₂ (λ s z. if is_negative z then not (s == 1) else (s == 1)) (same k (omega arith)) predicted) (probability-same f P a b c t predicted)
+    ap₂ (λ x y. (x, y)) (ap₂ (λ s z. if is_negative z then not (s == 1) else (s == 1)) (same k (omega arith)) predicted)
+    (probability-same f P a b c t predicted)
 
-pairs_same : (f : Shape) (P : Params) (a b : List ℕ) (k n : ℕ) → 0 < f.channels → ((j : ℕ) → j < k + n → sample_at f a j ≡ sample_at f b j) → pairs_from f P a k n ≡ pairs_from f P b k n
+pairs_same : (f : Shape) (P : Params) (a b : List ℕ) (k n : ℕ) → 0 < f.channels → ((j : ℕ) → j < k + n → sample_at f a j ≡ sample_at f b j) →
+    pairs_from f P a k n ≡ pairs_from f P b k n
 pairs_same f P a b k zero h same = refl
 pairs_same f P a b k (suc n) h same =
     ap₂ (λ x xs. x ∷ xs) (pair_same f P a b k h (λ j l. same j (omega arith))) (pairs_same f P a b (k + 1) n h (λ j l. same j (omega arith)))
 
-pairs_split : (f : Shape) (P : Params) (a : List ℕ) (k n total : ℕ) → k + suc n ≡ total → pairs_from f P a 0 total ≡ pairs_from f P a 0 k ++ pair_at f P a k ∷ pairs_from f P a (k + 1) n
+pairs_split : (f : Shape) (P : Params) (a : List ℕ) (k n total : ℕ) → k + suc n ≡ total →
+    pairs_from f P a 0 total ≡ pairs_from f P a 0 k ++ pair_at f P a k ∷ pairs_from f P a (k + 1) n
 pairs_split f P a k n total e =
     let start : 0 + k ≡ k = omega arith in
-    ap (pairs_from f P a 0) (sym e) ∙ ap (map (pair_at f P a)) (range-append 0 k (suc n)) ∙ map-append (pair_at f P a) (range_with_len 0 k) (range_with_len (0 + k) (suc n))
+    ap (pairs_from f P a 0) (sym e) ∙ ap (map (pair_at f P a)) (range-append 0 k (suc n))
+    ∙ map-append (pair_at f P a) (range_with_len 0 k) (range_with_len (0 + k) (suc n))
     ∙ ap (λ p. pairs_from f P a 0 k ++ pairs_from f P a p (suc n)) start
 
 lawful_at : (f : Shape) (P : Params) (a : List ℕ) (k : ℕ) → IsParams f.channels P → 0 < f.channels → (1 ≤ (pair_at f P a k).1) × ((pair_at f P a k).1 ≤ 128)
@@ -123,7 +136,8 @@ same_sample false (suc zero) zero h k e = absurd cc
 same_sample n (suc (suc s)) u h k e = absurd (omega arith)
 same_sample n s (suc (suc u)) h k e = absurd (omega arith)
 
-pub first_symbol : (xs : List ℕ) (i : ℕ) (jk : Interval) (pair : Bool × ℕ) (rest : List (Bool × ℕ)) → AreBits xs → IsNormal jk → (1 ≤ pair.1) × (pair.1 ≤ 128) → AreLawful rest →
+pub first_symbol : (xs : List ℕ) (i : ℕ) (jk : Interval) (pair : Bool × ℕ) (rest : List (Bool × ℕ)) → AreBits xs → IsNormal jk →
+    (1 ≤ pair.1) × (pair.1 ≤ 128) → AreLawful rest →
     IsWithin xs i (interval_from jk (pair ∷ rest)) → IsWithin xs i (part pair.0 pair.1 jk) × IsWithin xs i jk
 unfolding interval_from
 first_symbol xs i jk pair rest bits normal law rest_law w =
@@ -131,7 +145,8 @@ first_symbol xs i jk pair rest bits normal law rest_law w =
     let at = within_narrowed xs i jk pair.0 pair.1 bits law.0 law.1 normal next in
     (at, within_part xs i jk (part pair.0 pair.1 jk) (IsPart-part pair.0 pair.1 jk law.0 law.1 normal) at)
 
-pub same_samples : (f : Shape) (P : Params) (xs : List ℕ) (i : ℕ) (a b : List ℕ) (j : Interval) (total : ℕ) → IsParams f.channels P → 0 < f.channels → AreBits xs → IsNormal j →
+pub same_samples : (f : Shape) (P : Params) (xs : List ℕ) (i : ℕ) (a b : List ℕ) (j : Interval) (total : ℕ) → IsParams f.channels P → 0 < f.channels →
+    AreBits xs → IsNormal j →
     IsWithin xs i (interval_from j (pairs_from f P a 0 total)) → IsWithin xs i (interval_from j (pairs_from f P b 0 total)) →
     (k : ℕ) → k ≤ total → (m : ℕ) → m < k → sample_at f a m ≡ sample_at f b m
 same_samples f P xs i a b j total params h bits normal u v zero l m k = absurd (omega arith)
@@ -151,21 +166,27 @@ same_samples f P xs i a b j total params h bits normal u v (suc k) l m less_than
         let law = lawful_at f P a k params h in
         let jk_normal = IsNormal-interval_from j (pairs_from f P a 0 k) normal (lawful_from f P a 0 k params h) in
         let at_a : IsWithin xs i (interval_from jk (pair_at f P a k ∷ pairs_from f P a (k + 1) n)) =
-        subst (IsWithin xs i) (ap (interval_from j) (pairs_split f P a k n total split) ∙ interval_from-append j (pairs_from f P a 0 k) (pair_at f P a k ∷ pairs_from f P a (k + 1) n)) u in
+        subst (IsWithin xs i) (ap (interval_from j) (pairs_split f P a k n total split)
+        ∙ interval_from-append j (pairs_from f P a 0 k) (pair_at f P a k ∷ pairs_from f P a (k + 1) n)) u in
         let at_b : IsWithin xs i (interval_from jk (pair_at f P b k ∷ pairs_from f P b (k + 1) n)) =
-        subst (IsWithin xs i) (ap (interval_from j) (pairs_split f P b k n total split) ∙ interval_from-append j (pairs_from f P b 0 k) (pair_at f P b k ∷ pairs_from f P b (k + 1) n)
+        subst (IsWithin xs i) (ap (interval_from j) (pairs_split f P b k n total split)
+        ∙ interval_from-append j (pairs_from f P b 0 k) (pair_at f P b k ∷ pairs_from f P b (k + 1) n)
         ∙ ap (λ z. interval_from (interval_from j z) (pair_at f P b k ∷ pairs_from f P b (k + 1) n)) (sym front)) v in
         let a_symbol = first_symbol xs i jk (pair_at f P a k) (pairs_from f P a (k + 1) n) bits jk_normal law (lawful_from f P a (k + 1) n params h) at_a in
-        let b_symbol = first_symbol xs i jk (pair_at f P b k) (pairs_from f P b (k + 1) n) bits jk_normal (lawful_at f P b k params h) (lawful_from f P b (k + 1) n params h) at_b in
+        let b_symbol = first_symbol xs i jk (pair_at f P b k) (pairs_from f P b (k + 1) n) bits jk_normal (lawful_at f P b k params h)
+        (lawful_from f P b (k + 1) n params h) at_b in
         let inside = a_symbol.1 in
         let one = one_part xs i jk p law.0 law.1 jk_normal inside in
         let e_a = one.2 (as_guessed f P a (k % f.channels) (k / f.channels)) a_symbol.0 in
-        let e_b = one.2 (as_guessed f P b (k % f.channels) (k / f.channels)) (subst (λ q. IsWithin xs i (part (as_guessed f P b (k % f.channels) (k / f.channels)) q jk)) prob b_symbol.0) in
+        let e_b = one.2 (as_guessed f P b (k % f.channels) (k / f.channels))
+        (subst (λ q. IsWithin xs i (part (as_guessed f P b (k % f.channels) (k / f.channels)) q jk)) prob b_symbol.0) in
         let guesses = e_a ∙ sym e_b in
         let guesses_same = guesses ∙ ap (λ z. if is_negative z then not (sample_at f b k == 1) else (sample_at f b k == 1)) (sym predicted) in
-        same_sample (is_negative (prediction f P a (k % f.channels) (k / f.channels))) (sample_at f a k) (sample_at f b k) (omega arith) (omega arith) guesses_same
+        same_sample (is_negative (prediction f P a (k % f.channels) (k / f.channels))) (sample_at f a k) (sample_at f b k) (omega arith)
+        (omega arith) guesses_same
 
-    go : (t : Bool) → nat_lt m k ≡ t → ((m : ℕ) → m < k → sample_at f a m ≡ sample_at f b m) → sample_at f a k ≡ sample_at f b k → sample_at f a m ≡ sample_at f b m
+    go : (t : Bool) → nat_lt m k ≡ t → ((m : ℕ) → m < k → sample_at f a m ≡ sample_at f b m) → sample_at f a k ≡ sample_at f b k →
+        sample_at f a m ≡ sample_at f b m
     go true e before at = before m (ltb-true m k e)
     go false e before at =
         let last : k ≤ m = ltb-false m k e in
@@ -194,7 +215,8 @@ sample_made f X k h l =
     let c = k % f.channels in
     sample-sound_of f X c t (omega arith) (div_below k f.channels (samples f) h l) ∙ ap (λ z. bit_of (X z)) (div-add-mod' k f.channels)
 
-pub made_sound : (f : Shape) (P : Params) (xs : List ℕ) (i : ℕ) (j : Interval) → IsParams f.channels P → 0 < f.channels → AreBits xs → IsNormal j → (n k : ℕ) → k + n ≡ samples f * f.channels →
+pub made_sound : (f : Shape) (P : Params) (xs : List ℕ) (i : ℕ) (j : Interval) → IsParams f.channels P → 0 < f.channels → AreBits xs → IsNormal j →
+    (n k : ℕ) → k + n ≡ samples f * f.channels →
     (X : ℕ → Bool) → IsWithin xs i (interval_from j (pairs_from f P (sound_of f X) 0 k)) →
     (Y : ℕ → Bool) × IsWithin xs i (interval_from j (pairs_from f P (sound_of f Y) 0 (samples f * f.channels)))
 made_sound f P xs i j params h bits normal zero k e X w =
@@ -216,7 +238,8 @@ made_sound f P xs i j params h bits normal (suc n) k e X w =
     let predicted = prediction_at f P S T k h before in
     let prob : p ≡ probability f P T (k % f.channels) (k / f.channels) = probability-same f P S T (k % f.channels) (k / f.channels) predicted in
     let made : sample_at f T k ≡ bit_of (from_symbol (is_negative (prediction f P T (k % f.channels) (k / f.channels))) one.0) =
-    sample_made f Y k h (omega arith) ∙ ap bit_of (set_at-same X k (from_symbol negative one.0)) ∙ ap (λ z. bit_of (from_symbol (is_negative z) one.0)) predicted in
+    sample_made f Y k h (omega arith) ∙ ap bit_of (set_at-same X k (from_symbol negative one.0))
+    ∙ ap (λ z. bit_of (from_symbol (is_negative z) one.0)) predicted in
     let symbol : as_guessed f P T (k % f.channels) (k / f.channels) ≡ one.0 = guessed_from f P T (k % f.channels) (k / f.channels) one.0 made in
     let pair : (one.0, p) ≡ pair_at f P T k = ap₂ (λ x y. (x, y)) (sym symbol) prob in
     let front : pairs_from f P S 0 k ≡ pairs_from f P T 0 k = pairs_same f P S T 0 k h (λ m l. before m (omega arith)) in

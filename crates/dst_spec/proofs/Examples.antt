@@ -9,7 +9,8 @@ use Rattle.dst_spec.specs.Guess.{sum_before}
 use Rattle.dst_spec.specs.Symbols.{reserved_probability, symbols}
 use Rattle.dst_spec.specs.Interval.{doubled, interval_from}
 use Rattle.dst_spec.specs.Fields.{read}
-use Rattle.dst_spec.specs.Offends.{times, segment_fields, map_number_fields, map_fields, both_segments, both_maps, later_fields, table_fields, header_fields, plain_frame_fields, coded_frame_fields, frame_fields}
+use Rattle.dst_spec.specs.Offends.{times, segment_fields, map_number_fields, map_fields, both_segments, both_maps, later_fields, table_fields}
+use Rattle.dst_spec.specs.Offends.{header_fields, plain_frame_fields, coded_frame_fields, frame_fields}
 use Rattle.dst_spec.specs.Spell.{shortest, header_spelling, code_spelling, spell}
 use Rattle.dst_spec.specs.declared.faults.FrameFault.{FrameFault}
 use Rattle.dst_spec.specs.declared.faults.Reason.{Reason}
@@ -54,7 +55,8 @@ at reason bit = record { reason = reason; bit = bit }
 
 -- what reading computes with
 unfoldable pub fields_open : ⊤
-unfolding low_bits bits number_from weighted read times segment_fields map_number_fields map_fields both_segments both_maps later_fields table_fields header_fields plain_frame_fields coded_frame_fields frame_fields
+unfolding low_bits bits number_from weighted read times segment_fields map_number_fields map_fields both_segments both_maps later_fields table_fields
+    header_fields plain_frame_fields coded_frame_fields frame_fields
 fields_open = tt
 
 -- what spelling computes with
@@ -67,5 +69,6 @@ unfolding low_bits number_from sum_before reserved_probability symbols
 symbols_open = tt
 
 unfoldable pub spelling_open : ⊤
-unfolding low_bits number_from octets plain_values weighted later_values table_bits shortest map_numbers header_spelling sum_before reserved_probability symbols doubled interval_from code_spelling spell
+unfolding low_bits number_from octets plain_values weighted later_values table_bits shortest map_numbers header_spelling sum_before reserved_probability
+    symbols doubled interval_from code_spelling spell
 spelling_open = tt

@@ -1,5 +1,6 @@
 -- The fields of a header that were read are a header, with the parameters that they gave.
-use Rattle.std.proofs.Common.{◌≡◌, ℕ, zero, suc, ◌/◌, ◌%◌, ◌^◌, ◌<◌, ◌==◌, List, [], ◌∷◌, ◌++◌, length, map, refl, ap, ap₂, sym, subst, ◌∙◌, arith, append_assoc, ℤ, pos, negsuc, nat_abs}
+use Rattle.std.proofs.Common.{◌≡◌, ℕ, zero, suc, ◌/◌, ◌%◌, ◌^◌, ◌<◌, ◌==◌, List, [], ◌∷◌, ◌++◌, length, map, refl, ap, ap₂, sym, subst, ◌∙◌, arith}
+use Rattle.std.proofs.Common.{append_assoc, ℤ, pos, negsuc, nat_abs}
 use Rattle.std.proofs.lemmas.Int.{ints}
 use Rattle.std.proofs.lemmas.List.{length-map}
 use Rattle.std.specs.List.{AllByRecursion}
@@ -25,7 +26,8 @@ Takes-halves : (n : ℕ) → Takes (times n (number 1)) (λ w xs. (length xs ≡
 unfolding low_bits
 Takes-halves n =
     let one : Takes (number 1) (λ w v. (v < 2) × (w ≡ v ∷ [])) =
-    Takes-weaker (number 1) (λ w v. (v < 2 ^ 1) × (w ≡ low_bits 1 v)) (λ w v. (v < 2) × (w ≡ v ∷ [])) (Takes-number 1) (λ w v h. (h.0, h.1 ∙ ap (λ z. z ∷ []) (low_bit v h.0))) in
+    Takes-weaker (number 1) (λ w v. (v < 2 ^ 1) × (w ≡ low_bits 1 v)) (λ w v. (v < 2) × (w ≡ v ∷ [])) (Takes-number 1)
+    (λ w v h. (h.0, h.1 ∙ ap (λ z. z ∷ []) (low_bit v h.0))) in
     Takes-weaker (times n (number 1)) (λ w xs. (length xs ≡ n) × EachIs (λ w v. (v < 2) × (w ≡ v ∷ [])) w xs) (λ w xs. (length xs ≡ n) × AreBits xs × (w ≡ xs))
     (Takes-times n (number 1) (λ w v. (v < 2) × (w ≡ v ∷ [])) one) (λ w xs h. (h.0, (halves_are w xs h.1).0, (halves_are w xs h.1).1))
   where
@@ -44,18 +46,26 @@ probs_again [] h = refl
 probs_again (pos n ∷ vs) h = ap (λ zs. pos n ∷ zs) (probs_again vs h.1)
 probs_again (negsuc n ∷ vs) h = absurd (omega (arith, ints, h.0.0))
 
-tables_again : (tables : List (List ℤ)) → AllByRecursion (IsTable prob_kind) tables → map (λ entries. map pos entries) (map (λ entries. map nat_abs entries) tables) ≡ tables
+tables_again : (tables : List (List ℤ)) → AllByRecursion (IsTable prob_kind) tables →
+    map (λ entries. map pos entries) (map (λ entries. map nat_abs entries) tables) ≡ tables
 tables_again [] h = refl
 tables_again (t ∷ tables) h = ap₂ (λ x xs. x ∷ xs) (probs_again t h.0.each) (tables_again tables h.1)
 
-probs_are : (tables : List (List ℤ)) → AllByRecursion (IsTable prob_kind) tables → AllByRecursion (λ entries. IsTable prob_kind (map pos entries)) (map (λ entries. map nat_abs entries) tables)
+probs_are : (tables : List (List ℤ)) → AllByRecursion (IsTable prob_kind) tables →
+    AllByRecursion (λ entries. IsTable prob_kind (map pos entries)) (map (λ entries. map nat_abs entries) tables)
 probs_are [] h = tt
 probs_are (t ∷ tables) h = (subst (IsTable prob_kind) (sym (probs_again t h.0.each)) h.0, probs_are tables h.1)
 
 -- ---- a header, from its last part to its first
 abbrev pub made : List ℕ × List ℕ → List ℕ → List (List ℤ) → List (List ℤ) → Params
 made maps half_prob filters probs =
-    record { filter_map = maps.0; prob_map = maps.1; half_prob = map (λ b. b == 1) half_prob; filters = filters; probs = map (λ entries. map nat_abs entries) probs }
+    record {
+      filter_map = maps.0;
+      prob_map = maps.1;
+      half_prob = map (λ b. b == 1) half_prob;
+      filters = filters;
+      probs = map (λ entries. map nat_abs entries) probs;
+    }
 
 abbrev pub prob_part : List ℕ × List ℕ → List ℕ → List (List ℤ) → Fields Params
 prob_part maps half_prob filters = times (element_count maps.1) (table_fields prob_kind) >>= (λ probs. gives (made maps half_prob filters probs))
@@ -75,9 +85,11 @@ record IsProbPart (maps : List ℕ × List ℕ) (half_prob : List ℕ) (filters 
   has : HasTables prob_kind probs w
   whole : P ≡ made maps half_prob filters probs
 
-Takes-prob_part : (maps : List ℕ × List ℕ) (half_prob : List ℕ) (filters : List (List ℤ)) → Takes (prob_part maps half_prob filters) (IsProbPart maps half_prob filters)
+Takes-prob_part : (maps : List ℕ × List ℕ) (half_prob : List ℕ) (filters : List (List ℤ)) →
+    Takes (prob_part maps half_prob filters) (IsProbPart maps half_prob filters)
 Takes-prob_part maps half_prob filters =
-    Takes-last (times (element_count maps.1) (table_fields prob_kind)) (λ probs. made maps half_prob filters probs) (λ w ts. (length ts ≡ element_count maps.1) × HasTables prob_kind ts w) (IsProbPart maps half_prob filters)
+    Takes-last (times (element_count maps.1) (table_fields prob_kind)) (λ probs. made maps half_prob filters probs)
+    (λ w ts. (length ts ≡ element_count maps.1) × HasTables prob_kind ts w) (IsProbPart maps half_prob filters)
     (Takes-tables prob_kind (element_count maps.1) probs_are_kind (omega (arith, ints), omega (arith, ints)))
     (λ w probs a. record { probs = probs; count = a.0; has = a.1; whole = refl })
 
@@ -92,8 +104,10 @@ record IsFilterPart (maps : List ℕ × List ℕ) (half_prob : List ℕ) (w : Li
 
 Takes-filter_part : (maps : List ℕ × List ℕ) (half_prob : List ℕ) → Takes (filter_part maps half_prob) (IsFilterPart maps half_prob)
 Takes-filter_part maps half_prob =
-    Takes-bind (times (element_count maps.0) (table_fields filter_kind)) (λ filters. prob_part maps half_prob filters) (λ w ts. (length ts ≡ element_count maps.0) × HasTables filter_kind ts w)
-    (IsProbPart maps half_prob) (IsFilterPart maps half_prob) (Takes-tables filter_kind (element_count maps.0) filters_are_kind (omega (arith, ints), omega (arith, ints))) (Takes-prob_part maps half_prob)
+    Takes-bind (times (element_count maps.0) (table_fields filter_kind)) (λ filters. prob_part maps half_prob filters)
+    (λ w ts. (length ts ≡ element_count maps.0) × HasTables filter_kind ts w)
+    (IsProbPart maps half_prob) (IsFilterPart maps half_prob)
+    (Takes-tables filter_kind (element_count maps.0) filters_are_kind (omega (arith, ints), omega (arith, ints))) (Takes-prob_part maps half_prob)
     (λ u v filters P a b. record { filters = filters; front = u; rest = v; count = a.0; has = a.1; behind = b; spelled = refl })
 
 record IsHalfPart (channels : ℕ) (maps : List ℕ × List ℕ) (w : List ℕ) (P : Params) : Type 0 where
@@ -106,7 +120,8 @@ record IsHalfPart (channels : ℕ) (maps : List ℕ × List ℕ) (w : List ℕ) 
 
 Takes-half_part : (channels : ℕ) (maps : List ℕ × List ℕ) → Takes (half_part channels maps) (IsHalfPart channels maps)
 Takes-half_part channels maps =
-    Takes-bind (times channels (number 1)) (λ half_prob. filter_part maps half_prob) (λ w xs. (length xs ≡ channels) × AreBits xs × (w ≡ xs)) (IsFilterPart maps) (IsHalfPart channels maps)
+    Takes-bind (times channels (number 1)) (λ half_prob. filter_part maps half_prob) (λ w xs. (length xs ≡ channels) × AreBits xs × (w ≡ xs))
+    (IsFilterPart maps) (IsHalfPart channels maps)
     (Takes-halves channels) (Takes-filter_part maps)
     (λ u v half_prob P a b. record { half_prob = half_prob; rest = v; count = a.0; bits = a.1; behind = b; spelled = ap (λ zs. zs ++ v) a.2 })
 
@@ -122,11 +137,13 @@ record IsMapPart (channels : ℕ) (w : List ℕ) (P : Params) : Type 0 where
 
 Takes-map_part : (n : ℕ) → Takes (map_part (suc n)) (IsMapPart (suc n))
 Takes-map_part n =
-    Takes-bind (both_maps (suc n)) (λ maps. half_part (suc n) maps) (λ w p. IsMap (suc n) p.0 × IsMap (suc n) p.1 × HasMaps p.0 p.1 w) (IsHalfPart (suc n)) (IsMapPart (suc n))
+    Takes-bind (both_maps (suc n)) (λ maps. half_part (suc n) maps) (λ w p. IsMap (suc n) p.0 × IsMap (suc n) p.1 × HasMaps p.0 p.1 w) (IsHalfPart (suc n))
+    (IsMapPart (suc n))
     (Takes-both_maps n) (Takes-half_part (suc n))
     (λ u v maps P a b. record { maps = maps; front = u; rest = v; filter_map = a.0; prob_map = a.1; has = a.2; behind = b; spelled = refl })
 
-header_of_parts : (channels : ℕ) (segments w : List ℕ) (P : Params) → HasSegments channels segments → IsMapPart channels w P → HasHeader channels P (1 ∷ segments ++ w)
+header_of_parts : (channels : ℕ) (segments w : List ℕ) (P : Params) → HasSegments channels segments → IsMapPart channels w P →
+    HasHeader channels P (1 ∷ segments ++ w)
 header_of_parts channels segments w P s m =
     let h = m.behind in
     let f = h.behind in
@@ -167,5 +184,6 @@ header_of_parts channels segments w P s m =
 pub Takes-header : (n : ℕ) → Takes (header_fields (suc n)) (λ w P. HasHeader (suc n) P (1 ∷ w))
 unfolding header_fields
 Takes-header n =
-    Takes-bind (both_segments (suc n)) (λ s. map_part (suc n)) (λ w x. HasSegments (suc n) w) (λ s w P. IsMapPart (suc n) w P) (λ w P. HasHeader (suc n) P (1 ∷ w))
+    Takes-bind (both_segments (suc n)) (λ s. map_part (suc n)) (λ w x. HasSegments (suc n) w) (λ s w P. IsMapPart (suc n) w P)
+    (λ w P. HasHeader (suc n) P (1 ∷ w))
     (Takes-both_segments (suc n)) (λ s. Takes-map_part n) (λ u v s P a b. header_of_parts (suc n) u v P a b)

@@ -1,5 +1,6 @@
 -- The numbers of a map, one after the other.
-use Rattle.std.proofs.Common.{◌≡◌, ℕ, ◌+◌, ◌<◌, ◌≤◌, ◌^◌, max, nat_lt, Bool, true, false, cond, List, [], ◌∷◌, length, get_or, drop, zero, suc, Option, Some, None, refl, subst, arith, ltb-true, ltb-false}
+use Rattle.std.proofs.Common.{◌≡◌, ℕ, ◌+◌, ◌<◌, ◌≤◌, ◌^◌, max, nat_lt, Bool, true, false, cond, List, [], ◌∷◌, length, get_or, drop, zero, suc}
+use Rattle.std.proofs.Common.{Option, Some, None, refl, subst, arith, ltb-true, ltb-false}
 use Rattle.std.specs.List.{fold}
 use Rattle.std.proofs.lemmas.List.{drop_more}
 use Rattle.dst_spec.specs.Map.{Numbers, map_bits}

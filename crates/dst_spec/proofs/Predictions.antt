@@ -18,7 +18,8 @@ two_before_the_frame_is_1 f sound c = refl
 pub three_before_the_frame_is_0 : (f : Shape) (sound : List ℕ) (c : ℕ) → sample f sound c (negsuc 2) ≡ 0
 three_before_the_frame_is_0 f sound c = refl
 
-pub sixteen_before_the_frame_are_AA_AA : (f : Shape) (sound : List ℕ) (c : ℕ) → number_from (reverse (map (λ n. sample f sound c (negsuc n)) (range_with_len 0 16))) 0 16 ≡ 170 * 256 + 170
+pub sixteen_before_the_frame_are_AA_AA : (f : Shape) (sound : List ℕ) (c : ℕ) →
+    number_from (reverse (map (λ n. sample f sound c (negsuc n)) (range_with_len 0 16))) 0 16 ≡ 170 * 256 + 170
 unfolding number_from
 sixteen_before_the_frame_are_AA_AA f sound c = refl
 

@@ -1,5 +1,6 @@
 -- The probabilities of a sound's symbols are from 1 to 128.
-use Rattle.std.proofs.Common.{ℕ, ◌-◌, ◌/◌, ◌^◌, ◌<◌, ◌≤◌, min, Bool, true, false, cond, List, [], ◌∷◌, length, map, get_or, reverse, arith, ℤ, pos, negsuc, nat_abs}
+use Rattle.std.proofs.Common.{ℕ, ◌-◌, ◌/◌, ◌^◌, ◌<◌, ◌≤◌, min, Bool, true, false, cond, List, [], ◌∷◌, length, map, get_or, reverse, arith, ℤ, pos}
+use Rattle.std.proofs.Common.{negsuc, nat_abs}
 use Rattle.std.proofs.lemmas.Int.{ints}
 use Rattle.std.proofs.lemmas.List.{length-map}
 use Rattle.std.specs.List.{AllByRecursion, range_with_len}
@@ -63,6 +64,7 @@ AreLawful-symbols f P sound e h =
     let Q : Bool × ℕ → Type 0 = λ pair. (1 ≤ pair.1) × (pair.1 ≤ 128) in
     let at : ℕ → List (Bool × ℕ) = λ t. map (λ c. (as_guessed f P sound c t, probability f P sound c t)) (range_with_len 0 f.channels) in
     let each : AllByRecursion (λ t. AllByRecursion Q (at t)) (range_with_len 0 (samples f)) =
-    all_range (λ t. AllByRecursion Q (at t)) 0 (samples f) (λ t k. all_map Q (λ c. (as_guessed f P sound c t, probability f P sound c t)) (range_with_len 0 f.channels)
+    all_range (λ t. AllByRecursion Q (at t)) 0 (samples f) (λ t k.
+    all_map Q (λ c. (as_guessed f P sound c t, probability f P sound c t)) (range_with_len 0 f.channels)
     (all_range (λ c. IsProb (probability f P sound c t)) 0 f.channels (λ c l. IsProb-probability f P sound c t h (omega arith)))) in
     ((reserved_probability-least P, reserved_probability-most P), all_flat_map Q at (range_with_len 0 (samples f)) each)

@@ -1,7 +1,8 @@
 -- Frames that are refused: at which field, and why.
 use Rattle.std.proofs.Common.{[], ◌∷◌, replicate, refl}
 use Rattle.dst_spec.specs.Offends.{Offends}
-use Rattle.dst_spec.specs.declared.faults.Reason.TheVariants.{Truncated, PlainStuffing, MultiSegment, MapSkips, MethodReserved, TableTooShort, CoefRange, ProbRange, FirstCodeBit, CodeRange}
+use Rattle.dst_spec.specs.declared.faults.Reason.TheVariants.{Truncated, PlainStuffing, MultiSegment, MapSkips, MethodReserved, TableTooShort}
+use Rattle.dst_spec.specs.declared.faults.Reason.TheVariants.{CoefRange, ProbRange, FirstCodeBit, CodeRange}
 pub use Rattle.dst_spec.proofs.Examples.{channels_of, at}
 unfoldable pub use Rattle.dst_spec.proofs.Examples.{fields_open}
 

@@ -1,5 +1,6 @@
 -- The header that is spelled is one of the parameters.
-use Rattle.std.proofs.Common.{◌≡◌, inl, inr, ℕ, ◌<◌, ◌≤◌, ◌==◌, ◌&&◌, nat_lt, Bool, true, false, cond, if◌then◌else◌, List, [], ◌∷◌, ◌++◌, length, map, flat_map, fold, replicate, refl, ap, ap₂, sym, subst, arith, ℤ, pos, eqb-true, ltb-true}
+use Rattle.std.proofs.Common.{◌≡◌, inl, inr, ℕ, ◌<◌, ◌≤◌, ◌==◌, ◌&&◌, nat_lt, Bool, true, false, cond, if◌then◌else◌, List, [], ◌∷◌, ◌++◌, length}
+use Rattle.std.proofs.Common.{map, flat_map, fold, replicate, refl, ap, ap₂, sym, subst, arith, ℤ, pos, eqb-true, ltb-true}
 use Rattle.std.specs.List.{AllByRecursion, range_with_len, list_all}
 use Rattle.dst_spec.specs.Table.{Kind, filter_kind, prob_kind, IsTable, is_alone, Spelling, plain, coded, Suits, table_bits, HasTable}
 use Rattle.dst_spec.specs.Map.{Numbers, IsMap, map_numbers, HasMap}
@@ -29,7 +30,8 @@ Suits-suits K values (coded method m) c h = go (is_alone K (length values)) (nat
         (p, c.0, omega arith, c.1)
     go false false p q r = absurd cc
 
-better : (K : Kind) (values : List ℤ) (best s : Spelling) (b : Bool) → Suits K values best → IsCandidate s → Suits K values (cond (suits K values s && b) s best)
+better : (K : Kind) (values : List ℤ) (best s : Spelling) (b : Bool) → Suits K values best → IsCandidate s →
+    Suits K values (cond (suits K values s && b) s best)
 better K values best s b h c = go (suits K values s) b refl
   where
     go : (t b : Bool) → suits K values s ≡ t → Suits K values (cond (t && b) s best)
@@ -38,7 +40,8 @@ better K values best s b h c = go (suits K values s) b refl
     go false b e = h
 
 suits_fold : (K : Kind) (values : List ℤ) (best : Spelling) (list : List Spelling) → Suits K values best → AllByRecursion IsCandidate list →
-    Suits K values (fold (λ best s. if suits K values s && nat_lt (length (table_bits K values s)) (length (table_bits K values best)) then s else best) best list)
+    Suits K values (fold (λ best s. if suits K values s && nat_lt (length (table_bits K values s)) (length (table_bits K values best)) then s else best)
+    best list)
 suits_fold K values best [] h c = h
 suits_fold K values best (s ∷ list) h c =
     suits_fold K values (if suits K values s && nat_lt (length (table_bits K values s)) (length (table_bits K values best)) then s else best) list
@@ -46,9 +49,15 @@ suits_fold K values best (s ∷ list) h c =
 
 pub HasTable-shortest : (K : Kind) (values : List ℤ) → IsTable K values → HasTable K values (table_bits K values (shortest K values))
 unfolding shortest
-HasTable-shortest K values t = record { table = t; spelling = shortest K values; suits = suits_fold K values plain coded_spellings tt candidates; spelled = refl }
+HasTable-shortest K values t = record {
+  table = t;
+  spelling = shortest K values;
+  suits = suits_fold K values plain coded_spellings tt candidates;
+  spelled = refl;
+}
 
-HasTables-shortest : (K : Kind) (tables : List (List ℤ)) → AllByRecursion (IsTable K) tables → HasTables K tables (flat_map (λ t. table_bits K t (shortest K t)) tables)
+HasTables-shortest : (K : Kind) (tables : List (List ℤ)) → AllByRecursion (IsTable K) tables →
+    HasTables K tables (flat_map (λ t. table_bits K t (shortest K t)) tables)
 unfolding HasTables
 HasTables-shortest K [] h = refl
 HasTables-shortest K (t ∷ tables) h =
@@ -84,16 +93,25 @@ same_lists (x ∷ xs) (y ∷ ys) h =
 HasMaps-spelling : (channels : ℕ) (P : Params) → 1 ≤ channels → IsParams channels P → HasMaps P.filter_map P.prob_map (maps_spelling P)
 HasMaps-spelling channels P h p = go (same_numbers P.filter_map P.prob_map) refl
   where
-    go : (b : Bool) → same_numbers P.filter_map P.prob_map ≡ b → HasMaps P.filter_map P.prob_map (cond b (1 ∷ map_spelling P.filter_map) (0 ∷ map_spelling P.filter_map ++ map_spelling P.prob_map))
+    go : (b : Bool) → same_numbers P.filter_map P.prob_map ≡ b →
+        HasMaps P.filter_map P.prob_map (cond b (1 ∷ map_spelling P.filter_map) (0 ∷ map_spelling P.filter_map ++ map_spelling P.prob_map))
     go true e = inl (map_spelling P.filter_map, HasMap-spelling channels P.filter_map h p.filter_map, sym (same_lists P.filter_map P.prob_map e), refl)
-    go false e = inr (map_spelling P.filter_map, map_spelling P.prob_map, HasMap-spelling channels P.filter_map h p.filter_map, HasMap-spelling channels P.prob_map h p.prob_map, refl)
+    go false e = inr (
+      map_spelling P.filter_map,
+      map_spelling P.prob_map,
+      HasMap-spelling channels P.filter_map h p.filter_map,
+      HasMap-spelling channels P.prob_map h p.prob_map,
+      refl,
+    )
 
 -- ---- the header that is written is one
-probs_as_tables : (probs : List (List ℕ)) → AllByRecursion (λ entries. IsTable prob_kind (map pos entries)) probs → AllByRecursion (IsTable prob_kind) (map (λ entries. map pos entries) probs)
+probs_as_tables : (probs : List (List ℕ)) → AllByRecursion (λ entries. IsTable prob_kind (map pos entries)) probs →
+    AllByRecursion (IsTable prob_kind) (map (λ entries. map pos entries) probs)
 probs_as_tables [] h = tt
 probs_as_tables (t ∷ probs) h = (h.0, probs_as_tables probs h.1)
 
-flat_map-map : (probs : List (List ℕ)) → flat_map (λ t. table_bits prob_kind t (shortest prob_kind t)) (map (λ entries. map pos entries) probs) ≡ flat_map (λ t. table_bits prob_kind (map pos t) (shortest prob_kind (map pos t))) probs
+flat_map-map : (probs : List (List ℕ)) → flat_map (λ t. table_bits prob_kind t (shortest prob_kind t)) (map (λ entries. map pos entries) probs) ≡ flat_map
+    (λ t. table_bits prob_kind (map pos t) (shortest prob_kind (map pos t))) probs
 flat_map-map [] = refl
 flat_map-map (t ∷ probs) = ap (λ zs. table_bits prob_kind (map pos t) (shortest prob_kind (map pos t)) ++ zs) (flat_map-map probs)
 
@@ -108,6 +126,7 @@ HasHeader-spelling channels P h p = record {
   has_segments = inl (1 ∷ 1 ∷ [], inl refl, refl);
   has_maps = HasMaps-spelling channels P h p;
   has_filters = HasTables-shortest filter_kind P.filters p.filters;
-  has_probs = subst (HasTables prob_kind (map (λ entries. map pos entries) P.probs)) (flat_map-map P.probs) (HasTables-shortest prob_kind (map (λ entries. map pos entries) P.probs) (probs_as_tables P.probs p.probs));
+  has_probs = subst (HasTables prob_kind (map (λ entries. map pos entries) P.probs)) (flat_map-map P.probs)
+      (HasTables-shortest prob_kind (map (λ entries. map pos entries) P.probs) (probs_as_tables P.probs p.probs));
   spelled = refl;
 }

@@ -1,5 +1,7 @@
 -- A spelling means the sound that it was made for, and a stored frame does.
-use Rattle.std.proofs.Common.{◌≡◌, inl, inr, ℕ, ◌+◌, ◌^◌, ◌<◌, ◌≤◌, nat_lt, Bool, true, false, cond, List, [], ◌∷◌, ◌++◌, length, map, fold, take, get_or, refl, sym, subst, ◌∙◌, arith, length-append, append_assoc, length-take-le, ltb-true, mod-eq_of_lt, pow-add, get_or-take}
+use Rattle.std.proofs.Common.{◌≡◌, inl, inr, ℕ, ◌+◌, ◌^◌, ◌<◌, ◌≤◌, nat_lt, Bool, true, false, cond, List, [], ◌∷◌, ◌++◌, length, map, fold, take}
+use Rattle.std.proofs.Common.{get_or, refl, sym, subst, ◌∙◌, arith, length-append, append_assoc, length-take-le, ltb-true, mod-eq_of_lt, pow-add}
+use Rattle.std.proofs.Common.{get_or-take}
 use Rattle.std.proofs.lemmas.List.{ext_get_or, get_or_append_left, get_or_at, take_all}
 use Rattle.std.specs.List.{AllByRecursion}
 use Rattle.dst_spec.specs.Bits.{low_bits, bits, number_from, octets, AreBits}
@@ -10,7 +12,8 @@ use Rattle.dst_spec.specs.Interval.{Interval, interval, code_number, IsCodeOf}
 use Rattle.dst_spec.specs.Means.{Means}
 use Rattle.dst_spec.specs.Spell.{header_spelling, code_spelling, spell, shorter}
 use Rattle.dst_spec.specs.Laws.{SpellingLaw, StoringLaw}
-use Rattle.dst_spec.proofs.Numbers.{AreBits-low_bits, AreBits-append, number_from-low_bits, number_from-append_right, number_from-octets, bits-octets, length-bits, length-octets}
+use Rattle.dst_spec.proofs.Numbers.{AreBits-low_bits, AreBits-append, number_from-low_bits, number_from-append_right, number_from-octets, bits-octets}
+use Rattle.dst_spec.proofs.Numbers.{length-bits, length-octets}
 use Rattle.dst_spec.proofs.Intervals.{AreLawful, IsNormal, IsNormal-interval}
 use Rattle.dst_spec.proofs.Probabilities.{AreLawful-symbols}
 use Rattle.dst_spec.proofs.SpelledHeader.{HasHeader-spelling}
@@ -33,7 +36,8 @@ front_of_octets h c b =
     let inside : i < n = omega arith in
     get_or-take n (bits (octets (h ++ c))) i 0 inside ∙ bits-octets (h ++ c) i b ∙ get_or_append_left h c 0 i inside)
 
-code_of_spelling : (h : List ℕ) (pairs : List (Bool × ℕ)) → AreBits (h ++ code_spelling pairs) → AreLawful pairs → IsCodeOf (bits (octets (h ++ code_spelling pairs))) (length h) pairs
+code_of_spelling : (h : List ℕ) (pairs : List (Bool × ℕ)) → AreBits (h ++ code_spelling pairs) → AreLawful pairs →
+    IsCodeOf (bits (octets (h ++ code_spelling pairs))) (length h) pairs
 unfolding code_spelling
 code_of_spelling h pairs b lawful =
     let j = interval pairs in
@@ -83,7 +87,15 @@ spelling_law f P sound shape params s =
 -- the plain form means the sound too
 pub plain_form_means : (f : Shape) (sound : List ℕ) → IsSound f sound → Means f (0 ∷ sound) sound
 unfolding bits low_bits
-plain_form_means f sound s = (s, inl (record { coded = refl; stuffing = refl; long = omega (arith, s.long); is_sound = sym (take_all (sound_bytes f) sound (omega (arith, s.long))) }))
+plain_form_means f sound s = (
+  s,
+  inl (record {
+    coded = refl;
+    stuffing = refl;
+    long = omega (arith, s.long);
+    is_sound = sym (take_all (sound_bytes f) sound (omega (arith, s.long)));
+  }),
+)
 
 -- ---- of frames that mean a sound the stored one does, and it is no longer than the first
 shorter_is : (P : List ℕ → Type 0) (a b : List ℕ) → P a → P b → P (shorter a b)
@@ -118,5 +130,7 @@ spellings_mean f sound (P ∷ list) shape s h = (spelling_law f P sound shape h.
 pub storing_law : StoringLaw
 storing_law f list sound shape params s =
     let spelled = map (λ P. spell f P sound) list in
-    let long = fold-length (0 ∷ sound) spelled in
-    (fold_is (λ frame. Means f frame sound) (0 ∷ sound) spelled (plain_form_means f sound s) (spellings_mean f sound list shape s params), omega (arith, s.long))
+    let long = fold-length (0 ∷ sound) spelled in (
+      fold_is (λ frame. Means f frame sound) (0 ∷ sound) spelled (plain_form_means f sound s) (spellings_mean f sound list shape s params),
+      omega (arith, s.long),
+    )

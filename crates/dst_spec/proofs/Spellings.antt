@@ -13,7 +13,8 @@ unfolding spelling_open
 spelling_of_two_bytes = refl
 
 -- two channels: 67 bits of header, the bit 0 and 45 bits of code; 74, 1 and 50
-pub spelling_by_a_shared_filter : spell pair shared_filter (156 ∷ 53 ∷ []) ≡ 245 ∷ 64 ∷ 130 ∷ 159 ∷ 128 ∷ 160 ∷ 64 ∷ 144 ∷ 15 ∷ 251 ∷ 49 ∷ 139 ∷ 35 ∷ 37 ∷ 0 ∷ []
+pub spelling_by_a_shared_filter : spell pair shared_filter (156 ∷ 53 ∷ []) ≡ 245 ∷ 64 ∷ 130 ∷ 159 ∷ 128 ∷ 160 ∷ 64 ∷ 144 ∷ 15 ∷ 251 ∷ 49 ∷ 139 ∷ 35 ∷ 37
+    ∷ 0 ∷ []
 unfolding spelling_open
 spelling_by_a_shared_filter = refl
 

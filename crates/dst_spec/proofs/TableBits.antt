@@ -34,7 +34,8 @@ method_1_is_shortest = refl
 
 -- length less 1, coded, method 1, two values plain, m, the residual 0
 pub three_by_method_1 : table_bits filter_kind three (coded 1 0)
-    ≡ (0 ∷ 0 ∷ 0 ∷ 0 ∷ 0 ∷ 1 ∷ 0 ∷ []) ++ (1 ∷ 0 ∷ 1 ∷ []) ++ (0 ∷ 0 ∷ 0 ∷ 0 ∷ 0 ∷ 1 ∷ 0 ∷ 1 ∷ 0 ∷ []) ++ (0 ∷ 0 ∷ 0 ∷ 0 ∷ 1 ∷ 0 ∷ 1 ∷ 0 ∷ 0 ∷ []) ++ (0 ∷ 0 ∷ 0 ∷ []) ++ 1 ∷ []
+    ≡ (0 ∷ 0 ∷ 0 ∷ 0 ∷ 0 ∷ 1 ∷ 0 ∷ []) ++ (1 ∷ 0 ∷ 1 ∷ []) ++ (0 ∷ 0 ∷ 0 ∷ 0 ∷ 0 ∷ 1 ∷ 0 ∷ 1 ∷ 0 ∷ []) ++ (0 ∷ 0 ∷ 0 ∷ 0 ∷ 1 ∷ 0 ∷ 1 ∷ 0 ∷ 0 ∷ []) ++
+    (0 ∷ 0 ∷ 0 ∷ []) ++ 1 ∷ []
 unfolding tables_open
 three_by_method_1 = refl
 
@@ -43,11 +44,13 @@ unfolding fields_open tables_open
 three_is_read_back = refl
 
 -- ---- other spellings, bit for bit, and read back
-pub least_and_greatest_coefficient : table_bits filter_kind (pos 255 ∷ negsuc 255 ∷ []) plain ≡ (0 ∷ 0 ∷ 0 ∷ 0 ∷ 0 ∷ 0 ∷ 1 ∷ []) ++ 0 ∷ (0 ∷ replicate 8 1) ++ (1 ∷ replicate 8 0)
+pub least_and_greatest_coefficient : table_bits filter_kind (pos 255 ∷ negsuc 255 ∷ []) plain ≡ (0 ∷ 0 ∷ 0 ∷ 0 ∷ 0 ∷ 0 ∷ 1 ∷ []) ++ 0 ∷ (0 ∷ replicate 8 1)
+    ++ (1 ∷ replicate 8 0)
 unfolding tables_open
 least_and_greatest_coefficient = refl
 
-pub they_are_read_back : read (table_fields filter_kind) ((0 ∷ 0 ∷ 0 ∷ 0 ∷ 0 ∷ 0 ∷ 1 ∷ []) ++ 0 ∷ (0 ∷ replicate 8 1) ++ (1 ∷ replicate 8 0)) 0 ≡ Ok (pos 255 ∷ negsuc 255 ∷ [], [], 26)
+pub they_are_read_back : read (table_fields filter_kind) ((0 ∷ 0 ∷ 0 ∷ 0 ∷ 0 ∷ 0 ∷ 1 ∷ []) ++ 0 ∷ (0 ∷ replicate 8 1) ++ (1 ∷ replicate 8 0)) 0 ≡ Ok
+    (pos 255 ∷ negsuc 255 ∷ [], [], 26)
 unfolding fields_open
 they_are_read_back = refl
 
@@ -55,7 +58,8 @@ pub least_and_greatest_probability : table_bits prob_kind (pos 1 ∷ pos 128 ∷
 unfolding tables_open
 least_and_greatest_probability = refl
 
-pub probabilities_are_read_back : read (table_fields prob_kind) ((0 ∷ 0 ∷ 0 ∷ 0 ∷ 0 ∷ 1 ∷ []) ++ 0 ∷ replicate 7 0 ++ replicate 7 1) 0 ≡ Ok (pos 1 ∷ pos 128 ∷ [], [], 21)
+pub probabilities_are_read_back : read (table_fields prob_kind) ((0 ∷ 0 ∷ 0 ∷ 0 ∷ 0 ∷ 1 ∷ []) ++ 0 ∷ replicate 7 0 ++ replicate 7 1) 0 ≡ Ok
+    (pos 1 ∷ pos 128 ∷ [], [], 21)
 unfolding fields_open
 probabilities_are_read_back = refl
 
@@ -77,7 +81,8 @@ far_apart_is_read_back = refl
 
 -- 9, 4, 1 and 100 by method 2: the sum is -24 + 96 - 72, which is 0, so the residual is 100, with m = 5
 abbrev probs_by_method_2 : List ℕ
-probs_by_method_2 = (0 ∷ 0 ∷ 0 ∷ 0 ∷ 1 ∷ 1 ∷ []) ++ (1 ∷ 1 ∷ 0 ∷ []) ++ (0 ∷ 0 ∷ 0 ∷ 1 ∷ 0 ∷ 0 ∷ 0 ∷ []) ++ (0 ∷ 0 ∷ 0 ∷ 0 ∷ 0 ∷ 1 ∷ 1 ∷ []) ++ replicate 7 0 ++ (1 ∷ 0 ∷ 1 ∷ [])
+probs_by_method_2 = (0 ∷ 0 ∷ 0 ∷ 0 ∷ 1 ∷ 1 ∷ []) ++ (1 ∷ 1 ∷ 0 ∷ []) ++ (0 ∷ 0 ∷ 0 ∷ 1 ∷ 0 ∷ 0 ∷ 0 ∷ []) ++ (0 ∷ 0 ∷ 0 ∷ 0 ∷ 0 ∷ 1 ∷ 1 ∷ [])
+    ++ replicate 7 0 ++ (1 ∷ 0 ∷ 1 ∷ [])
     ++ (0 ∷ 0 ∷ 0 ∷ 1 ∷ 0 ∷ 0 ∷ 1 ∷ 0 ∷ 0 ∷ 0 ∷ [])
 
 pub squares_by_prob_method_2 : table_bits prob_kind (pos 9 ∷ pos 4 ∷ pos 1 ∷ pos 100 ∷ []) (coded 2 5) ≡ probs_by_method_2
@@ -94,19 +99,23 @@ unfolding fields_open
 three_by_method_2 = refl
 
 -- the least and the greatest values by a residual, which is 0 behind the same value
-pub coefficient_255_by_a_residual : read (table_fields filter_kind) ((0 ∷ 0 ∷ 0 ∷ 0 ∷ 0 ∷ 0 ∷ 1 ∷ []) ++ (1 ∷ 0 ∷ 0 ∷ []) ++ (0 ∷ replicate 8 1) ++ (0 ∷ 0 ∷ 0 ∷ 1 ∷ [])) 0 ≡ Ok (pos 255 ∷ pos 255 ∷ [], [], 23)
+pub coefficient_255_by_a_residual : read (table_fields filter_kind)
+    ((0 ∷ 0 ∷ 0 ∷ 0 ∷ 0 ∷ 0 ∷ 1 ∷ []) ++ (1 ∷ 0 ∷ 0 ∷ []) ++ (0 ∷ replicate 8 1) ++ (0 ∷ 0 ∷ 0 ∷ 1 ∷ [])) 0 ≡ Ok (pos 255 ∷ pos 255 ∷ [], [], 23)
 unfolding fields_open
 coefficient_255_by_a_residual = refl
 
-pub coefficient_minus_256_by_a_residual : read (table_fields filter_kind) ((0 ∷ 0 ∷ 0 ∷ 0 ∷ 0 ∷ 0 ∷ 1 ∷ []) ++ (1 ∷ 0 ∷ 0 ∷ []) ++ (1 ∷ replicate 8 0) ++ (0 ∷ 0 ∷ 0 ∷ 1 ∷ [])) 0 ≡ Ok (negsuc 255 ∷ negsuc 255 ∷ [], [], 23)
+pub coefficient_minus_256_by_a_residual : read (table_fields filter_kind)
+    ((0 ∷ 0 ∷ 0 ∷ 0 ∷ 0 ∷ 0 ∷ 1 ∷ []) ++ (1 ∷ 0 ∷ 0 ∷ []) ++ (1 ∷ replicate 8 0) ++ (0 ∷ 0 ∷ 0 ∷ 1 ∷ [])) 0 ≡ Ok (negsuc 255 ∷ negsuc 255 ∷ [], [], 23)
 unfolding fields_open
 coefficient_minus_256_by_a_residual = refl
 
-pub probability_1_by_a_residual : read (table_fields prob_kind) ((0 ∷ 0 ∷ 0 ∷ 0 ∷ 0 ∷ 1 ∷ []) ++ (1 ∷ 0 ∷ 0 ∷ []) ++ replicate 7 0 ++ (0 ∷ 0 ∷ 0 ∷ 1 ∷ [])) 0 ≡ Ok (pos 1 ∷ pos 1 ∷ [], [], 20)
+pub probability_1_by_a_residual : read (table_fields prob_kind)
+    ((0 ∷ 0 ∷ 0 ∷ 0 ∷ 0 ∷ 1 ∷ []) ++ (1 ∷ 0 ∷ 0 ∷ []) ++ replicate 7 0 ++ (0 ∷ 0 ∷ 0 ∷ 1 ∷ [])) 0 ≡ Ok (pos 1 ∷ pos 1 ∷ [], [], 20)
 unfolding fields_open
 probability_1_by_a_residual = refl
 
-pub probability_128_by_a_residual : read (table_fields prob_kind) ((0 ∷ 0 ∷ 0 ∷ 0 ∷ 0 ∷ 1 ∷ []) ++ (1 ∷ 0 ∷ 0 ∷ []) ++ replicate 7 1 ++ (0 ∷ 0 ∷ 0 ∷ 1 ∷ [])) 0 ≡ Ok (pos 128 ∷ pos 128 ∷ [], [], 20)
+pub probability_128_by_a_residual : read (table_fields prob_kind)
+    ((0 ∷ 0 ∷ 0 ∷ 0 ∷ 0 ∷ 1 ∷ []) ++ (1 ∷ 0 ∷ 0 ∷ []) ++ replicate 7 1 ++ (0 ∷ 0 ∷ 0 ∷ 1 ∷ [])) 0 ≡ Ok (pos 128 ∷ pos 128 ∷ [], [], 20)
 unfolding fields_open
 probability_128_by_a_residual = refl
 

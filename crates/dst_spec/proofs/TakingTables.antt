@@ -1,11 +1,14 @@
 -- The fields of tables that were read are the tables that they gave.
-use Rattle.std.proofs.Common.{◌≡◌, ◌≢◌, ℕ, zero, suc, ◌+◌, ◌-◌, ◌^◌, ◌<◌, ◌≤◌, ◌==◌, ◌&&◌, nat_lt, Bool, true, false, cond, if◌then◌else◌, List, [], ◌∷◌, ◌++◌, length, take, drop, reverse, refl, ap, ap₂, sym, subst, ◌∙◌, arith, length-append, append_assoc, append-nil, take_at, drop_at, ℤ, ◌+ℤ◌, ◌-ℤ◌, Option, Some, None, eqb-true, ltb-false}
+use Rattle.std.proofs.Common.{◌≡◌, ◌≢◌, ℕ, zero, suc, ◌+◌, ◌-◌, ◌^◌, ◌<◌, ◌≤◌, ◌==◌, ◌&&◌, nat_lt, Bool, true, false, cond, if◌then◌else◌, List, []}
+use Rattle.std.proofs.Common.{◌∷◌, ◌++◌, length, take, drop, reverse, refl, ap, ap₂, sym, subst, ◌∙◌, arith, length-append, append_assoc, append-nil}
+use Rattle.std.proofs.Common.{take_at, drop_at, ℤ, ◌+ℤ◌, ◌-ℤ◌, Option, Some, None, eqb-true, ltb-false}
 use Rattle.std.proofs.lemmas.Int.{ints}
 use Rattle.std.proofs.lemmas.Bool.{eqb-false}
 use Rattle.std.specs.List.{AllByRecursion}
 use Rattle.dst_spec.specs.Bits.{low_bits}
 use Rattle.dst_spec.specs.Rice.{rice}
-use Rattle.dst_spec.specs.Table.{Kind, InRange, IsTable, is_alone, plain_value, plain_values, eighth, later_values, Spelling, plain, coded, Suits, body, table_bits, HasTable}
+use Rattle.dst_spec.specs.Table.{Kind, InRange, IsTable, is_alone, plain_value, plain_values, eighth, later_values, Spelling, plain, coded, Suits}
+use Rattle.dst_spec.specs.Table.{body, table_bits, HasTable}
 use Rattle.dst_spec.specs.Header.{HasTables}
 use Rattle.dst_spec.specs.Fields.{gives, ◌>>=◌, any, number}
 use Rattle.dst_spec.specs.Offends.{times, value_of, plain_fields, range_rule, later_fields, method_rule, coded_fields, body_fields, table_fields}
@@ -23,7 +26,8 @@ Takes-plain K k =
     (λ x h e. Takes-gives (value_of K x) (λ w v. InRange K v × (low_bits K.value_bits x ++ w ≡ plain_value K v))
     ((k.back x h).0, append-nil (low_bits K.value_bits x) ∙ sym (k.back x h).1))
 
-each_plain : (K : Kind) (w : List ℕ) (vs : List ℤ) → EachIs (λ w v. InRange K v × (w ≡ plain_value K v)) w vs → AllByRecursion (InRange K) vs × (w ≡ plain_values K vs)
+each_plain : (K : Kind) (w : List ℕ) (vs : List ℤ) → EachIs (λ w v. InRange K v × (w ≡ plain_value K v)) w vs →
+    AllByRecursion (InRange K) vs × (w ≡ plain_values K vs)
 unfolding plain_values
 each_plain K w [] h = (tt, h)
 each_plain K w (v ∷ vs) h =
@@ -47,11 +51,13 @@ unfolding later_fields later_values
 Takes-later K weights m zero earlier = Takes-gives [] (AreLater K weights m 0 earlier) (refl, tt, refl)
 Takes-later K weights m (suc n) earlier =
     let e = eighth weights earlier in
-    Takes-residual m (λ r. range_rule K (r -ℤ e)) (λ r. later_fields K weights m n ((r -ℤ e) ∷ earlier) >>= (λ vs. gives ((r -ℤ e) ∷ vs))) (AreLater K weights m (suc n) earlier)
+    Takes-residual m (λ r. range_rule K (r -ℤ e)) (λ r. later_fields K weights m n ((r -ℤ e) ∷ earlier) >>= (λ vs. gives ((r -ℤ e) ∷ vs)))
+    (AreLater K weights m (suc n) earlier)
     (λ r keeps.
     let v = r -ℤ e in
     let again : v +ℤ e ≡ r = omega (arith, ints) in
-    Takes-last (later_fields K weights m n (v ∷ earlier)) (λ vs. v ∷ vs) (AreLater K weights m n (v ∷ earlier)) (λ w vs. AreLater K weights m (suc n) earlier (rice r m ++ w) vs)
+    Takes-last (later_fields K weights m n (v ∷ earlier)) (λ vs. v ∷ vs) (AreLater K weights m n (v ∷ earlier))
+    (λ w vs. AreLater K weights m (suc n) earlier (rice r m ++ w) vs)
     (Takes-later K weights m n (v ∷ earlier))
     (λ w vs a. (ap suc a.0, (InRange-range_rule K v keeps, a.1), ap₂ (λ s t. rice s m ++ t) (sym again) a.2)))
 
@@ -90,17 +96,23 @@ record IsBehind (K : Kind) (count method : ℕ) (first : List ℤ) (w : List ℕ
   spelled : w ≡ low_bits 3 m ++ later_values (K.weights method) m (reverse first) later
 
 Takes-behind : (K : Kind) (count method : ℕ) (first : List ℤ) →
-    Takes (number 3 >>= (λ m. later_fields K (K.weights method) m (count - (method + 1)) (reverse first) >>= (λ later. gives (first ++ later)))) (IsBehind K count method first)
+    Takes (number 3 >>= (λ m. later_fields K (K.weights method) m (count - (method + 1)) (reverse first) >>= (λ later. gives (first ++ later))))
+    (IsBehind K count method first)
 Takes-behind K count method first =
-    Takes-field 3 any (λ m. later_fields K (K.weights method) m (count - (method + 1)) (reverse first) >>= (λ later. gives (first ++ later))) (IsBehind K count method first)
-    (λ m h k. Takes-last (later_fields K (K.weights method) m (count - (method + 1)) (reverse first)) (λ later. first ++ later) (AreLater K (K.weights method) m (count - (method + 1)) (reverse first))
+    Takes-field 3 any (λ m. later_fields K (K.weights method) m (count - (method + 1)) (reverse first) >>= (λ later. gives (first ++ later)))
+    (IsBehind K count method first)
+    (λ m h k. Takes-last (later_fields K (K.weights method) m (count - (method + 1)) (reverse first)) (λ later. first ++ later)
+    (AreLater K (K.weights method) m (count - (method + 1)) (reverse first))
     (λ w vs. IsBehind K count method first (low_bits 3 m ++ w) vs) (Takes-later K (K.weights method) m (count - (method + 1)) (reverse first))
     (λ w later a. record { later = later; m = m; small = h; behind = a.0; later_each = a.1; whole = refl; spelled = ap (λ zs. low_bits 3 m ++ zs) a.2 }))
 
 Takes-coded_as : (K : Kind) (count method : ℕ) → IsKind K →
-    Takes (times (method + 1) (plain_fields K) >>= (λ first. number 3 >>= (λ m. later_fields K (K.weights method) m (count - (method + 1)) (reverse first) >>= (λ later. gives (first ++ later))))) (IsCodedAs K count method)
+    Takes (times (method + 1) (plain_fields K) >>= (λ first.
+    number 3 >>= (λ m. later_fields K (K.weights method) m (count - (method + 1)) (reverse first) >>= (λ later. gives (first ++ later)))))
+    (IsCodedAs K count method)
 Takes-coded_as K count method k =
-    Takes-bind (times (method + 1) (plain_fields K)) (λ first. number 3 >>= (λ m. later_fields K (K.weights method) m (count - (method + 1)) (reverse first) >>= (λ later. gives (first ++ later))))
+    Takes-bind (times (method + 1) (plain_fields K)) (λ first.
+    number 3 >>= (λ m. later_fields K (K.weights method) m (count - (method + 1)) (reverse first) >>= (λ later. gives (first ++ later))))
     (ArePlain K (method + 1)) (IsBehind K count method) (IsCodedAs K count method) (Takes-plains K (method + 1) k) (Takes-behind K count method)
     (λ u v first vs a b. record {
       first = first;
@@ -126,7 +138,8 @@ record IsBody (K : Kind) (count : ℕ) (w : List ℕ) (vs : List ℤ) : Type 0 w
 regrouped : (a b c d : List ℕ) → a ++ (b ++ (c ++ d)) ≡ a ++ b ++ c ++ d
 regrouped a b c d = simp append_assoc
 
-body_of_coded : (K : Kind) (count method : ℕ) (w : List ℕ) (vs : List ℤ) → is_alone K count ≡ false → method < 3 → method + 1 ≤ count → IsCodedAs K count method w vs → IsBody K count (1 ∷ low_bits 2 method ++ w) vs
+body_of_coded : (K : Kind) (count method : ℕ) (w : List ℕ) (vs : List ℤ) → is_alone K count ≡ false → method < 3 → method + 1 ≤ count →
+    IsCodedAs K count method w vs → IsBody K count (1 ∷ low_bits 2 method ++ w) vs
 body_of_coded K count method w vs alone h k c =
     let n = method + 1 in
     let front : take n vs ≡ c.first = ap (take n) c.whole ∙ take_at c.first c.later n c.front in
@@ -137,7 +150,9 @@ body_of_coded K count method w vs alone h k c =
       each = subst (AllByRecursion (InRange K)) (sym c.whole) (all_append (InRange K) c.first c.later c.first_each c.later_each);
       spelling = coded method c.m;
       suits = (ap (is_alone K) long ∙ alone, h, omega arith, c.small);
-      spelled = ap (λ zs. 1 ∷ low_bits 2 method ++ zs) c.spelled ∙ rw (front, behind) (ap (λ zs. 1 ∷ zs) (regrouped (low_bits 2 method) (plain_values K c.first) (low_bits 3 c.m) (later_values (K.weights method) c.m (reverse c.first) c.later)));
+      spelled = ap (λ zs. 1 ∷ low_bits 2 method ++ zs) c.spelled
+          ∙ rw (front, behind) (ap (λ zs. 1 ∷ zs) (regrouped (low_bits 2 method) (plain_values K c.first) (low_bits 3 c.m)
+          (later_values (K.weights method) c.m (reverse c.first) c.later)));
     }
 
 Takes-body : (K : Kind) (count : ℕ) → IsKind K → is_alone K count ≡ false → Takes (body_fields K count) (IsBody K count)
@@ -145,11 +160,13 @@ Takes-body K count k alone =
     Takes-bit (λ x. if x == 0 then times count (plain_fields K) else coded_fields K count) (IsBody K count)
     (Takes-weaker (times count (plain_fields K)) (ArePlain K count) (λ w vs. IsBody K count (0 ∷ w) vs) (Takes-plains K count k)
     (λ w vs a. record { long = a.0; each = a.1; spelling = plain; suits = tt; spelled = ap (λ zs. 0 ∷ zs) a.2 }))
-    (Takes-field 2 (method_rule count) (λ method. times (method + 1) (plain_fields K) >>= (λ first. number 3 >>= (λ m. later_fields K (K.weights method) m (count - (method + 1)) (reverse first) >>= (λ later. gives (first ++ later)))))
+    (Takes-field 2 (method_rule count) (λ method. times (method + 1) (plain_fields K) >>=
+    (λ first. number 3 >>= (λ m. later_fields K (K.weights method) m (count - (method + 1)) (reverse first) >>= (λ later. gives (first ++ later)))))
     (λ w vs. IsBody K count (1 ∷ w) vs)
     (λ method h keeps.
     let met = met_method count method h keeps in
-    Takes-weaker (times (method + 1) (plain_fields K) >>= (λ first. number 3 >>= (λ m. later_fields K (K.weights method) m (count - (method + 1)) (reverse first) >>= (λ later. gives (first ++ later)))))
+    Takes-weaker (times (method + 1) (plain_fields K) >>= (λ first.
+    number 3 >>= (λ m. later_fields K (K.weights method) m (count - (method + 1)) (reverse first) >>= (λ later. gives (first ++ later)))))
     (IsCodedAs K count method) (λ w vs. IsBody K count (1 ∷ low_bits 2 method ++ w) vs) (Takes-coded_as K count method k)
     (λ w vs c. body_of_coded K count method w vs alone met.0 met.1 c)))
 
@@ -185,10 +202,12 @@ Takes-table K k top =
           table = record { least = omega arith; most = some; each = (top, tt); alone = λ a b. refl };
           spelling = plain;
           suits = tt;
-          spelled = ap (λ z. low_bits K.length_bits z ++ []) none ∙ ap (λ b. low_bits K.length_bits 0 ++ cond b [] (body K (K.greatest ∷ []) plain)) (sym at_one);
+          spelled = ap (λ z. low_bits K.length_bits z ++ []) none
+              ∙ ap (λ b. low_bits K.length_bits 0 ++ cond b [] (body K (K.greatest ∷ []) plain)) (sym at_one);
         })
     go longer h false e =
-        Takes-weaker (body_fields K (longer + 1)) (IsBody K (longer + 1)) (λ w vs. HasTable K vs (low_bits K.length_bits longer ++ w)) (Takes-body K (longer + 1) k e)
+        Takes-weaker (body_fields K (longer + 1)) (IsBody K (longer + 1)) (λ w vs. HasTable K vs (low_bits K.length_bits longer ++ w))
+        (Takes-body K (longer + 1) k e)
         (λ w vs b.
         let not_alone : is_alone K (length vs) ≡ false = ap (is_alone K) b.long ∙ e in
         let long = b.long in
@@ -211,7 +230,9 @@ unfolding HasTables
 each_is_table K w [] h = tt
 each_is_table K w (vs ∷ tables) h = (h.2.table, each_is_table K h.1 tables h.3)
 
-pub Takes-tables : (K : Kind) (n : ℕ) → IsKind K → InRange K K.greatest → Takes (times n (table_fields K)) (λ w tables. (length tables ≡ n) × HasTables K tables w)
+pub Takes-tables : (K : Kind) (n : ℕ) → IsKind K → InRange K K.greatest →
+    Takes (times n (table_fields K)) (λ w tables. (length tables ≡ n) × HasTables K tables w)
 Takes-tables K n k top =
-    Takes-weaker (times n (table_fields K)) (λ w ts. (length ts ≡ n) × EachIs (λ w vs. HasTable K vs w) w ts) (λ w tables. (length tables ≡ n) × HasTables K tables w)
+    Takes-weaker (times n (table_fields K)) (λ w ts. (length ts ≡ n) × EachIs (λ w vs. HasTable K vs w) w ts) (λ w tables. (length tables ≡ n)
+    × HasTables K tables w)
     (Takes-times n (table_fields K) (λ w vs. HasTable K vs w) (Takes-table K k top)) (λ w ts h. (h.0, tables_are K w ts h.1))

@@ -1,5 +1,8 @@
 -- A frame that doesn't offend means one sound.
-use Rattle.std.proofs.Common.{◌≡◌, ◌≢◌, ◌⊎◌, inl, inr, ℕ, zero, suc, ◌+◌, ◌*◌, ◌^◌, ◌<◌, ◌≤◌, ◌==◌, nat_lt, Bool, true, false, cond, if◌then◌else◌, List, [], ◌∷◌, ◌++◌, length, take, drop, get_or, replicate, refl, ap, sym, subst, ◌∙◌, arith, length-append, length-take-le, length-drop, drop-drop, take_at, drop_at, Option, Some, None, Result, Ok, Err, ltb-false, get_or-drop, eqb-true}
+use Rattle.std.proofs.Common.{◌≡◌, ◌≢◌, ◌⊎◌, inl, inr, ℕ, zero, suc, ◌+◌, ◌*◌, ◌^◌, ◌<◌, ◌≤◌, ◌==◌, nat_lt, Bool, true, false, cond, if◌then◌else◌}
+use Rattle.std.proofs.Common.{List, [], ◌∷◌, ◌++◌, length, take, drop, get_or, replicate, refl, ap, sym, subst, ◌∙◌, arith, length-append}
+use Rattle.std.proofs.Common.{length-take-le, length-drop, drop-drop, take_at, drop_at, Option, Some, None, Result, Ok, Err, ltb-false, get_or-drop}
+use Rattle.std.proofs.Common.{eqb-true}
 use Rattle.std.proofs.lemmas.Bool.{eqb-false}
 use Rattle.dst_spec.specs.Bits.{low_bits, bits, number_from, AreBits, AreBytes}
 use Rattle.dst_spec.specs.Sample.{Shape, IsShape, IsSound, samples, sound_bytes}
@@ -27,7 +30,8 @@ use Rattle.dst_spec.proofs.Lists.{AreBytes-take, AreBytes-drop, AreBits-drop}
 
 -- ---- a code has a sound
 code_from_place : (f : Shape) (P : Params) (xs : List ℕ) (i : ℕ) (sound : List ℕ) (e : Bool) →
-    IsWithin xs i (interval_from (narrowed whole (e, reserved_probability P)) (pairs_from f P sound 0 (samples f * f.channels))) → IsCodeOf xs i (symbols f P sound e)
+    IsWithin xs i (interval_from (narrowed whole (e, reserved_probability P)) (pairs_from f P sound 0 (samples f * f.channels))) →
+    IsCodeOf xs i (symbols f P sound e)
 unfolding interval_from
 code_from_place f P xs i sound e w = subst (λ ps. IsWithin xs i (interval_from whole ps)) (sym (symbols-by_place f P sound e)) w
 
@@ -43,22 +47,27 @@ one_sound_at_least f P xs i params h bits w =
     let one = one_part xs i whole p law.0 law.1 IsNormal-whole w in
     let normal = IsNormal-narrowed whole one.0 p law.0 law.1 IsNormal-whole in
     let inside : IsWithin xs i (narrowed whole (one.0, p)) = (within_doubled 11 xs i (part one.0 p whole) bits).0 one.1 in
-    let made = made_sound f P xs i (narrowed whole (one.0, p)) params h bits normal (samples f * f.channels) 0 (omega arith) (λ k. false) (no_pairs xs i (narrowed whole (one.0, p)) inside) in
+    let made = made_sound f P xs i (narrowed whole (one.0, p)) params h bits normal (samples f * f.channels) 0 (omega arith) (λ k. false)
+    (no_pairs xs i (narrowed whole (one.0, p)) inside) in
     (sound_of f made.0, one.0, IsSound-sound_of f made.0, code_from_place f P xs i (sound_of f made.0) one.0 made.1)
 
 -- ---- what a frame whose fields are all read means
-field_read : {A : Type 0} (n : ℕ) (rule : ℕ → Option Reason) (next : ℕ → Fields A) (xs : List ℕ) (place : ℕ) (r : A × List ℕ × ℕ) → read (field n rule next) xs place ≡ Ok r →
+field_read : {A : Type 0} (n : ℕ) (rule : ℕ → Option Reason) (next : ℕ → Fields A) (xs : List ℕ) (place : ℕ) (r : A × List ℕ × ℕ) →
+    read (field n rule next) xs place ≡ Ok r →
     (n ≤ length xs) × (rule (number_from xs 0 n) ≡ None) × (read (next (number_from xs 0 n)) (drop n xs) (place + n) ≡ Ok r)
 unfolding read
 field_read n rule next xs place r e =
-    let k = was_met (nat_lt (length xs) n) (rule (number_from xs 0 n)) (record { reason = Truncated; bit = place }) place (read (next (number_from xs 0 n)) (drop n xs) (place + n)) r e in
+    let k = was_met (nat_lt (length xs) n) (rule (number_from xs 0 n)) (record { reason = Truncated; bit = place }) place
+    (read (next (number_from xs 0 n)) (drop n xs) (place + n)) r e in
     (ltb-false (length xs) n k.0, k.1, k.2)
 
-code_read : {A : Type 0} (n : ℕ) (rule : ℕ → Option Reason) (next : ℕ → Fields A) (xs : List ℕ) (place : ℕ) (r : A × List ℕ × ℕ) → read (code n rule next) xs place ≡ Ok r →
+code_read : {A : Type 0} (n : ℕ) (rule : ℕ → Option Reason) (next : ℕ → Fields A) (xs : List ℕ) (place : ℕ) (r : A × List ℕ × ℕ) →
+    read (code n rule next) xs place ≡ Ok r →
     (rule (number_from xs 0 n) ≡ None) × (read (next (number_from xs 0 n)) (drop n xs) (place + n) ≡ Ok r)
 unfolding read
 code_read n rule next xs place r e =
-    let k = was_met false (rule (number_from xs 0 n)) (record { reason = Truncated; bit = place }) place (read (next (number_from xs 0 n)) (drop n xs) (place + n)) r e in
+    let k = was_met false (rule (number_from xs 0 n)) (record { reason = Truncated; bit = place }) place
+    (read (next (number_from xs 0 n)) (drop n xs) (place + n)) r e in
     (k.1, k.2)
 
 met_unless : (v n : ℕ) (reason : Reason) → ◌≡◌ {A = Option Reason} (cond (v == n) (Some reason) None) None → v ≢ n
@@ -90,7 +99,8 @@ coded_means f frame r shape one long e =
     let xs = bits frame in
     let all_bits = AreBits-bits frame in
     let ys = drop 1 xs in
-    let parts : Params → Fields (Option Params) = λ P. code 1 first_bit_rule gives >>= (λ first. code 12 range_of_code_rule gives >>= (λ twelve. gives (Some P))) in
+    let parts : Params → Fields (Option Params) = λ P. code 1 first_bit_rule gives >>=
+    (λ first. code 12 range_of_code_rule gives >>= (λ twelve. gives (Some P))) in
     let q = onward_ok parts (read (header_fields f.channels) ys 1) r (sym (read-bind (header_fields f.channels) parts ys 1) ∙ e) in
     let P = q.0.0 in
     let zs = q.0.1 in
@@ -148,7 +158,8 @@ plain_means f frame r bytes zero_first e =
     let none : number_from two 0 6 ≡ 0 = met_if (number_from two 0 6) 0 PlainStuffing b.1 in
     let front = front-low_bits 6 two b.0 (AreBits-drop 1 (drop 1 xs) (AreBits-drop 1 xs (AreBits-bits frame))) in
     let stuffing : take 6 two ≡ replicate 6 0 =
-    ap (take 6) front ∙ take_at (low_bits 6 (number_from two 0 6)) (drop 6 two) 6 (length-low_bits 6 (number_from two 0 6)) ∙ ap (low_bits 6) none ∙ six_zeros in
+    ap (take 6) front ∙ take_at (low_bits 6 (number_from two 0 6)) (drop 6 two) 6 (length-low_bits 6 (number_from two 0 6)) ∙ ap (low_bits 6) none
+    ∙ six_zeros in
     let two_is : two ≡ drop 2 xs = drop-drop 1 1 xs in
     let enough = c.0 in
     let long : 1 + n ≤ length frame =
@@ -156,13 +167,17 @@ plain_means f frame r bytes zero_first e =
     let sound = take n (drop 1 frame) in (
       sound,
       (
-        record { long = length-take-le n (drop 1 frame) (omega (arith, length-drop 1 frame)); bytes = AreBytes-take n (drop 1 frame) (AreBytes-drop 1 frame bytes) },
+        record {
+          long = length-take-le n (drop 1 frame) (omega (arith, length-drop 1 frame));
+          bytes = AreBytes-take n (drop 1 frame) (AreBytes-drop 1 frame bytes);
+        },
         inl (record { coded = sym (first_number xs) ∙ zero_first; stuffing = ap (take 6) (sym two_is) ∙ stuffing; long = long; is_sound = refl }),
       ),
     )
 
 -- a frame whose fields are all read means a sound
-pub read_means : (f : Shape) (frame : List ℕ) (r : Option Params × List ℕ × ℕ) → IsShape f → AreBytes frame → read (frame_fields f) (bits frame) 0 ≡ Ok r → (sound : List ℕ) × Means f frame sound
+pub read_means : (f : Shape) (frame : List ℕ) (r : Option Params × List ℕ × ℕ) → IsShape f → AreBytes frame → read (frame_fields f) (bits frame) 0 ≡ Ok r →
+    (sound : List ℕ) × Means f frame sound
 unfolding frame_fields
 read_means f frame r shape bytes e =
     let xs = bits frame in

@@ -1,5 +1,6 @@
 -- A frame means one sound at most, with one tail.
-use Rattle.std.proofs.Common.{◌≡◌, ◌⊎◌, inl, inr, ℕ, zero, suc, ◌+◌, ◌-◌, ◌*◌, ◌/◌, ◌%◌, ◌^◌, ◌<◌, ◌≤◌, Bool, List, [], ◌∷◌, ◌++◌, length, take, drop, get_or, refl, ap, ap₂, sym, subst, ◌∙◌, arith, pos, take-append-drop, length-take-le, ext_get_or, div-add-mod'}
+use Rattle.std.proofs.Common.{◌≡◌, ◌⊎◌, inl, inr, ℕ, zero, suc, ◌+◌, ◌-◌, ◌*◌, ◌/◌, ◌%◌, ◌^◌, ◌<◌, ◌≤◌, Bool, List, [], ◌∷◌, ◌++◌, length, take, drop}
+use Rattle.std.proofs.Common.{get_or, refl, ap, ap₂, sym, subst, ◌∙◌, arith, pos, take-append-drop, length-take-le, ext_get_or, div-add-mod'}
 use Rattle.std.proofs.lemmas.Nat.{div_below, mod-mul-add, div-mul-add}
 use Rattle.std.proofs.lemmas.Nat.Bits.{same_from_bits_below}
 use Rattle.dst_spec.specs.Bits.{bits, AreBits, AreBytes}
@@ -22,7 +23,8 @@ get_byte [] i h = omega arith
 get_byte (x ∷ xs) zero h = h.0
 get_byte (x ∷ xs) (suc i) h = get_byte xs i h.1
 
-sample_of_byte : (f : Shape) (sound : List ℕ) (i j : ℕ) → 0 < f.channels → j < 8 → sample_at f sound ((8 * (i / f.channels) + j) * f.channels + i % f.channels) ≡ get_or sound i 0 / 2 ^ (7 - j) % 2
+sample_of_byte : (f : Shape) (sound : List ℕ) (i j : ℕ) → 0 < f.channels → j < 8 →
+    sample_at f sound ((8 * (i / f.channels) + j) * f.channels + i % f.channels) ≡ get_or sound i 0 / 2 ^ (7 - j) % 2
 sample_of_byte f sound i j h k =
     let w = f.channels in
     let t = 8 * (i / w) + j in
@@ -42,7 +44,8 @@ place_inside w n i j h k l =
     let c : i % w < w = omega arith in
     place-below (8 * (i / w) + j) (i % w) w (8 * n) c (omega arith)
 
-pub same_sound : (f : Shape) (a b : List ℕ) → 0 < f.channels → IsSound f a → IsSound f b → ((m : ℕ) → m < samples f * f.channels → sample_at f a m ≡ sample_at f b m) → a ≡ b
+pub same_sound : (f : Shape) (a b : List ℕ) → 0 < f.channels → IsSound f a → IsSound f b →
+    ((m : ℕ) → m < samples f * f.channels → sample_at f a m ≡ sample_at f b m) → a ≡ b
 same_sound f a b h u v same =
     ext_get_or 0 a b (u.long ∙ sym v.long)
     (λ i l. same_from_bits_below 8 (get_or a i 0) (get_or b i 0) (get_byte a i u.bytes) (get_byte b i v.bytes)
@@ -51,19 +54,22 @@ same_sound f a b h u v same =
     let place = (8 * (i / f.channels) + j) * f.channels + i % f.channels in
     let back : 7 - j ≡ k = omega arith in
     let inside : place < samples f * f.channels = place_inside f.channels f.octets i j h (omega (arith, u.long)) (omega arith) in
-    ap (λ z. get_or a i 0 / 2 ^ z % 2) (sym back) ∙ sym (sample_of_byte f a i j h (omega arith)) ∙ same place inside ∙ sample_of_byte f b i j h (omega arith) ∙ ap (λ z. get_or b i 0 / 2 ^ z % 2) back))
+    ap (λ z. get_or a i 0 / 2 ^ z % 2) (sym back) ∙ sym (sample_of_byte f a i j h (omega arith)) ∙ same place inside
+    ∙ sample_of_byte f b i j h (omega arith) ∙ ap (λ z. get_or b i 0 / 2 ^ z % 2) back))
 
 -- ---- the interval of a sound's symbols, from the reserved one on
 code_by_place : (f : Shape) (P : Params) (xs : List ℕ) (i : ℕ) (sound : List ℕ) (e : Bool) → IsCodeOf xs i (symbols f P sound e) →
     IsWithin xs i (interval_from whole ((e, reserved_probability P) ∷ pairs_from f P sound 0 (samples f * f.channels)))
 code_by_place f P xs i sound e w = subst (λ ps. IsWithin xs i (interval_from whole ps)) (symbols-by_place f P sound e) w
 
-behind_first : (xs : List ℕ) (i : ℕ) (pair : Bool × ℕ) (rest : List (Bool × ℕ)) → IsWithin xs i (interval_from whole (pair ∷ rest)) → IsWithin xs i (interval_from (narrowed whole pair) rest)
+behind_first : (xs : List ℕ) (i : ℕ) (pair : Bool × ℕ) (rest : List (Bool × ℕ)) → IsWithin xs i (interval_from whole (pair ∷ rest)) →
+    IsWithin xs i (interval_from (narrowed whole pair) rest)
 unfolding interval_from
 behind_first xs i pair rest w = w
 
 -- two sounds whose symbols the code has are one, with one reserved symbol
-one_reading_of_code : (f : Shape) (P : Params) (xs : List ℕ) (i : ℕ) (a b : List ℕ) (d e : Bool) → IsParams f.channels P → 0 < f.channels → AreBits xs → IsSound f a → IsSound f b →
+one_reading_of_code : (f : Shape) (P : Params) (xs : List ℕ) (i : ℕ) (a b : List ℕ) (d e : Bool) → IsParams f.channels P → 0 < f.channels → AreBits xs →
+    IsSound f a → IsSound f b →
     IsCodeOf xs i (symbols f P a d) → IsCodeOf xs i (symbols f P b e) → (d ≡ e) × (a ≡ b)
 one_reading_of_code f P xs i a b d e params h bits sa sb u v =
     let p = reserved_probability P in
@@ -77,7 +83,8 @@ one_reading_of_code f P xs i a b d e params h bits sa sb u v =
     let same_reserved : e ≡ d = one.2 e first_b.0 ∙ sym (one.2 d first_a.0) in
     let normal = IsNormal-narrowed whole d p law.0 law.1 IsNormal-whole in
     let rest_a = behind_first xs i (d, p) (pairs_from f P a 0 n) at_a in
-    let rest_b = subst (λ z. IsWithin xs i (interval_from (narrowed whole (z, p)) (pairs_from f P b 0 n))) same_reserved (behind_first xs i (e, p) (pairs_from f P b 0 n) at_b) in
+    let rest_b = subst (λ z. IsWithin xs i (interval_from (narrowed whole (z, p)) (pairs_from f P b 0 n))) same_reserved
+    (behind_first xs i (e, p) (pairs_from f P b 0 n) at_b) in
     (sym same_reserved, same_sound f a b h sa sb (same_samples f P xs i a b (narrowed whole (d, p)) n params h bits normal rest_a rest_b n (omega arith)))
 
 -- ---- two readings of one coded frame are one
@@ -87,18 +94,21 @@ record IsSameReading (f : Shape) (frame a b : List ℕ) (d : IsCoded f frame a) 
   reserved : d.reserved ≡ e.reserved
   sound : a ≡ b
 
-same_coded : (f : Shape) (frame a b : List ℕ) → IsShape f → IsSound f a → IsSound f b → (d : IsCoded f frame a) (e : IsCoded f frame b) → IsSameReading f frame a b d e
+same_coded : (f : Shape) (frame a b : List ℕ) → IsShape f → IsSound f a → IsSound f b → (d : IsCoded f frame a) (e : IsCoded f frame b) →
+    IsSameReading f frame a b d e
 same_coded f frame a b shape sa sb d e =
     let xs = bits frame in
     let wholes : take d.place xs ++ drop d.place xs ≡ take e.place xs ++ drop e.place xs = take-append-drop d.place xs ∙ sym (take-append-drop e.place xs) in
-    let law = header_law f.channels d.params e.params (take d.place xs) (take e.place xs) (drop d.place xs) (drop e.place xs) shape.most d.header e.header wholes in
+    let law = header_law f.channels d.params e.params (take d.place xs) (take e.place xs) (drop d.place xs)
+    (drop e.place xs) shape.most d.header e.header wholes in
     let place : d.place ≡ e.place = sym (length-take-le d.place xs d.inside) ∙ ap length law.0 ∙ length-take-le e.place xs e.inside in
     let code : IsCodeOf xs d.place (symbols f d.params b e.reserved) =
     subst (λ P. IsCodeOf xs d.place (symbols f P b e.reserved)) (sym law.1) (subst (λ i. IsCodeOf xs i (symbols f e.params b e.reserved)) (sym place) e.code) in
     let one = one_reading_of_code f d.params xs d.place a b d.reserved e.reserved d.header.params shape.least (AreBits-bits frame) sa sb d.code code in
     record { place = place; params = law.1; reserved = one.0; sound = one.1 }
 
-same_tail : (f : Shape) (frame a b : List ℕ) (d : IsCoded f frame a) (e : IsCoded f frame b) → IsSameReading f frame a b d e → coded_tail f frame a d ≡ coded_tail f frame b e
+same_tail : (f : Shape) (frame a b : List ℕ) (d : IsCoded f frame a) (e : IsCoded f frame b) → IsSameReading f frame a b d e →
+    coded_tail f frame a d ≡ coded_tail f frame b e
 same_tail f frame a b d e s =
     let pairs : symbols f d.params a d.reserved ≡ symbols f e.params b e.reserved =
     ap (λ P. symbols f P a d.reserved) s.params ∙ ap₂ (λ sound r. symbols f e.params sound r) s.sound s.reserved in

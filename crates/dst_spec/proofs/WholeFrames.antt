@@ -1,5 +1,6 @@
 -- Frames of the real size, whole: what is spelled for a sound FF, what is stored, and the tail of a long frame.
-use Rattle.std.proofs.Common.{◌≡◌, ℕ, zero, suc, ◌+◌, ◌*◌, ◌/◌, ◌%◌, ◌^◌, ◌<◌, ◌==◌, nat_lt, Bool, true, false, if◌then◌else◌, inr, pos, List, [], ◌∷◌, ◌++◌, length, get_or, map, replicate, refl, ap, ap₂, sym, ◌∙◌, arith, length-append}
+use Rattle.std.proofs.Common.{◌≡◌, ℕ, zero, suc, ◌+◌, ◌*◌, ◌/◌, ◌%◌, ◌^◌, ◌<◌, ◌==◌, nat_lt, Bool, true, false, if◌then◌else◌, inr, pos, List, []}
+use Rattle.std.proofs.Common.{◌∷◌, ◌++◌, length, get_or, map, replicate, refl, ap, ap₂, sym, ◌∙◌, arith, length-append}
 use Rattle.std.proofs.lemmas.List.{length-replicate}
 use Rattle.std.specs.List.{range_with_len}
 use Rattle.dst_spec.specs.Bits.{low_bits, bits, number_from, octets}
@@ -25,7 +26,8 @@ no_filter p = params_of (pos 0 ∷ []) (p ∷ p ∷ [])
 abbrev all_ones : ℕ → List ℕ
 all_ones n = replicate n 255
 
-each_by_place : {A : Type 0} (g : ℕ → A) (h : ℕ → A) (xs : List ℕ) (a : ℕ) → ((i : ℕ) → i < length xs → h (a + i) ≡ g (get_or xs i 0)) → map h (range_with_len a (length xs)) ≡ map g xs
+each_by_place : {A : Type 0} (g : ℕ → A) (h : ℕ → A) (xs : List ℕ) (a : ℕ) → ((i : ℕ) → i < length xs → h (a + i) ≡ g (get_or xs i 0)) →
+    map h (range_with_len a (length xs)) ≡ map g xs
 each_by_place g h [] a same = refl
 each_by_place g h (x ∷ xs) a same =
     let start : a + 0 ≡ a = omega arith in
@@ -52,13 +54,15 @@ reserved_is_1 : (p : ℕ) → reserved_probability (no_filter p) ≡ 1
 unfolding reserved_probability low_bits number_from
 reserved_is_1 p = refl
 
-symbols_are_bits : (n p : ℕ) (sound : List ℕ) (e : Bool) → length sound ≡ n → symbols (mono n) (no_filter p) sound e ≡ (e, 1) ∷ map (λ b. (b == 1, p)) (bits sound)
+symbols_are_bits : (n p : ℕ) (sound : List ℕ) (e : Bool) → length sound ≡ n →
+    symbols (mono n) (no_filter p) sound e ≡ (e, 1) ∷ map (λ b. (b == 1, p)) (bits sound)
 symbols_are_bits n p sound e long =
     let count : samples (mono n) * 1 ≡ length (bits sound) = omega (arith, length-bits sound, long) in
     symbols-by_place (mono n) (no_filter p) sound e
     ∙ ap₂ (λ first rest. (e, first) ∷ rest) (reserved_is_1 p)
     (ap (λ m. map (pair_at (mono n) (no_filter p) sound) (range_with_len 0 m)) count
-    ∙ each_by_place (λ b. (b == 1, p)) (pair_at (mono n) (no_filter p) sound) (bits sound) 0 (λ i lt. let place : 0 + i ≡ i = omega arith in ap (pair_at (mono n) (no_filter p) sound) place ∙ pair_is_bit n p sound i))
+    ∙ each_by_place (λ b. (b == 1, p)) (pair_at (mono n) (no_filter p) sound) (bits sound) 0 (λ i lt. let place : 0 + i ≡ i =
+    omega arith in ap (pair_at (mono n) (no_filter p) sound) place ∙ pair_is_bit n p sound i))
 
 -- those of a sound FF are all 1, but for the reserved one
 ones : (n p : ℕ) → map {B = Bool × ℕ} (λ b. (b == 1, p)) (bits (all_ones n)) ≡ replicate (8 * n) (true, p)
@@ -66,7 +70,8 @@ unfolding bits low_bits
 ones zero p = refl
 ones (suc n) p =
     let more : 8 * suc n ≡ suc (suc (suc (suc (suc (suc (suc (suc (8 * n)))))))) = omega arith in
-    ap (λ xs. (true, p) ∷ (true, p) ∷ (true, p) ∷ (true, p) ∷ (true, p) ∷ (true, p) ∷ (true, p) ∷ (true, p) ∷ xs) (ones n p) ∙ ap (λ m. replicate m (true, p)) (sym more)
+    ap (λ xs. (true, p) ∷ (true, p) ∷ (true, p) ∷ (true, p) ∷ (true, p) ∷ (true, p) ∷ (true, p) ∷ (true, p) ∷ xs) (ones n p)
+    ∙ ap (λ m. replicate m (true, p)) (sym more)
 
 symbols_of_ones : (n p : ℕ) (e : Bool) → symbols (mono n) (no_filter p) (all_ones n) e ≡ (e, 1) ∷ replicate (8 * n) (true, p)
 symbols_of_ones n p e = symbols_are_bits n p (all_ones n) e (length-replicate {A = ℕ} n 255) ∙ ap (λ xs. (e, 1) ∷ xs) (ones n p)
@@ -146,12 +151,14 @@ long_code_is_0 n =
     let count : 12 + n ≡ 2 + (10 + n) = omega arith in
     let long : 48 ≡ length (bits front) + 0 = omega (arith, length-bits front) in
     let behind : number_from xs 48 (10 + n) ≡ 0 =
-    ap (λ i. number_from xs i (10 + n)) long ∙ number_from-append_right (bits front) (replicate (8 * 9404) 0) 0 (10 + n) ∙ number_of_zeros (8 * 9404) 0 (10 + n) in
+    ap (λ i. number_from xs i (10 + n)) long ∙ number_from-append_right (bits front) (replicate (8 * 9404) 0) 0 (10 + n)
+    ∙ number_of_zeros (8 * 9404) 0 (10 + n) in
     ap₂ (λ ys m. number_from ys 46 m) whole count ∙ number_from-add xs 46 2 (10 + n) ∙ ap₂ (λ a b. a * 2 ^ (10 + n) + b) two_zeros behind ∙ omega arith
 
 long_frame_has_code : IsCodeOf (bits long_frame) 45 (symbols (mono 4704) (no_filter 128) (all_ones 4704) true)
 long_frame_has_code =
-    zeros_are_code (bits long_frame) 45 (symbols (mono 4704) (no_filter 128) (all_ones 4704) true) (symbols_are_sure (no_filter 128) 4704 (all_ones 4704) (ones_two_probs 0 4704)) long_code_is_0
+    zeros_are_code (bits long_frame) 45 (symbols (mono 4704) (no_filter 128) (all_ones 4704) true)
+    (symbols_are_sure (no_filter 128) 4704 (all_ones 4704) (ones_two_probs 0 4704)) long_code_is_0
 
 pub tail_of_a_long_frame : MeansWithTail (mono 4704) long_frame (all_ones 4704) 4698
 unfolding bits low_bits
@@ -159,7 +166,15 @@ tail_of_a_long_frame =
     let d = ap (λ ps. (interval ps).doublings) (symbols_of_ones 4704 128 true) ∙ doublings_of_long_frame in (
       IsSound-same 4704 255 (omega arith),
       inr (
-        record { params = no_filter 128; place = 45; inside = omega (arith, length-bits long_frame); header = header_to_45; first_bit = refl; reserved = true; code = long_frame_has_code },
+        record {
+          params = no_filter 128;
+          place = 45;
+          inside = omega (arith, length-bits long_frame);
+          header = header_to_45;
+          first_bit = refl;
+          reserved = true;
+          code = long_frame_has_code;
+        },
         omega (arith, d, length-replicate {A = ℕ} 9404 0),
       ),
     )

@@ -1,5 +1,6 @@
 -- Fields that stand one after the other, each with its rule, and what they give.
-use Rattle.std.specs.Prelude.{ℕ, zero, suc, ◌+◌, ◌*◌, ◌^◌, ℤ, pos, neg_ℤ, true, false, ◌==◌, nat_lt, if◌then◌else◌, List, length, drop, get_or, Option, Some, None, Result, Ok, Err}
+use Rattle.std.specs.Prelude.{ℕ, zero, suc, ◌+◌, ◌*◌, ◌^◌, ℤ, pos, neg_ℤ, true, false, ◌==◌, nat_lt, if◌then◌else◌, List, length, drop, get_or}
+use Rattle.std.specs.Prelude.{Option, Some, None, Result, Ok, Err}
 use Rattle.std.specs.List.{prefix_len}
 use Rattle.dst_spec.specs.Bits.{number_from}
 use Rattle.dst_spec.specs.declared.faults.FrameFault.{FrameFault}

@@ -1,5 +1,6 @@
 -- The prediction of a sample and the probability that it is as guessed.
-use Rattle.std.specs.Prelude.{ℕ, ◌-◌, ◌/◌, min, ℤ, pos, ◌+ℤ◌, neg_ℤ, nat_abs, Bool, false, not, ◌&&◌, ◌==◌, nat_lt, if◌then◌else◌, List, [], ◌∷◌, length, get_or}
+use Rattle.std.specs.Prelude.{ℕ, ◌-◌, ◌/◌, min, ℤ, pos, ◌+ℤ◌, neg_ℤ, nat_abs, Bool, false, not, ◌&&◌, ◌==◌, nat_lt, if◌then◌else◌, List, [], ◌∷◌}
+use Rattle.std.specs.Prelude.{length, get_or}
 use Rattle.std.specs.Int.{is_negative}
 use lib.IntN.{pred_ℤ}
 use Rattle.dst_spec.specs.Sample.{Shape, sample}

@@ -21,7 +21,8 @@ HeaderLaw =
 abbrev pub ReadingLaw : Type 0
 ReadingLaw =
     (channels : ℕ) → 1 ≤ channels → channels ≤ 6 →
-    ((P : Params) (v rest : List ℕ) (place : ℕ) → HasHeader channels P (1 ∷ v) → read (header_fields channels) (v ++ rest) place ≡ Ok (P, rest, place + length v))
+    ((P : Params) (v rest : List ℕ) (place : ℕ) → HasHeader channels P (1 ∷ v) →
+    read (header_fields channels) (v ++ rest) place ≡ Ok (P, rest, place + length v))
     × ((P : Params) (xs rest : List ℕ) (place end : ℕ) → AreBits xs → read (header_fields channels) xs place ≡ Ok (P, rest, end) →
     (v : List ℕ) × HasHeader channels P (1 ∷ v) × (xs ≡ v ++ rest) × (end ≡ place + length v))
 

@@ -1,7 +1,8 @@
 -- The numbers of the reasons why a frame is refused.
 use Rattle.std.specs.Prelude.{ℕ}
 use Rattle.dst_spec.specs.declared.faults.Reason.{Reason}
-use Rattle.dst_spec.specs.declared.faults.Reason.TheVariants.{Truncated, PlainStuffing, MultiSegment, MapSkips, MethodReserved, TableTooShort, CoefRange, ProbRange, FirstCodeBit, CodeRange}
+use Rattle.dst_spec.specs.declared.faults.Reason.TheVariants.{Truncated, PlainStuffing, MultiSegment, MapSkips, MethodReserved, TableTooShort}
+use Rattle.dst_spec.specs.declared.faults.Reason.TheVariants.{CoefRange, ProbRange, FirstCodeBit, CodeRange}
 
 abbrev pub reason_number : Reason → ℕ
 reason_number Truncated = 1
