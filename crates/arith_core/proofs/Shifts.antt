@@ -1,5 +1,6 @@
 -- The doublings that give a probability eight bits, and the probabilities at the places of a table.
-use Rattle.std.proofs.Common.{◌≡◌, ℕ, suc, ◌+◌, ◌-◌, ◌*◌, ◌%◌, ◌^◌, ◌<◌, ◌≤◌, if◌then◌else◌, refl, ap, sym, ◌∙◌, arith, Bool, true, false, nat_lt, nat_eq, ltb-true, ltb-false}
+use Rattle.std.proofs.Common.{◌≡◌, ℕ, suc, ◌+◌, ◌-◌, ◌*◌, ◌%◌, ◌^◌, ◌<◌, ◌≤◌, if◌then◌else◌, refl, ap, sym, ◌∙◌, arith, Bool, true, false, nat_lt}
+use Rattle.std.proofs.Common.{nat_eq, ltb-true, ltb-false}
 use Rattle.std.proofs.lemmas.Bool.{eqb-true, eqb-false}
 use Rattle.std.proofs.lemmas.Nat.{leading_top, pow-add, pow_below, pow_pos, mul-le}
 use Rattle.arith_core.specs.Range.{IsShift}

@@ -17,9 +17,16 @@ pub record IsBegun (bytes : List ℕ) (first value : ℕ) : Type 0 where
   pub below : value ≤ 4095 * 2 ^ 52
   pub used_is : first + 45 + trailing_zeros w64 value - 51 - first ≡ 13
   pub registers : AreRegisters bytes first (first + 45 + trailing_zeros w64 value - 51 - first) (first + 45) value 4095
-  pub stands : StandsFor (record { bytes = bytes; first = first; range = 4095; offset = value / 2 ^ 52; used = first + 45 + trailing_zeros w64 value - 51 - first }) []
+  pub stands : StandsFor (record {
+    bytes = bytes;
+    first = first;
+    range = 4095;
+    offset = value / 2 ^ 52;
+    used = first + 45 + trailing_zeros w64 value - 51 - first;
+  }) []
 
-pub begun : (bytes : List ℕ) (first offset next : ℕ) → length bytes ≤ 2 ^ 50 → first < 2 ^ 61 → offset ≡ number_from (bits bytes) (first + 1) 12 → (offset ≡ 4095 → ⊥) →
+pub begun : (bytes : List ℕ) (first offset next : ℕ) → length bytes ≤ 2 ^ 50 → first < 2 ^ 61 → offset ≡ number_from (bits bytes) (first + 1) 12 →
+    (offset ≡ 4095 → ⊥) →
     next ≡ number_from (bits bytes) (first + 13) 32 → IsBegun bytes first (first_value offset next)
 unfolding interval_from
 begun bytes first offset next short early offset_is other next_is =

@@ -19,14 +19,16 @@ first_is_zero xs i x bits is other =
     let same = is ∙ one_bit xs i in
     omega arith
 
-pub first_fault : (xs : List ℕ) (i place : ℕ) → number_from xs i 1 ≡ 1 → read code_fields (drop i xs) place ≡ Err (record { reason = FirstCodeBit; bit = place })
+pub first_fault : (xs : List ℕ) (i place : ℕ) → number_from xs i 1 ≡ 1 →
+    read code_fields (drop i xs) place ≡ Err (record { reason = FirstCodeBit; bit = place })
 unfolding read
 first_fault xs i place is =
     let at : i + 0 ≡ i = omega arith in
     let number : number_from (drop i xs) 0 1 ≡ 1 = number_from-drop xs i 0 1 ∙ ap (λ k. number_from xs k 1) at ∙ is in
     rw (read, number) refl
 
-pub range_fault : (xs : List ℕ) (i : ℕ) → get_or xs i 0 ≡ 0 → number_from xs (i + 1) 12 ≡ 4095 → read code_fields (drop i xs) i ≡ Err (record { reason = CodeRange; bit = i + 1 })
+pub range_fault : (xs : List ℕ) (i : ℕ) → get_or xs i 0 ≡ 0 → number_from xs (i + 1) 12 ≡ 4095 →
+    read code_fields (drop i xs) i ≡ Err (record { reason = CodeRange; bit = i + 1 })
 unfolding read
 range_fault xs i zero_bit is =
     let at : i + 0 ≡ i = omega arith in

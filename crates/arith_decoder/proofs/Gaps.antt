@@ -1,5 +1,6 @@
 -- A gap, and the value that it belongs to.
-use Rattle.std.proofs.Common.{◌≡◌, ℕ, ◌+◌, ◌-◌, ◌*◌, ◌%◌, ◌^◌, ◌<◌, ◌≤◌, List, refl, ap, sym, ◌∙◌, arith, Bool, true, false, nat_lt, if◌then◌else◌, ltb-true, ltb-false}
+use Rattle.std.proofs.Common.{◌≡◌, ℕ, ◌+◌, ◌-◌, ◌*◌, ◌%◌, ◌^◌, ◌<◌, ◌≤◌, List, refl, ap, sym, ◌∙◌, arith, Bool, true, false, nat_lt, if◌then◌else◌}
+use Rattle.std.proofs.Common.{ltb-true, ltb-false}
 use Rattle.std.proofs.lemmas.Nat.{pow-add, pow_pos, one_shl, shl_whole, mul-le}
 use Rattle.std.specs.Int.{trailing_zeros, w64}
 use Rattle.dst_spec.specs.Bits.{number_from, AreBits}
@@ -11,7 +12,8 @@ use Rattle.arith_decoder.proofs.Registers.{pow_full, odd_zeros, value_odd, zeros
 pub value_below-due : (range gap : ℕ) → value_below (due range range) (due range gap) ≡ due range (value_below range gap)
 value_below-due range gap = go (nat_lt range 2048)
   where
-    go : (e : Bool) → value_below (if e then (2 * range) else range) (if e then (2 * gap) else gap) ≡ (if e then (2 * value_below range gap) else value_below range gap)
+    go : (e : Bool) → value_below (if e then (2 * range) else range) (if e then (2 * gap) else gap) ≡
+        (if e then (2 * value_below range gap) else value_below range gap)
     go true = omega arith
     go false = refl
 
@@ -26,7 +28,8 @@ pub due-fits : (range gap : ℕ) → due range range ≤ 4095 → gap ≤ range 
 due-fits range gap most h = let w = within-due range gap h in omega arith
 
 -- neither has only zeros below the twelve highest bits
-pub some_low : (xs : List ℕ) (start place range offset gap : ℕ) → AreBits xs → gap ≤ range * 2 ^ 52 → IsValue xs start place offset (value_below range gap) → 0 < gap % 2 ^ 52
+pub some_low : (xs : List ℕ) (start place range offset gap : ℕ) → AreBits xs → gap ≤ range * 2 ^ 52 →
+    IsValue xs start place offset (value_below range gap) → 0 < gap % 2 ^ 52
 some_low xs start place range offset gap bits within v =
     let n = number_from xs start v.ahead in
     let below = low_below n v.ahead v.zeros v.full (number_from-below xs start v.ahead bits) in
@@ -44,7 +47,8 @@ pub record IsOdd (gap zeros : ℕ) : Type 0 where
   pub half : ℕ
   pub is : gap ≡ (2 * half + 1) * 2 ^ zeros
 
-pub gap_odd : (xs : List ℕ) (start place range offset gap : ℕ) → gap ≤ range * 2 ^ 52 → (v : IsValue xs start place offset (value_below range gap)) → IsOdd gap v.zeros
+pub gap_odd : (xs : List ℕ) (start place range offset gap : ℕ) → gap ≤ range * 2 ^ 52 → (v : IsValue xs start place offset (value_below range gap)) →
+    IsOdd gap v.zeros
 gap_odd xs start place range offset gap within v =
     let c = offset * 2 ^ v.ahead + number_from xs start v.ahead in
     let odd = v.is ∙ value_odd offset (number_from xs start v.ahead) v.ahead v.zeros v.full in
@@ -75,16 +79,19 @@ gap_odd xs start place range offset gap within v =
         let sum : gap + (2 * c + 1) * z ≡ 2 * ((m + c + 1) * z) = e ∙ ap (λ x. 2 * (x * z)) is in
         omega arith
 
-    total : (c z : ℕ) → value_below range gap ≡ (2 * c + 1) * z → range * 4503599627370496 ≡ 2 * (range * 2 ^ v.ahead * z) → gap + (2 * c + 1) * z ≡ 2 * (range * 2 ^ v.ahead * z)
+    total : (c z : ℕ) → value_below range gap ≡ (2 * c + 1) * z → range * 4503599627370496 ≡ 2 * (range * 2 ^ v.ahead * z) →
+        gap + (2 * c + 1) * z ≡ 2 * (range * 2 ^ v.ahead * z)
     total c z odd whole = omega (arith, within)
 
-pub gap_zeros : (xs : List ℕ) (start place range offset gap : ℕ) → gap < 2 ^ 64 → gap ≤ range * 2 ^ 52 → (v : IsValue xs start place offset (value_below range gap)) → trailing_zeros w64 gap ≡ v.zeros
+pub gap_zeros : (xs : List ℕ) (start place range offset gap : ℕ) → gap < 2 ^ 64 → gap ≤ range * 2 ^ 52 →
+    (v : IsValue xs start place offset (value_below range gap)) → trailing_zeros w64 gap ≡ v.zeros
 gap_zeros xs start place range offset gap fits within v =
     let o = gap_odd xs start place range offset gap within v in
     odd_zeros gap o.half v.zeros (omega (arith, v.full)) fits o.is
 
 -- both have as many zeros
-pub zeros_alike : (xs : List ℕ) (start place range offset gap : ℕ) → due range range ≤ 4095 → gap ≤ range * 2 ^ 52 → IsValue xs start place offset (due range (value_below range gap)) →
+pub zeros_alike : (xs : List ℕ) (start place range offset gap : ℕ) → due range range ≤ 4095 → gap ≤ range * 2 ^ 52 →
+    IsValue xs start place offset (due range (value_below range gap)) →
     trailing_zeros w64 (due range gap) ≡ trailing_zeros w64 (due range (value_below range gap))
 zeros_alike xs start place range offset gap most within v =
     let same = value_below-due range gap in
@@ -111,9 +118,11 @@ pub record IsRefilled (xs : List ℕ) (start place range offset gap more zeros o
   pub holds : more ≡ number_from xs place 32 → IsValue xs start (place + 32) offset (value_below range (gap + one - new))
 
 -- as it is computed
-pub refilled : (xs : List ℕ) (start place range offset gap more : ℕ) → range ≤ 4095 → gap < 18446744073709551616 → gap ≤ range * 2 ^ 52 → IsValue xs start place offset (value_below range gap) →
+pub refilled : (xs : List ℕ) (start place range offset gap more : ℕ) → range ≤ 4095 → gap < 18446744073709551616 → gap ≤ range * 2 ^ 52 →
+    IsValue xs start place offset (value_below range gap) →
     gap % 4294967296 ≡ 0 → more < 4294967296 →
-    IsRefilled xs start place range offset gap more (trailing_zeros w64 gap) (1 * 2 ^ trailing_zeros w64 gap % 18446744073709551616) ((2 * more + 1) * 2 ^ (trailing_zeros w64 gap - 32) % 18446744073709551616)
+    IsRefilled xs start place range offset gap more (trailing_zeros w64 gap) (1 * 2 ^ trailing_zeros w64 gap % 18446744073709551616)
+    ((2 * more + 1) * 2 ^ (trailing_zeros w64 gap - 32) % 18446744073709551616)
 refilled xs start place range offset gap more most fits within v low few =
     let many = many_zeros xs start place offset (value_below range gap) v (low_value range gap within low) in
     let full = v.full in
@@ -133,7 +142,8 @@ refilled xs start place range offset gap more most fits within v low few =
       many = many;
       enough = omega arith;
       within = omega arith;
-      holds = λ number. rw (moved (2 ^ v.zeros) ((2 * more + 1) * 2 ^ (v.zeros - 32)) (omega arith) value_least gap_least) (rw number (value-refilled xs start place offset (value_below range gap) v many));
+      holds = λ number. rw (moved (2 ^ v.zeros) ((2 * more + 1) * 2 ^ (v.zeros - 32)) (omega arith) value_least gap_least)
+          (rw number (value-refilled xs start place offset (value_below range gap) v many));
     })
   where
     at_least : (a b : ℕ) → b ≤ (2 * a + 1) * b

@@ -1,5 +1,6 @@
 -- One symbol by the gap.
-use Rattle.std.proofs.Common.{◌≡◌, ℕ, ◌+◌, ◌-◌, ◌*◌, ◌/◌, ◌%◌, ◌^◌, ◌<◌, ◌≤◌, Bool, true, false, not, nat_lt, if◌then◌else◌, refl, ap, ◌∙◌, arith, ltb-true, ltb-false, lt-ltb, le-ltb}
+use Rattle.std.proofs.Common.{◌≡◌, ℕ, ◌+◌, ◌-◌, ◌*◌, ◌/◌, ◌%◌, ◌^◌, ◌<◌, ◌≤◌, Bool, true, false, not, nat_lt, if◌then◌else◌, refl, ap, ◌∙◌, arith}
+use Rattle.std.proofs.Common.{ltb-true, ltb-false, lt-ltb, le-ltb}
 use Rattle.std.proofs.lemmas.Nat.{mul-le}
 use Rattle.std.specs.Bool.{FalseIff}
 use Rattle.arith_decoder.specs.Registers.{IsCut, IsStep, due, value_below}
@@ -25,7 +26,8 @@ pub less : (zero : Bool) (gap part : ℕ) → part ≤ 4095 → FalseIff zero (p
 less true gap part small h = let not_less : part * 4503599627370496 % 18446744073709551616 ≤ gap → ⊥ = h in lt-ltb gap (part * 4503599627370496) (omega arith)
 less false gap part small h = le-ltb gap (part * 4503599627370496) (omega arith)
 
-pub gap_is : (zero : Bool) (gap part factor rest : ℕ) → part ≤ 4095 → part * factor ≤ 4095 → gap < 18446744073709551616 → rest < 18446744073709551616 → nat_lt gap (part * 2 ^ 52) ≡ zero →
+pub gap_is : (zero : Bool) (gap part factor rest : ℕ) → part ≤ 4095 → part * factor ≤ 4095 → gap < 18446744073709551616 → rest < 18446744073709551616 →
+    nat_lt gap (part * 2 ^ 52) ≡ zero →
     (rest + part * 4503599627370496 % 18446744073709551616) % 18446744073709551616 ≡ gap →
     (if zero then (gap * factor % 18446744073709551616) else rest) ≡ gap_behind zero gap part factor
 gap_is true gap part factor rest small most fits rest_fits is value =
@@ -77,13 +79,15 @@ pub range_left_is : (zero : Bool) (range part factor : ℕ) → range_left zero 
 range_left_is true range part factor = refl
 range_left_is false range part factor = refl
 
-pub parted : (p range gap part factor : ℕ) (zero : Bool) → p ≤ 128 → IsRange range → gap ≤ range * 2 ^ 52 → 0 < gap % 2 ^ 52 → IsCut p range part factor → nat_lt gap (part * 2 ^ 52) ≡ zero →
+pub parted : (p range gap part factor : ℕ) (zero : Bool) → p ≤ 128 → IsRange range → gap ≤ range * 2 ^ 52 → 0 < gap % 2 ^ 52 → IsCut p range part factor →
+    nat_lt gap (part * 2 ^ 52) ≡ zero →
     (g r : ℕ) → g ≡ gap_behind zero gap part factor → r ≡ range_left zero range part factor →
     IsStep p (value_below range gap) range (not zero) (due r (value_below r g)) (due r r)
 parted p range gap part factor zero k in_range within odd cut is g r g_is r_is =
     let b = before p (value_below range gap) range part factor k in_range cut in
     let some : part ≤ range = omega (arith, b.small) in
     let below : value_below range gap < range * 2 ^ 52 = omega (arith, in_range.least) in
-    let value_is : value_below r g ≡ value_behind (not zero) (value_below range gap) (range - part) factor = rw (g_is, r_is) (value_left zero range gap part factor some within is) in
+    let value_is : value_below r g ≡ value_behind (not zero) (value_below range gap) (range - part) factor =
+    rw (g_is, r_is) (value_left zero range gap part factor some within is) in
     step_is p (value_below range gap) range part factor k in_range below cut (not zero) (shown zero range gap part some within odd is)
     (value_below r g) r value_is (r_is ∙ range_left_is zero range part factor)

@@ -42,7 +42,8 @@ pub record IsBehind (bytes : List ℕ) (first used place : ℕ) (before after : 
   pub stands : (pairs : List (Bool × ℕ)) → StandsFor before pairs → StandsFor after (pairs ++ (symbol, p) ∷ [])
 
 pub behind : (bytes : List ℕ) (first used place value range p : ℕ) (symbol : Bool) (value_after range_after : ℕ) →
-    length bytes ≤ 2 ^ 50 → first < 2 ^ 61 → 13 ≤ used → used ≤ 2 ^ 40 → value_after < 18446744073709551616 → IsRange range → IsReady bytes first used place value range →
+    length bytes ≤ 2 ^ 50 → first < 2 ^ 61 → 13 ≤ used → used ≤ 2 ^ 40 → value_after < 18446744073709551616 → IsRange range →
+    IsReady bytes first used place value range →
     IsStep p value range symbol value_after range_after →
     IsBehind bytes first used place (decoding bytes first range value used)
     (record { bytes = bytes; first = first; range = range_after; offset = value_after / 2 ^ 52; used = place + trailing_zeros w64 value_after - 51 - first })
@@ -69,5 +70,6 @@ behind bytes first used place value range p symbol value_after range_after short
         below = s.below;
         holds = v;
       });
-      stands = λ pairs st. rw used_is (StandsFor-next (decoding bytes first range value used) p symbol k (decoding bytes first range_after value_after (used + k)) t.next pairs st);
+      stands = λ pairs st. rw used_is (StandsFor-next (decoding bytes first range value used) p symbol k
+          (decoding bytes first range_after value_after (used + k)) t.next pairs st);
     }

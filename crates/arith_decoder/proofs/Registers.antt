@@ -25,7 +25,8 @@ odd_zeros n c t h fits e =
         let same : (2 * c + 1) * 2 ^ t + 0 ≡ n = omega (arith, e) in
         ap (λ m. m / 2 ^ i % 2) (sym same) ∙ q ∙ bit_at-zero i
 
-    go : (b : Bool) → nat_lt (trailing_zeros w64 n) t ≡ b → n / 2 ^ trailing_zeros w64 n % 2 ≡ 1 → (t < trailing_zeros w64 n → n / 2 ^ t % 2 ≡ 0) → n / 2 ^ t % 2 ≡ 1 → trailing_zeros w64 n ≡ t
+    go : (b : Bool) → nat_lt (trailing_zeros w64 n) t ≡ b → n / 2 ^ trailing_zeros w64 n % 2 ≡ 1 → (t < trailing_zeros w64 n → n / 2 ^ t % 2 ≡ 0) →
+        n / 2 ^ t % 2 ≡ 1 → trailing_zeros w64 n ≡ t
     go true is one above at =
         let lt : trailing_zeros w64 n < t = omega (arith, ltb-true) in
         let none = below (trailing_zeros w64 n) lt in
@@ -70,7 +71,8 @@ value-doubled xs start place offset value low d le v h =
     let b = v.ahead - d in
     let split : v.ahead ≡ d + b = omega arith in
     let full : b + (v.zeros + d) ≡ 51 = omega (arith, v.full) in
-    let number : number_from xs start v.ahead ≡ number_from xs start d * 2 ^ b + number_from xs (start + d) b = ap (number_from xs start) split ∙ number_from-add xs start d b in
+    let number : number_from xs start v.ahead ≡ number_from xs start d * 2 ^ b + number_from xs (start + d) b = ap (number_from xs start) split
+    ∙ number_from-add xs start d b in
     record {
       ahead = b;
       zeros = v.zeros + d;
@@ -86,7 +88,8 @@ value-doubled xs start place offset value low d le v h =
         let q = pow-add 2 z d in
         let r : offset ≡ (offset - low) + low = omega arith in
         let k = offset - low in
-        let s : offset * 4503599627370496 + (2 * (m * 2 ^ b + n) + 1) * 2 ^ z - low * 4503599627370496 ≡ k * 4503599627370496 + (2 * (m * 2 ^ b + n) + 1) * 2 ^ z = omega arith in
+        let s : offset * 4503599627370496 + (2 * (m * 2 ^ b + n) + 1) * 2 ^ z - low * 4503599627370496 ≡ k * 4503599627370496 +
+        (2 * (m * 2 ^ b + n) + 1) * 2 ^ z = omega arith in
         rw s (grind arith)
 
 -- 32 more bits in place of the lowest 32 zeros
@@ -126,7 +129,8 @@ many_zeros xs start place offset value v h = go (nat_lt v.zeros 32) refl
         let odd = v.is ∙ value_odd offset n v.ahead v.zeros v.full in
         let whole : value ≡ value / 4294967296 * 2 ^ 32 + 0 = omega arith in
         let none = ap (λ x. x / 2 ^ v.zeros % 2) whole ∙ bit_at_cat_low (value / 4294967296) 32 0 v.zeros lt ∙ bit_at-zero v.zeros in
-        let one : value / 2 ^ v.zeros % 2 ≡ 1 = ap (λ x. x / 2 ^ v.zeros % 2) odd ∙ ap (λ x. x % 2) (shl-shr (2 * (offset * 2 ^ v.ahead + n) + 1) v.zeros) ∙ omega arith in
+        let one : value / 2 ^ v.zeros % 2 ≡ 1 = ap (λ x. x / 2 ^ v.zeros % 2) odd ∙ ap (λ x. x % 2) (shl-shr (2 * (offset * 2 ^ v.ahead + n) + 1) v.zeros)
+        ∙ omega arith in
         absurd (omega arith)
 
 pub few_zeros : (xs : List ℕ) (start place offset value : ℕ) → (v : IsValue xs start place offset value) → (value % 4294967296 ≡ 0 → ⊥) → v.zeros < 32
@@ -145,10 +149,13 @@ few_zeros xs start place offset value v h = go (nat_lt v.zeros 32) refl
         absurd (h (rw whole (omega arith)))
 
 -- The value refilled, as it is computed.
-pub refilled : (xs : List ℕ) (start place offset value more : ℕ) → AreBits xs → offset < 4096 → (v : IsValue xs start place offset value) → value < 18446744073709551616 → value % 4294967296 ≡ 0 → more < 4294967296 →
+pub refilled : (xs : List ℕ) (start place offset value more : ℕ) → AreBits xs → offset < 4096 → (v : IsValue xs start place offset value) →
+    value < 18446744073709551616 → value % 4294967296 ≡ 0 → more < 4294967296 →
     (1 * 2 ^ trailing_zeros w64 value % 18446744073709551616 ≤ value) × (32 ≤ trailing_zeros w64 value)
-    × (value - 1 * 2 ^ trailing_zeros w64 value % 18446744073709551616 + (2 * more + 1) * 2 ^ (trailing_zeros w64 value - 32) % 18446744073709551616 < 18446744073709551616)
-    × (more ≡ number_from xs place 32 → IsValue xs start (place + 32) offset (value - 1 * 2 ^ trailing_zeros w64 value % 18446744073709551616 + (2 * more + 1) * 2 ^ (trailing_zeros w64 value - 32) % 18446744073709551616))
+    × (value - 1 * 2 ^ trailing_zeros w64 value % 18446744073709551616 + (2 * more + 1) * 2 ^
+    (trailing_zeros w64 value - 32) % 18446744073709551616 < 18446744073709551616)
+    × (more ≡ number_from xs place 32 → IsValue xs start (place + 32) offset
+    (value - 1 * 2 ^ trailing_zeros w64 value % 18446744073709551616 + (2 * more + 1) * 2 ^ (trailing_zeros w64 value - 32) % 18446744073709551616))
 refilled xs start place offset value more bits twelve v fits low few =
     let zeros = zeros_of xs start place offset value fits v in
     let many = many_zeros xs start place offset value v low in

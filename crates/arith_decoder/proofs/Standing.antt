@@ -1,5 +1,6 @@
 -- How a decoder follows the interval of its symbols.
-use Rattle.std.proofs.Common.{◌≡◌, ℕ, ◌+◌, ◌-◌, ◌*◌, ◌^◌, ◌<◌, ◌≤◌, Bool, true, false, List, [], ◌∷◌, ◌++◌, nat_lt, if◌then◌else◌, refl, ap, sym, ◌∙◌, arith, ltb-false}
+use Rattle.std.proofs.Common.{◌≡◌, ℕ, ◌+◌, ◌-◌, ◌*◌, ◌^◌, ◌<◌, ◌≤◌, Bool, true, false, List, [], ◌∷◌, ◌++◌, nat_lt, if◌then◌else◌, refl, ap, sym, ◌∙◌}
+use Rattle.std.proofs.Common.{arith, ltb-false}
 use Rattle.dst_spec.specs.Bits.{bits, number_from}
 use Rattle.dst_spec.specs.Interval.{scale, part, interval, code_number}
 use Rattle.dst_spec.proofs.Numbers.{number_from-add}
@@ -20,7 +21,8 @@ pub record IsNext (d : Decoding) (p : ℕ) (symbol : Bool) (doublings : ℕ) (af
   pub few : doublings ≤ 8
   pub bytes : after.bytes ≡ d.bytes
   pub first : after.first ≡ d.first
-  pub offset : after.offset ≡ (if symbol then d.offset else (d.offset - (d.range - scale d.range * p))) * 2 ^ doublings + number_from (bits d.bytes) (d.first + d.used) doublings
+  pub offset : after.offset ≡ (if symbol then d.offset else (d.offset - (d.range - scale d.range * p))) * 2 ^ doublings + number_from (bits d.bytes)
+      (d.first + d.used) doublings
   pub range : after.range ≡ (if symbol then (d.range - scale d.range * p) else (scale d.range * p)) * 2 ^ doublings
   pub used : after.used ≡ d.used + doublings
   pub least : 2048 ≤ after.range
@@ -42,7 +44,8 @@ StandsFor-next d p symbol k after n pairs s =
     let place : d.first + d.used ≡ d.first + (13 + i.doublings) = omega (arith, s.used) in
     let offset = n.offset in
     let next = number_from xs (d.first + (13 + i.doublings)) k in
-    let offset_is : after.offset ≡ (if symbol then d.offset else (d.offset - (d.range - scale d.range * p))) * 2 ^ k + next = offset ∙ ap (λ j. (if symbol then d.offset else (d.offset - (d.range - scale d.range * p))) * 2 ^ k + number_from xs j k) place in
+    let offset_is : after.offset ≡ (if symbol then d.offset else (d.offset - (d.range - scale d.range * p))) * 2 ^ k + next = offset
+    ∙ ap (λ j. (if symbol then d.offset else (d.offset - (d.range - scale d.range * p))) * 2 ^ k + number_from xs j k) place in
     record {
       range = rw whole (sym range);
       offset = rw (whole, part_doublings symbol, n.bytes, n.first, number) (part_offset symbol n.chosen next offset_is);
@@ -54,7 +57,8 @@ StandsFor-next d p symbol k after n pairs s =
     part_doublings true = refl
     part_doublings false = refl
 
-    part_range : (e : Bool) → after.range ≡ (if e then (d.range - scale d.range * p) else (scale d.range * p)) * 2 ^ k → (part e p (interval pairs)).range * 2 ^ k ≡ after.range
+    part_range : (e : Bool) → after.range ≡ (if e then (d.range - scale d.range * p) else (scale d.range * p)) * 2 ^ k →
+        (part e p (interval pairs)).range * 2 ^ k ≡ after.range
     part_range true h = rw (← s.range) (sym h)
     part_range false h = rw (← s.range) (sym h)
 
@@ -67,5 +71,6 @@ StandsFor-next d p symbol k after n pairs s =
     part_offset false c next h =
         let offset = s.offset in
         let le : d.range - scale d.range * p ≤ d.offset = ltb-false d.offset (d.range - scale d.range * p) (sym c) in
-        let parts : (interval pairs).low + (d.range - scale d.range * p) + (d.offset - (d.range - scale d.range * p)) ≡ code_number (bits d.bytes) d.first (interval pairs).doublings = omega arith in
+        let parts : (interval pairs).low + (d.range - scale d.range * p) + (d.offset - (d.range - scale d.range * p)) ≡ code_number (bits d.bytes) d.first
+        (interval pairs).doublings = omega arith in
         rw (← s.range, ← parts, h) (omega arith)

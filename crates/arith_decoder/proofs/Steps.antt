@@ -1,5 +1,6 @@
 -- One symbol by registers.
-use Rattle.std.proofs.Common.{◌≡◌, ℕ, ◌+◌, ◌-◌, ◌*◌, ◌/◌, ◌^◌, ◌<◌, ◌≤◌, Bool, true, false, nat_lt, if◌then◌else◌, refl, ap, sym, ◌∙◌, arith, ltb-true, ltb-false}
+use Rattle.std.proofs.Common.{◌≡◌, ℕ, ◌+◌, ◌-◌, ◌*◌, ◌/◌, ◌^◌, ◌<◌, ◌≤◌, Bool, true, false, nat_lt, if◌then◌else◌, refl, ap, sym, ◌∙◌, arith}
+use Rattle.std.proofs.Common.{ltb-true, ltb-false}
 use Rattle.std.proofs.lemmas.Nat.{pow-add, pow_pos, mul-le}
 use Rattle.dst_spec.specs.Interval.{scale}
 use Rattle.dst_spec.proofs.Intervals.{scale-least, scale-below}
@@ -66,7 +67,8 @@ before p value range part factor k r n =
     }
 
 -- a symbol 0 leaves less than its part of the range, also times the factor
-pub times_factor : (value high part f n : ℕ) → value < (high + part) * 2 ^ 52 → high * 2 ^ 52 ≤ value → n ≡ part * f → 1 ≤ f → (value - high * 2 ^ 52) * f < n * 2 ^ 52
+pub times_factor : (value high part f n : ℕ) → value < (high + part) * 2 ^ 52 → high * 2 ^ 52 ≤ value → n ≡ part * f → 1 ≤ f →
+    (value - high * 2 ^ 52) * f < n * 2 ^ 52
 times_factor value high part f n h k e some =
     let v = value - high * 4503599627370496 in
     let lt : v < part * 4503599627370496 = omega arith in
@@ -128,9 +130,11 @@ finished p value range part factor false r2 y2 n high chosen d =
       chosen = chosen ∙ ap (nat_lt (value / 2 ^ 52)) (sym high);
       doublings = f.shift + d.doublings;
       few = omega (arith, f.shifted.few, d.few);
-      value_is = d.value_is ∙ ap (λ x. (value - (range - part) * 2 ^ 52) * x * 2 ^ d.doublings) f.power ∙ both (value - (range - part) * 2 ^ 52) (2 ^ f.shift) (2 ^ d.doublings) (2 ^ (f.shift + d.doublings)) power
+      value_is = d.value_is ∙ ap (λ x. (value - (range - part) * 2 ^ 52) * x * 2 ^ d.doublings) f.power
+          ∙ both (value - (range - part) * 2 ^ 52) (2 ^ f.shift) (2 ^ d.doublings) (2 ^ (f.shift + d.doublings)) power
           ∙ ap (λ x. (value - x * 2 ^ 52) * 2 ^ (f.shift + d.doublings)) (sym high);
-      range_is = d.range_is ∙ ap (λ x. x * 2 ^ d.doublings) (ap (λ x. x * factor) n.part_is ∙ ap (λ x. scale range * p * x) f.power) ∙ both (scale range * p) (2 ^ f.shift) (2 ^ d.doublings) (2 ^ (f.shift + d.doublings)) power;
+      range_is = d.range_is ∙ ap (λ x. x * 2 ^ d.doublings) (ap (λ x. x * factor) n.part_is ∙ ap (λ x. scale range * p * x) f.power)
+          ∙ both (scale range * p) (2 ^ f.shift) (2 ^ d.doublings) (2 ^ (f.shift + d.doublings)) power;
       after = d.after;
       below = d.below;
     }
@@ -139,7 +143,8 @@ finished p value range part factor false r2 y2 n high chosen d =
     both v f k n e = rw e (omega arith)
 
 pub step_is : (p value range part factor : ℕ) → p ≤ 128 → IsRange range → value < range * 2 ^ 52 → IsCut p range part factor →
-    (symbol : Bool) → nat_lt (value / 2 ^ 52) (range - part) ≡ symbol → (y r : ℕ) → y ≡ value_behind symbol value (range - part) factor → r ≡ range_behind symbol (range - part) (part * factor) →
+    (symbol : Bool) → nat_lt (value / 2 ^ 52) (range - part) ≡ symbol → (y r : ℕ) → y ≡ value_behind symbol value (range - part) factor →
+    r ≡ range_behind symbol (range - part) (part * factor) →
     IsStep p value range symbol (due r y) (due r r)
 step_is p value range part factor k in_range below n symbol chosen y r y_is r_is =
     let b = before p value range part factor k in_range n in

@@ -1,5 +1,6 @@
 -- The scales of ranges, and the parts and factors of probabilities.
-use Rattle.std.proofs.Common.{◌≡◌, ℕ, ◌+◌, ◌-◌, ◌*◌, ◌/◌, ◌%◌, ◌^◌, ◌<◌, ◌≤◌, bit_or, if◌then◌else◌, refl, ap, ap₂, sym, ◌∙◌, arith, Bool, true, false, List, map, take, drop, length, nat_lt, nat_eq, get_or, ltb-true, ltb-false, lt-ltb, le-ltb}
+use Rattle.std.proofs.Common.{◌≡◌, ℕ, ◌+◌, ◌-◌, ◌*◌, ◌/◌, ◌%◌, ◌^◌, ◌<◌, ◌≤◌, bit_or, if◌then◌else◌, refl, ap, ap₂, sym, ◌∙◌, arith, Bool, true}
+use Rattle.std.proofs.Common.{false, List, map, take, drop, length, nat_lt, nat_eq, get_or, ltb-true, ltb-false, lt-ltb, le-ltb}
 use Rattle.std.proofs.lemmas.Bool.{ne_eqb}
 use Rattle.std.proofs.Math.Seq.{take-length}
 use Rattle.std.proofs.lemmas.List.{length-drop, get_or-drop}
@@ -56,7 +57,8 @@ factor_of p h k = record { shift = shift_of p; power = refl; shifted = is_shift 
 pub bounds_of : (range : ℕ) → IsRange (due range range) → (1024 ≤ range) × (range ≤ 4095)
 bounds_of range r = go (nat_lt range 2048) refl r.least r.most
   where
-    go : (e : Bool) → nat_lt range 2048 ≡ e → 2048 ≤ (if e then (2 * range) else range) → (if e then (2 * range) else range) ≤ 4095 → (1024 ≤ range) × (range ≤ 4095)
+    go : (e : Bool) → nat_lt range 2048 ≡ e → 2048 ≤ (if e then (2 * range) else range) → (if e then (2 * range) else range) ≤ 4095 →
+        (1024 ≤ range) × (range ≤ 4095)
     go true is least most = (omega arith, omega arith)
     go false is least most = (omega arith, most)
 
@@ -79,7 +81,8 @@ pub is_row : (p : ℕ) (flat : List ℕ) → 1 ≤ p → p ≤ 128 → flat ≡ 
 is_row p flat least most is =
     let many : length flat ≡ 8192 = ap length is in
     let short = length-drop (p % 128) flat in
-    let whole : take (length flat - p % 128) (drop (p % 128) flat) ≡ drop (p % 128) flat = ap (λ n. take n (drop (p % 128) flat)) (sym short) ∙ take-length (drop (p % 128) flat) in
+    let whole : take (length flat - p % 128) (drop (p % 128) flat) ≡ drop (p % 128) flat = ap (λ n. take n (drop (p % 128) flat)) (sym short)
+    ∙ take-length (drop (p % 128) flat) in
     rw whole (record {
       long = omega arith;
       factor = rw (at 0 (omega arith)) (factor_of p least most);

@@ -8,7 +8,8 @@ use Rattle.arith_encoder.proofs.Joining.{joined}
 abbrev pub turned : Bool → ℕ → ℕ → ℕ
 turned carry block run = (block + 1) * 2 ^ (32 * run) - (if carry then 0 else 1)
 
-pub turned-more : (carry : Bool) (block run behind : ℕ) → behind ≡ (if carry then 0 else 4294967295) → turned carry block run * 2 ^ 32 + behind ≡ turned carry block (run + 1)
+pub turned-more : (carry : Bool) (block run behind : ℕ) → behind ≡ (if carry then 0 else 4294967295) →
+    turned carry block run * 2 ^ 32 + behind ≡ turned carry block (run + 1)
 turned-more carry block run behind is =
     let more : 32 * (run + 1) ≡ 32 * run + 32 = omega arith in
     let power : 2 ^ (32 * (run + 1)) ≡ 2 ^ (32 * run) * 4294967296 = ap (λ k. 2 ^ k) more ∙ pow-add 2 (32 * run) 32 in
@@ -25,7 +26,8 @@ turned-more carry block run behind is =
 
 -- one block more
 pub run_more : (old now : List ℕ) (carry : Bool) (block width run behind : ℕ) → behind ≡ (if carry then 0 else 4294967295) →
-    now ≡ old ++ low_bits (width + 32 * run) (turned carry block run) → now ++ low_bits 32 behind ≡ old ++ low_bits (width + 32 * (run + 1)) (turned carry block (run + 1))
+    now ≡ old ++ low_bits (width + 32 * run) (turned carry block run) →
+    now ++ low_bits 32 behind ≡ old ++ low_bits (width + 32 * (run + 1)) (turned carry block (run + 1))
 run_more old now carry block width run behind is e =
     let fits : behind < 2 ^ 32 = below carry is in
     let long : width + 32 * run + 32 ≡ width + 32 * (run + 1) = omega arith in

@@ -2,7 +2,8 @@
 use Rattle.std.proofs.Common.{◌≡◌, ℕ, ◌+◌, ◌-◌, ◌*◌, ◌^◌, ◌<◌, ◌≤◌, List, ◌++◌, length, take, drop, ap, ap₂, sym, ◌∙◌, arith, length-append, mod-eq_of_lt}
 use Rattle.std.proofs.lemmas.List.{take-append-drop, length-drop}
 use Rattle.dst_spec.specs.Bits.{low_bits, number_from, AreBits}
-use Rattle.dst_spec.proofs.Numbers.{length-low_bits, number_from-add, number_from-append_left, number_from-append_right, number_from-low_bits, number_from-drop, low_bits-number_from}
+use Rattle.dst_spec.proofs.Numbers.{length-low_bits, number_from-add, number_from-append_left, number_from-append_right, number_from-low_bits}
+use Rattle.dst_spec.proofs.Numbers.{number_from-drop, low_bits-number_from}
 use Rattle.arith_encoder.specs.Leaving.{written}
 use Rattle.dst_spec.proofs.LowBits.{low_bits-join}
 
@@ -24,7 +25,8 @@ written-append xs first n x h k =
     ∙ ap (λ b. written xs first * 2 ^ n + b) behind
 
 -- what has left is its number's bits
-pub written-bits : (xs : List ℕ) (first : ℕ) → first ≤ length xs → AreBits (drop first xs) → xs ≡ take first xs ++ low_bits (length xs - first) (written xs first)
+pub written-bits : (xs : List ℕ) (first : ℕ) → first ≤ length xs → AreBits (drop first xs) →
+    xs ≡ take first xs ++ low_bits (length xs - first) (written xs first)
 written-bits xs first h bits =
     let rest = drop first xs in
     let long : length rest ≡ length xs - first = length-drop first xs in

@@ -1,5 +1,6 @@
 -- What leaves into a writer, and what is held back.
-use Rattle.std.proofs.Common.{◌≡◌, ℕ, ◌+◌, ◌-◌, ◌*◌, ◌%◌, ◌^◌, ◌<◌, ◌≤◌, Bool, true, false, if◌then◌else◌, List, ◌++◌, length, take, drop, ◌⊎◌, inl, inr, refl, ap, ◌∙◌, arith, length-append}
+use Rattle.std.proofs.Common.{◌≡◌, ℕ, ◌+◌, ◌-◌, ◌*◌, ◌%◌, ◌^◌, ◌<◌, ◌≤◌, Bool, true, false, if◌then◌else◌, List, ◌++◌, length, take, drop, ◌⊎◌, inl}
+use Rattle.std.proofs.Common.{inr, refl, ap, ◌∙◌, arith, length-append}
 use Rattle.std.proofs.lemmas.Nat.{pow-add, pow_pos, mul-le}
 use lib.Dec.{leb}
 use Rattle.std.proofs.lemmas.Bool.{leb-true, leb-false}
@@ -31,13 +32,15 @@ held-more w width block run =
 
 -- all that was held written, and a block held
 pub held-turned : (w width block run next : ℕ) (carry : Bool) →
-    with_held (w * 2 ^ (width + 32 * run) + turned carry block run) 32 next 0 ≡ with_held w width block run * 4294967296 + ((if carry then 4294967296 else 0) + next)
+    with_held (w * 2 ^ (width + 32 * run) + turned carry block run) 32 next 0 ≡ with_held w width block run * 4294967296 +
+    ((if carry then 4294967296 else 0) + next)
 held-turned w width block run next carry =
     let power = pow-add 2 width (32 * run) in
     rw power (go w (2 ^ width) block (2 ^ (32 * run)) carry (pow_pos (32 * run)))
   where
     go : (w p block n : ℕ) (c : Bool) → 0 < n →
-        ((w * (p * n) + ((block + 1) * n - (if c then 0 else 1))) * 4294967296 + next + 1) * 1 - 1 ≡ ((w * p + block + 1) * n - 1) * 4294967296 + ((if c then 4294967296 else 0) + next)
+        ((w * (p * n) + ((block + 1) * n - (if c then 0 else 1))) * 4294967296 + next + 1) * 1 - 1 ≡ ((w * p + block + 1) * n - 1) * 4294967296 +
+        ((if c then 4294967296 else 0) + next)
     go w p block n true h =
         let some = mul-le 1 n (block + 1) n (omega arith) (omega arith) in
         omega arith
@@ -51,7 +54,8 @@ pub record IsLetGo (old now : List ℕ) (room_now first k next : ℕ) : Type 0 w
   pub before : take first now ≡ take first old
   pub held : IsHeld now room_now first next 32 0
 
-pub let_go_is : (old now : List ℕ) (room room_now first block width run next x : ℕ) → IsHeld old room first block width run → now ≡ old ++ low_bits (width + 32 * run) x →
+pub let_go_is : (old now : List ℕ) (room room_now first block width run next x : ℕ) → IsHeld old room first block width run →
+    now ≡ old ++ low_bits (width + 32 * run) x →
     room_now + (width + 32 * run) ≡ room → width + 32 * run + 32 ≤ room → next + 1 < 4294967296 → IsLetGo old now room_now first (width + 32 * run) next
 let_go_is old now room room_now first block width run next x h is left enough free =
     let k = width + 32 * run in
@@ -73,7 +77,8 @@ let_go_is old now room room_now first block width run next x h is left enough fr
     }
 
 -- the number behind a carry or none
-pub number_let_go : (old now : List ℕ) (room first block width run next : ℕ) (carry : Bool) → IsHeld old room first block width run → now ≡ old ++ low_bits (width + 32 * run) (turned carry block run) →
+pub number_let_go : (old now : List ℕ) (room first block width run next : ℕ) (carry : Bool) → IsHeld old room first block width run →
+    now ≡ old ++ low_bits (width + 32 * run) (turned carry block run) →
     with_held (written now first) 32 next 0 ≡ with_held (written old first) width block run * 4294967296 + ((if carry then 4294967296 else 0) + next)
 number_let_go old now room first block width run next carry h is =
     let k = width + 32 * run in

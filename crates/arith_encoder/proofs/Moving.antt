@@ -76,7 +76,8 @@ pub record IsTaken (h : Leaving) (low count range left p : ℕ) (symbol : Bool) 
   pub reached : narrowed (reached_of h low count range) (symbol, p) ≡ reached_of h ((low + start) * 2 ^ d) (count + d) range_after
   pub needs : 13 + (narrowed (reached_of h low count range) (symbol, p)).doublings ≡ h.count + 12 + (count + d)
 
-pub taken : (h : Leaving) (low count range left p : ℕ) (symbol : Bool) (start range_after d : ℕ) → 1 ≤ p → p ≤ 128 → AreRegisters h low count range left → count < 32 →
+pub taken : (h : Leaving) (low count range left p : ℕ) (symbol : Bool) (start range_after d : ℕ) → 1 ≤ p → p ≤ 128 → AreRegisters h low count range left →
+    count < 32 →
     IsNarrowed range p symbol start range_after d → IsTaken h low count range left p symbol start range_after d
 taken h low count range left p symbol start range_after d one eight_bits r few n =
     let q = 2 ^ d in
@@ -91,12 +92,14 @@ taken h low count range left p symbol start range_after d one eight_bits r few n
     let small = pow_mono {i = count + d} {j = 39} (omega arith) in
     let at_least : low + start ≤ (low + start) * q = grown (low + start) q some in
     let is = n.narrowed_is (reached_of h low count range) refl in
-    let low_is : (h.number * 2 ^ (12 + count) + low + start) * q ≡ h.number * 2 ^ (12 + (count + d)) + (low + start) * q = rw higher (spread h.number (2 ^ (12 + count)) low start q) in
+    let low_is : (h.number * 2 ^ (12 + count) + low + start) * q ≡ h.number * 2 ^ (12 + (count + d)) + (low + start) * q =
+    rw higher (spread h.number (2 ^ (12 + count)) low start q) in
     let count_is : h.count + count - 1 + d ≡ h.count + (count + d) - 1 = omega arith in
     let reached : narrowed (reached_of h low count range) (symbol, p) ≡ reached_of h ((low + start) * q) (count + d) range_after =
     is ∙ ap₂ (λ a b. made a range_after b) low_is count_is in
     let reserved = r.reserved in
-    let normal = IsNormal-narrowed (reached_of h low count range) symbol p one eight_bits (record { least = r.in_range.least; most = r.in_range.most; end = r.end }) in
+    let normal = IsNormal-narrowed (reached_of h low count range) symbol p one eight_bits
+    (record { least = r.in_range.least; most = r.in_range.most; end = r.end }) in
     let after : IsNormal (reached_of h ((low + start) * q) (count + d) range_after) = rw (← reached) normal in
     record {
       sum_fits = omega arith;

@@ -35,7 +35,11 @@ abbrev pub shifts : Bool → ℕ → ℕ
 shifts symbol shift = if symbol then 0 else shift
 
 pub record IsNarrowed (range p : ℕ) (symbol : Bool) (start range_after doublings : ℕ) : Type 0 where
-  pub narrowed_is : (i : Interval) → i.range ≡ range → narrowed i (symbol, p) ≡ record { low = (i.low + start) * 2 ^ doublings; range = range_after; doublings = i.doublings + doublings }
+  pub narrowed_is : (i : Interval) → i.range ≡ range → narrowed i (symbol, p) ≡ record {
+    low = (i.low + start) * 2 ^ doublings;
+    range = range_after;
+    doublings = i.doublings + doublings;
+  }
   pub in_range : IsRange range_after
   pub few : doublings ≤ 8
   pub within : start * 2 ^ doublings + range_after ≤ range * 2 ^ doublings
@@ -98,7 +102,8 @@ narrow_is range p symbol e s m start shift r h k n is m_is start_is shift_is =
     let span : m * 2 ^ more ≡ spans symbol (range - scale range * p) (scale range * p) * 2 ^ (shift + more) =
     ap (λ x. x * 2 ^ more) m_is ∙ spanned symbol (range - s * p) (s * e.scaled) (s * p) e.shift shift more larger shift_is
     ∙ ap (λ x. spans symbol (range - x * p) (x * p) * 2 ^ (shift + more)) is in
-    rw (once.1) (from_part range p symbol start (m * 2 ^ more) (shift + more) few d.least d.most (start_is ∙ ap (λ x. starts symbol (range - x * p)) is) span (rw (← is) (omega arith)))
+    rw (once.1) (from_part range p symbol start (m * 2 ^ more) (shift + more) few d.least d.most (start_is
+    ∙ ap (λ x. starts symbol (range - x * p)) is) span (rw (← is) (omega arith)))
   where
     sizes : (b : Bool) (a z : ℕ) → 1024 ≤ a → a < 4096 → 1024 ≤ z → z < 4096 → 1024 ≤ spans b a z × spans b a z < 4096
     sizes true a z h k m n = (h, k)

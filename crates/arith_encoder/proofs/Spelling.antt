@@ -1,5 +1,6 @@
 -- A code let go whole.
-use Rattle.std.proofs.Common.{◌≡◌, ℕ, suc, ◌+◌, ◌-◌, ◌*◌, ◌/◌, ◌%◌, ◌^◌, ◌<◌, Bool, true, false, if◌then◌else◌, nat_eq, List, ◌∷◌, ◌++◌, length, take, refl, ap, ap₂, sym, ◌∙◌, arith, append_assoc}
+use Rattle.std.proofs.Common.{◌≡◌, ℕ, suc, ◌+◌, ◌-◌, ◌*◌, ◌/◌, ◌%◌, ◌^◌, ◌<◌, Bool, true, false, if◌then◌else◌, nat_eq, List, ◌∷◌, ◌++◌, length, take}
+use Rattle.std.proofs.Common.{refl, ap, ap₂, sym, ◌∙◌, arith, append_assoc}
 use Rattle.std.proofs.lemmas.Bool.{eqb-true, eqb-false}
 use Rattle.std.proofs.lemmas.Nat.{pow-add, pow_pos, mul-le, shr_split, mod_below, mod-pow-add, div_below}
 use Rattle.dst_spec.specs.Bits.{low_bits}
@@ -27,7 +28,8 @@ carry_is x n h = go (nat_eq (x / 2 ^ n) 1) refl
         sym (rw none at parts)
 
 -- a number behind which a block is turned over or not
-turned-held : (w width block run : ℕ) (carry : Bool) → w * 2 ^ (width + 32 * run) + turned carry block run ≡ with_held w width block run + (if carry then 1 else 0)
+turned-held : (w width block run : ℕ) (carry : Bool) → w * 2 ^ (width + 32 * run) + turned carry block run ≡ with_held w width block run +
+    (if carry then 1 else 0)
 turned-held w width block run carry =
     let power = pow-add 2 width (32 * run) in
     rw power (go w (2 ^ width) (2 ^ (32 * run)) carry (pow_pos (32 * run)))
@@ -61,7 +63,8 @@ all_let_go xs room first block width run m x h below =
     let two : xs ++ low_bits k y ++ low_bits m high ≡ front ++ low_bits (c + k + m) ((w * 2 ^ k + y) * 2 ^ m + high) =
     ap (λ ys. ys ++ low_bits m high) one ∙ append_assoc front (low_bits (c + k) (w * 2 ^ k + y)) (low_bits m high)
     ∙ ap (λ ys. front ++ ys) (joined (c + k) m (w * 2 ^ k + y) high high_fits) in
-    let three : xs ++ low_bits k y ++ low_bits m high ++ low_bits 12 low ≡ front ++ low_bits (c + k + m + 12) (((w * 2 ^ k + y) * 2 ^ m + high) * 2 ^ 12 + low) =
+    let three : xs ++ low_bits k y ++ low_bits m high ++ low_bits 12 low ≡ front ++ low_bits (c + k + m + 12)
+    (((w * 2 ^ k + y) * 2 ^ m + high) * 2 ^ 12 + low) =
     ap (λ ys. ys ++ low_bits 12 low) two ∙ append_assoc front (low_bits (c + k + m) ((w * 2 ^ k + y) * 2 ^ m + high)) (low_bits 12 low)
     ∙ ap (λ ys. front ++ ys) (joined (c + k + m) 12 ((w * 2 ^ k + y) * 2 ^ m + high) low low_fits) in
     let long : c + k + m + 12 ≡ c + k + (12 + m) = omega arith in
@@ -78,8 +81,10 @@ all_let_go xs room first block width run m x h below =
         let power : 2 ^ (12 + m) ≡ 2 ^ m * 4096 = ap (λ n. 2 ^ n) order ∙ pow-add 2 m 12 in
         let rest : x % 2 ^ (12 + m) ≡ x / 4096 % 2 ^ m * 4096 + x % 4096 = ap (λ n. x % 2 ^ n) order ∙ mod-pow-add x m 12 in
         let top = carry_is x (12 + m) below in
-        let top_is : x ≡ (if carry then 1 else 0) * 2 ^ (12 + m) + x % 2 ^ (12 + m) = top ∙ ap (λ b. (if b then 1 else 0) * 2 ^ (12 + m) + x % 2 ^ (12 + m)) is in
-        joined_number (with_held w width block run) (if carry then 1 else 0) (2 ^ m) (x / 4096 % 2 ^ m) (x % 4096) (w * 2 ^ (width + 32 * run) + turned carry block run) (2 ^ (12 + m)) x (x % 2 ^ (12 + m))
+        let top_is : x ≡ (if carry then 1 else 0) * 2 ^ (12 + m) + x % 2 ^ (12 + m) = top
+        ∙ ap (λ b. (if b then 1 else 0) * 2 ^ (12 + m) + x % 2 ^ (12 + m)) is in
+        joined_number (with_held w width block run) (if carry then 1 else 0) (2 ^ m) (x / 4096 % 2 ^ m) (x % 4096)
+        (w * 2 ^ (width + 32 * run) + turned carry block run) (2 ^ (12 + m)) x (x % 2 ^ (12 + m))
         (turned-held w width block run carry) power rest top_is
 
 -- a code of so many bits begins with 0

@@ -5,9 +5,9 @@ ghost use Rattle.dst_spec.specs.Spell.{code_spelling};
 ghost use Rattle.bit_io.specs.Writing.{to_byte_end};
 ghost use Rattle.arith_encoder.specs.Encoding.{StandsFor};
 
-use crate::scaling::scalings;
 use crate::held::Held;
 use crate::narrow::narrow;
+use crate::scaling::scalings;
 use bit_io::BitWriter;
 use dst_num::Prob;
 use std::marker::Model;

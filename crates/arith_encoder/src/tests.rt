@@ -169,7 +169,10 @@ fn a_long_code_is_that_of_whole_numbers(rt: HostRuntime) -> Result<(), Fail> {
     let bytes = writer.bytes();
     // by another program, which keeps the low end as one whole number
     assert_eq!(rt; bytes.len(), 9_060);
-    assert_eq!(rt; &bytes[..8], [0x09, 0xb2, 0xfc, 0x8b, 0x3f, 0xfd, 0x10, 0xe9].as_slice());
+    assert_eq!(rt;
+        &bytes[..8],
+        [0x09, 0xb2, 0xfc, 0x8b, 0x3f, 0xfd, 0x10, 0xe9].as_slice()
+    );
     assert_eq!(rt; hash(bytes), 0x75ce_7ca4_2cf8_ccf8);
     Ok(())
 }

@@ -1,5 +1,6 @@
 -- Whole bytes and the bits behind them, as bits are put.
-use Rattle.std.proofs.Common.{◌≡◌, ℕ, ◌+◌, ◌-◌, ◌*◌, ◌/◌, ◌%◌, ◌^◌, ◌<◌, ◌≤◌, List, [], ◌∷◌, ◌++◌, length, replicate, ap, sym, ◌∙◌, arith, length-append, append_assoc, append-nil}
+use Rattle.std.proofs.Common.{◌≡◌, ℕ, ◌+◌, ◌-◌, ◌*◌, ◌/◌, ◌%◌, ◌^◌, ◌<◌, ◌≤◌, List, [], ◌∷◌, ◌++◌, length, replicate, ap, sym, ◌∙◌, arith}
+use Rattle.std.proofs.Common.{length-append, append_assoc, append-nil}
 use Rattle.std.proofs.lemmas.List.{length-replicate}
 use Rattle.dst_spec.specs.Bits.{low_bits, bits}
 use Rattle.dst_spec.proofs.Numbers.{length-low_bits, length-bits, bits-append}
@@ -31,7 +32,8 @@ pub bits_put : (old new : List ℕ) (count pending n value window rest : ℕ) �
     bits new ++ low_bits rest window ≡ bits old ++ low_bits (count + n) window →
     bits new ++ low_bits rest (window % 2 ^ rest) ≡ bits old ++ low_bits count pending ++ low_bits n value
 bits_put old new count pending n value window rest fits is e =
-    let joined : low_bits (count + n) window ≡ low_bits count pending ++ low_bits n value = ap (low_bits (count + n)) is ∙ low_bits-join count n pending value fits in
+    let joined : low_bits (count + n) window ≡ low_bits count pending ++ low_bits n value = ap (low_bits (count + n)) is
+    ∙ low_bits-join count n pending value fits in
     rw (low_bits-mod rest window) (e ∙ ap (λ xs. bits old ++ xs) joined ∙ sym (append_assoc (bits old) (low_bits count pending) (low_bits n value)))
 
 -- where the bits are whole bytes, none is pending

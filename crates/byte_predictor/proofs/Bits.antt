@@ -1,5 +1,6 @@
 -- Bits with the least significant first, and samples in bytes.
-use Rattle.std.proofs.Common.{◌≡◌, Bool, true, false, ℕ, zero, suc, ◌+◌, ◌*◌, ◌/◌, ◌%◌, ◌^◌, ◌<◌, List, [], ◌∷◌, ◌++◌, length, get_or, take, replicate, refl, ap, sym, subst, ◌∙◌, arith, add-one, append_assoc, length-append}
+use Rattle.std.proofs.Common.{◌≡◌, Bool, true, false, ℕ, zero, suc, ◌+◌, ◌*◌, ◌/◌, ◌%◌, ◌^◌, ◌<◌, List, [], ◌∷◌, ◌++◌, length, get_or, take}
+use Rattle.std.proofs.Common.{replicate, refl, ap, sym, subst, ◌∙◌, arith, add-one, append_assoc, length-append}
 use Rattle.std.proofs.lemmas.List.{append-nil, take_at, get_or_append_left, get_or-append-add}
 use Rattle.std.proofs.lemmas.Nat.{field_of, shr-shr, mod-pow-add}
 use Rattle.std.specs.Int.{from_bool}
@@ -46,7 +47,8 @@ rising_bits-at (suc n) x (suc k) h =
 -- A byte takes a sample at its lower end, and lets its oldest one go.
 pub carry-through : (carry byte : ℕ) → carry < 2 → byte < 256 → carry ∷ rising_bits 8 byte ≡ rising_bits 8 (byte % 128 * 2 + carry) ++ (byte / 128) ∷ []
 carry-through carry byte h k =
-    let step : rising_bits 8 (byte % 128 * 2 + carry) ≡ (byte % 128 * 2 + carry) % 2 ∷ rising_bits 7 ((byte % 128 * 2 + carry) / 2) = rising_bits-step 7 (byte % 128 * 2 + carry) in
+    let step : rising_bits 8 (byte % 128 * 2 + carry) ≡ (byte % 128 * 2 + carry) % 2 ∷ rising_bits 7 ((byte % 128 * 2 + carry) / 2) =
+    rising_bits-step 7 (byte % 128 * 2 + carry) in
     let last : rising_bits 8 byte ≡ rising_bits 7 (byte % 128) ++ (byte / 128 % 2) ∷ [] = rising_bits-last 7 byte in
     let low : (byte % 128 * 2 + carry) % 2 ≡ carry = omega arith in
     let rest : (byte % 128 * 2 + carry) / 2 ≡ byte % 128 = omega arith in
@@ -68,7 +70,8 @@ length-samples_of [] = refl
 length-samples_of (x ∷ xs) = omega (arith, length-append (rising_bits 8 x) (samples_of xs), length-rising_bits 8 x, length-samples_of xs)
 
 -- one more byte through which a sample is carried
-pub shifted_more : (first carry byte moved out : ℕ) (old new : List ℕ) → first ∷ samples_of old ≡ samples_of new ++ carry ∷ [] → carry ∷ rising_bits 8 byte ≡ rising_bits 8 moved ++ out ∷ [] → first ∷ samples_of (old ++ byte ∷ []) ≡ samples_of (new ++ moved ∷ []) ++ out ∷ []
+pub shifted_more : (first carry byte moved out : ℕ) (old new : List ℕ) → first ∷ samples_of old ≡ samples_of new ++ carry ∷ [] →
+    carry ∷ rising_bits 8 byte ≡ rising_bits 8 moved ++ out ∷ [] → first ∷ samples_of (old ++ byte ∷ []) ≡ samples_of (new ++ moved ∷ []) ++ out ∷ []
 shifted_more first carry byte moved out old new before here =
     rw (samples_of-push old byte, samples_of-push new moved)
     (ap (λ t. t ++ rising_bits 8 byte) before
@@ -77,7 +80,8 @@ shifted_more first carry byte moved out old new before here =
     ∙ sym (append_assoc (samples_of new) (rising_bits 8 moved) (out ∷ [])))
 
 -- what is left of sixteen bytes of samples after one more
-pub pushed : (first out : ℕ) (old new : List ℕ) → length new ≡ 16 → first ∷ samples_of old ≡ samples_of new ++ out ∷ [] → samples_of new ≡ first ∷ take 127 (samples_of old)
+pub pushed : (first out : ℕ) (old new : List ℕ) → length new ≡ 16 → first ∷ samples_of old ≡ samples_of new ++ out ∷ [] →
+    samples_of new ≡ first ∷ take 127 (samples_of old)
 pushed first out old new long e =
     let whole : length (samples_of new) ≡ 128 = omega (arith, length-samples_of new) in
     sym (take_at (samples_of new) (out ∷ []) 128 whole) ∙ ap (take 128) (sym e)

@@ -1,5 +1,6 @@
 -- Rows of sums, and the lanes of the sums ahead.
-use Rattle.std.proofs.Common.{◌≡◌, ℕ, zero, suc, ◌+◌, ◌-◌, ◌*◌, ◌/◌, ◌%◌, ◌^◌, ◌<◌, ◌≤◌, ◌⊎◌, inl, inr, ℤ, pos, ◌+ℤ◌, neg_ℤ, List, [], ◌∷◌, ◌++◌, length, get_or, take, drop, set, replicate, refl, ap, subst, sym, ◌∙◌, arith, add-one}
+use Rattle.std.proofs.Common.{◌≡◌, ℕ, zero, suc, ◌+◌, ◌-◌, ◌*◌, ◌/◌, ◌%◌, ◌^◌, ◌<◌, ◌≤◌, ◌⊎◌, inl, inr, ℤ, pos, ◌+ℤ◌, neg_ℤ, List, [], ◌∷◌, ◌++◌}
+use Rattle.std.proofs.Common.{length, get_or, take, drop, set, replicate, refl, ap, subst, sym, ◌∙◌, arith, add-one}
 use Rattle.std.proofs.lemmas.Int.{ints}
 use Rattle.std.proofs.lemmas.List.{get_or-drop, get_or_past, length-drop, take_at, drop_at, take-take}
 use Rattle.std.proofs.lemmas.Bool.{cases_lt}
@@ -10,7 +11,8 @@ use Rattle.byte_predictor.specs.Upward.{above_zero, upward_sum, size_sum, far}
 use Rattle.byte_predictor.specs.RowSums.{HasRows}
 use Rattle.byte_predictor.proofs.Bits.{length-rising_bits, carry-through}
 use Rattle.byte_predictor.proofs.Sums.{each-drop, coef-range}
-use Rattle.byte_predictor.proofs.Upward.{upward_sum-none, upward_sum-raised, upward_sum-zeros, upward_sum-below, upward_sum-within, upward_sum-same, upward_sum-empty, upward_sum-split, upward_sum-taken}
+use Rattle.byte_predictor.proofs.Upward.{upward_sum-none, upward_sum-raised, upward_sum-zeros, upward_sum-below, upward_sum-within, upward_sum-same}
+use Rattle.byte_predictor.proofs.Upward.{upward_sum-empty, upward_sum-split, upward_sum-taken}
 
 pub far-front : (coefs : List ℤ) (j : ℕ) → j < 8 → get_or (far coefs) j (pos 0) ≡ pos 0
 unfolding far
@@ -39,7 +41,9 @@ far-behind coefs j h =
     ∙ ap (λ m. get_or coefs m (pos 0)) place
 
 -- an array that has the later coefficients at their places
-pub is-far : (coefs table : List ℤ) → length coefs ≤ 128 → length table ≡ 136 → ((k : ℕ) → k < 8 → get_or table k (pos 0) ≡ pos 0) → ((k : ℕ) → 8 ≤ k → k < 128 → get_or table k (pos 0) ≡ get_or coefs k (pos 0)) → ((k : ℕ) → 128 ≤ k → get_or table k (pos 0) ≡ pos 0) → (k : ℕ) → get_or table k (pos 0) ≡ get_or (far coefs) k (pos 0)
+pub is-far : (coefs table : List ℤ) → length coefs ≤ 128 → length table ≡ 136 → ((k : ℕ) → k < 8 → get_or table k (pos 0) ≡ pos 0) →
+    ((k : ℕ) → 8 ≤ k → k < 128 → get_or table k (pos 0) ≡ get_or coefs k (pos 0)) → ((k : ℕ) → 128 ≤ k → get_or table k (pos 0) ≡ pos 0) → (k : ℕ) →
+    get_or table k (pos 0) ≡ get_or (far coefs) k (pos 0)
 is-far coefs table short long front between behind k = first (cases_lt k 8)
   where
     last : (8 ≤ k) → (k < 128) ⊎ (128 ≤ k) → get_or table k (pos 0) ≡ get_or (far coefs) k (pos 0)
@@ -63,41 +67,54 @@ far-short : (coefs : List ℤ) → length coefs ≤ 128 → length (far coefs) �
 unfolding far
 far-short coefs h = omega (arith, length-drop 8 coefs)
 
-lane-below : (coefs : List ℤ) (lane : ℕ) (samples : List ℕ) → AllByRecursion (InRange filter_kind) coefs → length coefs ≤ 128 → upward_sum (drop lane (far coefs)) samples ≤ 256 * (128 - lane)
+lane-below : (coefs : List ℤ) (lane : ℕ) (samples : List ℕ) → AllByRecursion (InRange filter_kind) coefs → length coefs ≤ 128 →
+    upward_sum (drop lane (far coefs)) samples ≤ 256 * (128 - lane)
 lane-below coefs lane samples each short =
     let bound = upward_sum-below (drop lane (far coefs)) samples (each-drop lane (far coefs) (far-all coefs each)) in
     omega (arith, bound, length-drop lane (far coefs), far-short coefs short)
 
 -- a table of numbers that is right below a place is right at one place more
-pub row-more : (table : List ℕ) (n : ℕ) (y : ℕ) (F : ℕ → ℕ) → n < length table → ((b : ℕ) → b < n → get_or table b 0 ≡ F b) → y ≡ F n → (b : ℕ) → b < suc n → get_or (set table n y) b 0 ≡ F b
+pub row-more : (table : List ℕ) (n : ℕ) (y : ℕ) (F : ℕ → ℕ) → n < length table → ((b : ℕ) → b < n → get_or table b 0 ≡ F b) → y ≡ F n → (b : ℕ) →
+    b < suc n → get_or (set table n y) b 0 ≡ F b
 row-more [] n y F h below here b lt = absurd (omega arith)
 row-more (x ∷ table) zero y F h below here zero lt = here
 row-more (x ∷ table) zero y F h below here (suc b) lt = absurd (omega arith)
 row-more (x ∷ table) (suc n) y F h below here zero lt = below 0 (omega arith)
-row-more (x ∷ table) (suc n) y F h below here (suc b) lt = row-more table n y (λ k. F (suc k)) (omega arith) (λ k j. below (suc k) (omega arith)) here b (omega arith)
+row-more (x ∷ table) (suc n) y F h below here (suc b) lt =
+    row-more table n y (λ k. F (suc k)) (omega arith) (λ k j. below (suc k) (omega arith)) here b (omega arith)
 
-pub rows-more : (rows : List (List ℕ)) (n : ℕ) (row : List ℕ) (F : ℕ → ℕ → ℕ) → n < length rows → ((b lane : ℕ) → b < n → lane < 128 → get_or (get_or rows b []) lane 0 ≡ F b lane) → ((lane : ℕ) → lane < 128 → get_or row lane 0 ≡ F n lane) → (b lane : ℕ) → b < suc n → lane < 128 → get_or (get_or (set rows n row) b []) lane 0 ≡ F b lane
+pub rows-more : (rows : List (List ℕ)) (n : ℕ) (row : List ℕ) (F : ℕ → ℕ → ℕ) → n < length rows →
+    ((b lane : ℕ) → b < n → lane < 128 → get_or (get_or rows b []) lane 0 ≡ F b lane) → ((lane : ℕ) → lane < 128 → get_or row lane 0 ≡ F n lane) →
+    (b lane : ℕ) → b < suc n → lane < 128 → get_or (get_or (set rows n row) b []) lane 0 ≡ F b lane
 rows-more [] n row F h below here b lane lt l = absurd (omega arith)
 rows-more (x ∷ rows) zero row F h below here zero lane lt l = here lane l
 rows-more (x ∷ rows) zero row F h below here (suc b) lane lt l = absurd (omega arith)
 rows-more (x ∷ rows) (suc n) row F h below here zero lane lt l = below 0 lane (omega arith) l
-rows-more (x ∷ rows) (suc n) row F h below here (suc b) lane lt l = rows-more rows n row (λ k. F (suc k)) (omega arith) (λ k m i. below (suc k) m (omega arith)) here b lane (omega arith) l
+rows-more (x ∷ rows) (suc n) row F h below here (suc b) lane lt l =
+    rows-more rows n row (λ k. F (suc k)) (omega arith) (λ k m i. below (suc k) m (omega arith)) here b lane (omega arith) l
 
 -- the sum of a lane where one sample more of a byte is 1, which is a number of sixteen bits
-pub raised-lane : (coefs : List ℤ) (lane i half byte low : ℕ) → ((j : ℕ) → InRange filter_kind (get_or coefs j (pos 0))) → i < 8 → half ≡ 2 ^ i → byte < half → low ≡ upward_sum (drop lane coefs) (rising_bits 8 byte) → (pos low +ℤ get_or coefs (lane + i) (pos 0) ≡ pos (upward_sum (drop lane coefs) (rising_bits 8 (half + byte)))) × (upward_sum (drop lane coefs) (rising_bits 8 (half + byte)) ≤ 2048)
+pub raised-lane : (coefs : List ℤ) (lane i half byte low : ℕ) → ((j : ℕ) → InRange filter_kind (get_or coefs j (pos 0))) → i < 8 → half ≡ 2 ^ i →
+    byte < half → low ≡ upward_sum (drop lane coefs) (rising_bits 8 byte) →
+    (pos low +ℤ get_or coefs (lane + i) (pos 0) ≡ pos (upward_sum (drop lane coefs) (rising_bits 8 (half + byte))))
+    × (upward_sum (drop lane coefs) (rising_bits 8 (half + byte)) ≤ 2048)
 raised-lane coefs lane i half byte low range h power lt is =
     let at = get_or-drop lane coefs i (pos 0) in
     let below : byte < 2 ^ i = omega arith in
     let raised = upward_sum-raised (drop lane coefs) 8 i byte h below in
-    let each : (j : ℕ) → InRange filter_kind (get_or (drop lane coefs) j (pos 0)) = λ j. subst (InRange filter_kind) (sym (get_or-drop lane coefs j (pos 0))) (range (lane + j)) in
+    let each : (j : ℕ) → InRange filter_kind (get_or (drop lane coefs) j (pos 0)) =
+    λ j. subst (InRange filter_kind) (sym (get_or-drop lane coefs j (pos 0))) (range (lane + j)) in
     let bound = upward_sum-within (drop lane coefs) (rising_bits 8 (2 ^ i + byte)) each in
     let long = length-rising_bits 8 (2 ^ i + byte) in
     rw power (omega (arith, ints, at, raised, is), omega (arith, bound, long))
 
 -- eight samples 0, one after the other
-pub zeros-step : (coefs : List ℤ) (first i sum size : ℕ) (coef : ℤ) → ((j : ℕ) → InRange filter_kind (get_or coefs j (pos 0))) → i < 8 → sum ≡ upward_sum (drop first coefs) (rising_bits i 0) → coef ≡ get_or coefs (first + i) (pos 0) → size ≡ above_zero (neg_ℤ coef) → (sum + size ≡ upward_sum (drop first coefs) (rising_bits (i + 1) 0)) × (sum + size ≤ 2048)
+pub zeros-step : (coefs : List ℤ) (first i sum size : ℕ) (coef : ℤ) → ((j : ℕ) → InRange filter_kind (get_or coefs j (pos 0))) → i < 8 →
+    sum ≡ upward_sum (drop first coefs) (rising_bits i 0) → coef ≡ get_or coefs (first + i) (pos 0) → size ≡ above_zero (neg_ℤ coef) →
+    (sum + size ≡ upward_sum (drop first coefs) (rising_bits (i + 1) 0)) × (sum + size ≤ 2048)
 zeros-step coefs first i sum size coef range h is e s =
-    let each : (j : ℕ) → InRange filter_kind (get_or (drop first coefs) j (pos 0)) = λ j. subst (InRange filter_kind) (sym (get_or-drop first coefs j (pos 0))) (range (first + j)) in
+    let each : (j : ℕ) → InRange filter_kind (get_or (drop first coefs) j (pos 0)) =
+    λ j. subst (InRange filter_kind) (sym (get_or-drop first coefs j (pos 0))) (range (first + j)) in
     let at : coef ≡ get_or (drop first coefs) i (pos 0) = e ∙ sym (get_or-drop first coefs i (pos 0)) in
     let here : size ≡ above_zero (neg_ℤ (get_or (drop first coefs) i (pos 0))) = s ∙ ap (λ a. above_zero (neg_ℤ a)) at in
     let zeros = upward_sum-zeros (drop first coefs) i in
@@ -106,7 +123,12 @@ zeros-step coefs first i sum size coef range h is e s =
     (rw add-one whole, omega (arith, whole, bound, length-rising_bits (suc i) 0))
 
 -- a byte of samples goes into a lane
-pub taken-lane : (coefs : List ℤ) (samples lanes row new : List ℕ) (byte : ℕ) → AllByRecursion (InRange filter_kind) coefs → length coefs ≤ 128 → rising_bits 8 byte ≡ take 8 samples → ((lane : ℕ) → lane < 136 → get_or lanes lane 0 ≡ upward_sum (drop lane (far coefs)) (drop 8 samples)) → ((lane : ℕ) → lane < 128 → get_or row lane 0 ≡ upward_sum (drop lane (far coefs)) (rising_bits 8 byte)) → ((lane : ℕ) → lane < 128 → get_or new lane 0 ≡ (get_or lanes (lane + 8) 0 + get_or row lane 0) % 65536) → ((lane : ℕ) → 128 ≤ lane → get_or new lane 0 ≡ get_or lanes lane 0) → (lane : ℕ) → lane < 136 → get_or new lane 0 ≡ upward_sum (drop lane (far coefs)) samples
+pub taken-lane : (coefs : List ℤ) (samples lanes row new : List ℕ) (byte : ℕ) → AllByRecursion (InRange filter_kind) coefs → length coefs ≤ 128 →
+    rising_bits 8 byte ≡ take 8 samples → ((lane : ℕ) → lane < 136 → get_or lanes lane 0 ≡ upward_sum (drop lane (far coefs)) (drop 8 samples)) →
+    ((lane : ℕ) → lane < 128 → get_or row lane 0 ≡ upward_sum (drop lane (far coefs)) (rising_bits 8 byte)) →
+    ((lane : ℕ) → lane < 128 → get_or new lane 0 ≡ (get_or lanes (lane + 8) 0 + get_or row lane 0) % 65536) →
+    ((lane : ℕ) → 128 ≤ lane → get_or new lane 0 ≡ get_or lanes lane 0) → (lane : ℕ) → lane < 136 →
+    get_or new lane 0 ≡ upward_sum (drop lane (far coefs)) samples
 taken-lane coefs samples lanes row new byte each short newest sums is moved stays lane h = by_case (cases_lt lane 128)
   where
     by_case : (lane < 128) ⊎ (128 ≤ lane) → get_or new lane 0 ≡ upward_sum (drop lane (far coefs)) samples
@@ -125,7 +147,9 @@ taken-lane coefs samples lanes row new byte each short newest sums is moved stay
         omega (arith, old, none, still_none, stays lane le)
 
 -- what the newest samples and a lane give together
-pub looked-up : (coefs : List ℤ) (place : ℕ) (samples : List ℕ) (byte lane near : ℕ) → AllByRecursion (InRange filter_kind) coefs → length coefs ≤ 128 → place ≤ 8 → rising_bits 8 byte ≡ take 8 samples → lane ≡ upward_sum (drop place (far coefs)) (drop place samples) → near ≡ upward_sum coefs (rising_bits 8 byte) → (lane + near) % 65536 ≡ upward_sum coefs samples
+pub looked-up : (coefs : List ℤ) (place : ℕ) (samples : List ℕ) (byte lane near : ℕ) → AllByRecursion (InRange filter_kind) coefs → length coefs ≤ 128 →
+    place ≤ 8 → rising_bits 8 byte ≡ take 8 samples → lane ≡ upward_sum (drop place (far coefs)) (drop place samples) →
+    near ≡ upward_sum coefs (rising_bits 8 byte) → (lane + near) % 65536 ≡ upward_sum coefs samples
 looked-up coefs place samples byte lane near each short few newest is by_newest =
     let split = upward_sum-split coefs place samples few in
     let front = by_newest ∙ ap (upward_sum coefs) newest in
@@ -133,7 +157,8 @@ looked-up coefs place samples byte lane near each short few newest is by_newest 
     omega (arith, split, front, is, bound)
 
 -- the newest eight samples after one more
-pub newest-pushed : (byte bit : ℕ) (samples : List ℕ) → bit < 2 → byte < 256 → rising_bits 8 byte ≡ take 8 samples → rising_bits 8 (byte % 128 * 2 + bit) ≡ take 8 (bit ∷ samples)
+pub newest-pushed : (byte bit : ℕ) (samples : List ℕ) → bit < 2 → byte < 256 → rising_bits 8 byte ≡ take 8 samples →
+    rising_bits 8 (byte % 128 * 2 + bit) ≡ take 8 (bit ∷ samples)
 newest-pushed byte bit samples small fits newest =
     let through = carry-through bit byte small fits in
     let new = rising_bits 8 (byte % 128 * 2 + bit) in
@@ -161,7 +186,8 @@ no_sums-at (suc n) zero = refl
 no_sums-at (suc n) (suc k) = no_sums-at n k
 
 -- one whole byte more of the same samples
-pub byte-again : (byte n : ℕ) → (rising_bits 8 byte ≡ take 8 (samples_of (replicate (n + 1) byte))) × (drop 8 (samples_of (replicate (n + 1) byte)) ≡ samples_of (replicate n byte))
+pub byte-again : (byte n : ℕ) → (rising_bits 8 byte ≡ take 8 (samples_of (replicate (n + 1) byte)))
+    × (drop 8 (samples_of (replicate (n + 1) byte)) ≡ samples_of (replicate n byte))
 byte-again byte n =
     let front = rising_bits 8 byte in
     let long = length-rising_bits 8 byte in
@@ -188,13 +214,16 @@ unfolding size_sum
 rows-none = record {
   table = record { least = omega arith; most = omega arith; each = ((omega (arith, ints), omega (arith, ints)), tt); alone = λ lone. absurd cc };
   added = λ byte lane h i.
-      no_rows-at 256 byte lane ∙ sym (upward_sum-same (drop lane (far (pos 0 ∷ []))) [] (rising_bits 8 byte) (λ j. get_or-drop lane (far (pos 0 ∷ [])) j (pos 0) ∙ lone-far (lane + j)) ∙ upward_sum-empty (rising_bits 8 byte));
+      no_rows-at 256 byte lane ∙ sym (upward_sum-same (drop lane (far (pos 0 ∷ []))) [] (rising_bits 8 byte)
+      (λ j. get_or-drop lane (far (pos 0 ∷ [])) j (pos 0) ∙ lone-far (lane + j)) ∙ upward_sum-empty (rising_bits 8 byte));
   newest = λ byte h.
       no_sums-at 256 byte ∙ sym (upward_sum-same (pos 0 ∷ []) [] (rising_bits 8 byte) (λ j. zeros-at 1 j) ∙ upward_sum-empty (rising_bits 8 byte));
   sizes = refl;
 }
 
 -- sums of the coefficients in an array
-pub same-lanes : (table coefs : List ℤ) (lane : ℕ) (samples : List ℕ) → ((j : ℕ) → get_or table j (pos 0) ≡ get_or (far coefs) j (pos 0)) → upward_sum (drop lane table) samples ≡ upward_sum (drop lane (far coefs)) samples
+pub same-lanes : (table coefs : List ℤ) (lane : ℕ) (samples : List ℕ) → ((j : ℕ) → get_or table j (pos 0) ≡ get_or (far coefs) j (pos 0)) →
+    upward_sum (drop lane table) samples ≡ upward_sum (drop lane (far coefs)) samples
 same-lanes table coefs lane samples same =
-    upward_sum-same (drop lane table) (drop lane (far coefs)) samples (λ j. get_or-drop lane table j (pos 0) ∙ same (lane + j) ∙ sym (get_or-drop lane (far coefs) j (pos 0)))
+    upward_sum-same (drop lane table) (drop lane (far coefs)) samples (λ j. get_or-drop lane table j (pos 0) ∙ same (lane + j)
+    ∙ sym (get_or-drop lane (far coefs) j (pos 0)))

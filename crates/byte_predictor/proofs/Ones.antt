@@ -18,5 +18,6 @@ signed_sum-ones (a ∷ coefs) (bit ∷ samples) h =
     let further = signed_sum-ones coefs samples (omega arith) in
     omega (arith, ints, here, further)
 
-pub upward-ones : (coefs : List ℤ) (samples : List ℕ) → length coefs ≤ length samples → pos (2 * upward_sum coefs samples) -ℤ pos (size_sum coefs) ≡ twice_ones coefs samples
+pub upward-ones : (coefs : List ℤ) (samples : List ℕ) → length coefs ≤ length samples →
+    pos (2 * upward_sum coefs samples) -ℤ pos (size_sum coefs) ≡ twice_ones coefs samples
 upward-ones coefs samples h = sym (signed_sum-is coefs samples h) ∙ signed_sum-ones coefs samples h

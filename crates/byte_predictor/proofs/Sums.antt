@@ -1,5 +1,6 @@
 -- Signed sums of coefficients.
-use Rattle.std.proofs.Common.{◌≡◌, ℕ, zero, suc, ◌+◌, ◌*◌, ◌/◌, ◌%◌, ◌^◌, ◌<◌, ◌≤◌, true, false, cond, eqb, ℤ, pos, ◌+ℤ◌, ◌-ℤ◌, neg_ℤ, ◌≤ℤ◌, List, [], ◌∷◌, ◌++◌, length, get_or, take, drop, set, refl, ap, sym, ◌∙◌, arith, add-one}
+use Rattle.std.proofs.Common.{◌≡◌, ℕ, zero, suc, ◌+◌, ◌*◌, ◌/◌, ◌%◌, ◌^◌, ◌<◌, ◌≤◌, true, false, cond, eqb, ℤ, pos, ◌+ℤ◌, ◌-ℤ◌, neg_ℤ, ◌≤ℤ◌, List, []}
+use Rattle.std.proofs.Common.{◌∷◌, ◌++◌, length, get_or, take, drop, set, refl, ap, sym, ◌∙◌, arith, add-one}
 use Rattle.std.proofs.lemmas.Int.{ints}
 use Rattle.std.proofs.lemmas.List.{take_more, length-take-le, get_or-drop}
 use Rattle.std.proofs.Math.Nat.{pow-suc, pow-le-pow_right}
@@ -27,7 +28,8 @@ signed_sum-append (a ∷ coefs) [] ys = omega (arith, ints)
 signed_sum-append (a ∷ coefs) (x ∷ xs) ys = omega (arith, ints, signed_sum-append coefs xs ys)
 
 -- A number's bit i goes from 0 to 1: coefficient i is taken positive in place of negative.
-pub signed_sum-raised : (coefs : List ℤ) (n i x : ℕ) → i < n → x < 2 ^ i → signed_sum coefs (rising_bits n (2 ^ i + x)) ≡ signed_sum coefs (rising_bits n x) +ℤ (get_or coefs i (pos 0) +ℤ get_or coefs i (pos 0))
+pub signed_sum-raised : (coefs : List ℤ) (n i x : ℕ) → i < n → x < 2 ^ i →
+    signed_sum coefs (rising_bits n (2 ^ i + x)) ≡ signed_sum coefs (rising_bits n x) +ℤ (get_or coefs i (pos 0) +ℤ get_or coefs i (pos 0))
 unfolding signed_sum rising_bits
 signed_sum-raised [] n i x h k = refl
 signed_sum-raised (a ∷ coefs) zero i x h k = absurd (omega arith)
@@ -68,7 +70,8 @@ signed-within bit a h =
       | false ↦ (omega (arith, ints, h.0, h.1), omega (arith, ints, h.0, h.1))
     ]
 
-pub signed_sum-within : (coefs : List ℤ) (samples : List ℕ) → AllByRecursion (InRange filter_kind) coefs → Within (256 * length samples) (signed_sum coefs samples)
+pub signed_sum-within : (coefs : List ℤ) (samples : List ℕ) → AllByRecursion (InRange filter_kind) coefs →
+    Within (256 * length samples) (signed_sum coefs samples)
 unfolding signed_sum
 signed_sum-within [] samples h = (omega (arith, ints), omega (arith, ints))
 signed_sum-within (a ∷ coefs) [] h = (omega (arith, ints), omega (arith, ints))
@@ -78,7 +81,8 @@ signed_sum-within (a ∷ coefs) (bit ∷ samples) h =
     (omega (arith, ints, one.0, others.0), omega (arith, ints, one.1, others.1))
 
 -- one more byte
-pub signed_sum-more : (coefs : List ℤ) (bytes : List ℕ) (j : ℕ) → j < length bytes → signed_sum coefs (samples_of (take (j + 1) bytes)) ≡ signed_sum coefs (samples_of (take j bytes)) +ℤ part_sum coefs j (get_or bytes j 0)
+pub signed_sum-more : (coefs : List ℤ) (bytes : List ℕ) (j : ℕ) → j < length bytes →
+    signed_sum coefs (samples_of (take (j + 1) bytes)) ≡ signed_sum coefs (samples_of (take j bytes)) +ℤ part_sum coefs j (get_or bytes j 0)
 signed_sum-more coefs bytes j h =
     let front = take j bytes in
     let long : length (samples_of front) ≡ 8 * j = omega (arith, length-samples_of front, length-take-le j bytes (omega arith)) in
@@ -96,14 +100,17 @@ pub signed_sum-no_bits : (coefs : List ℤ) → pos 0 ≡ signed_sum coefs (risi
 unfolding rising_bits
 signed_sum-no_bits coefs = sym (signed_sum-none coefs)
 
-pub within-bits : (coefs : List ℤ) (first n x : ℕ) → n ≤ 8 → AllByRecursion (InRange filter_kind) coefs → Within 2048 (signed_sum (drop first coefs) (rising_bits n x))
+pub within-bits : (coefs : List ℤ) (first n x : ℕ) → n ≤ 8 → AllByRecursion (InRange filter_kind) coefs →
+    Within 2048 (signed_sum (drop first coefs) (rising_bits n x))
 within-bits coefs first n x h each =
     let bound = signed_sum-within (drop first coefs) (rising_bits n x) (each-drop first coefs each) in
     let long = length-rising_bits n x in
     (omega (arith, ints, bound.0, long), omega (arith, ints, bound.1, long))
 
 -- the sum and one coefficient more at a sample 0
-pub lowest-step : (coefs : List ℤ) (first i : ℕ) (sum coef : ℤ) → AllByRecursion (InRange filter_kind) coefs → i < 8 → sum ≡ signed_sum (drop first coefs) (rising_bits i 0) → coef ≡ get_or coefs (first + i) (pos 0) → (sum -ℤ coef ≡ signed_sum (drop first coefs) (rising_bits (i + 1) 0)) × Within 2048 (sum -ℤ coef)
+pub lowest-step : (coefs : List ℤ) (first i : ℕ) (sum coef : ℤ) → AllByRecursion (InRange filter_kind) coefs → i < 8 →
+    sum ≡ signed_sum (drop first coefs) (rising_bits i 0) → coef ≡ get_or coefs (first + i) (pos 0) →
+    (sum -ℤ coef ≡ signed_sum (drop first coefs) (rising_bits (i + 1) 0)) × Within 2048 (sum -ℤ coef)
 lowest-step coefs first i sum coef each h s e =
     let at : get_or (drop first coefs) i (pos 0) ≡ coef = get_or-drop first coefs i (pos 0) ∙ sym e in
     let zeros = signed_sum-zeros (drop first coefs) i in
@@ -112,7 +119,9 @@ lowest-step coefs first i sum coef each h s e =
     (rw add-one is, (omega (arith, ints, is, bound.0), omega (arith, ints, is, bound.1)))
 
 -- the sum where one coefficient more is at a sample 1
-pub raised-step : (coefs : List ℤ) (first i half byte : ℕ) (low coef : ℤ) → AllByRecursion (InRange filter_kind) coefs → i < 8 → half ≡ 2 ^ i → byte < half → low ≡ signed_sum (drop first coefs) (rising_bits 8 byte) → coef ≡ get_or coefs (first + i) (pos 0) → (low +ℤ (coef +ℤ coef) ≡ signed_sum (drop first coefs) (rising_bits 8 (half + byte))) × Within 2048 (low +ℤ (coef +ℤ coef))
+pub raised-step : (coefs : List ℤ) (first i half byte : ℕ) (low coef : ℤ) → AllByRecursion (InRange filter_kind) coefs → i < 8 → half ≡ 2 ^ i →
+    byte < half → low ≡ signed_sum (drop first coefs) (rising_bits 8 byte) → coef ≡ get_or coefs (first + i) (pos 0) →
+    (low +ℤ (coef +ℤ coef) ≡ signed_sum (drop first coefs) (rising_bits 8 (half + byte))) × Within 2048 (low +ℤ (coef +ℤ coef))
 raised-step coefs first i half byte low coef each h power lt s e =
     let at : get_or (drop first coefs) i (pos 0) ≡ coef = get_or-drop first coefs i (pos 0) ∙ sym e in
     let below : byte < 2 ^ i = omega arith in
@@ -122,9 +131,11 @@ raised-step coefs first i half byte low coef each h power lt s e =
     (rw power is, (omega (arith, ints, is, bound.0), omega (arith, ints, is, bound.1)))
 
 -- A table that is right below a place is right at one place more.
-pub table-more : (table : List ℤ) (n : ℕ) (y : ℤ) (F : ℕ → ℤ) → n < length table → ((b : ℕ) → b < n → get_or table b (pos 0) ≡ F b) → y ≡ F n → (b : ℕ) → b < suc n → get_or (set table n y) b (pos 0) ≡ F b
+pub table-more : (table : List ℤ) (n : ℕ) (y : ℤ) (F : ℕ → ℤ) → n < length table → ((b : ℕ) → b < n → get_or table b (pos 0) ≡ F b) → y ≡ F n → (b : ℕ) →
+    b < suc n → get_or (set table n y) b (pos 0) ≡ F b
 table-more [] n y F h below here b lt = absurd (omega arith)
 table-more (x ∷ table) zero y F h below here zero lt = here
 table-more (x ∷ table) zero y F h below here (suc b) lt = absurd (omega arith)
 table-more (x ∷ table) (suc n) y F h below here zero lt = below 0 (omega arith)
-table-more (x ∷ table) (suc n) y F h below here (suc b) lt = table-more table n y (λ k. F (suc k)) (omega arith) (λ k j. below (suc k) (omega arith)) here b (omega arith)
+table-more (x ∷ table) (suc n) y F h below here (suc b) lt =
+    table-more table n y (λ k. F (suc k)) (omega arith) (λ k j. below (suc k) (omega arith)) here b (omega arith)

@@ -1,5 +1,6 @@
 -- Sums of what coefficients add upward.
-use Rattle.std.proofs.Common.{◌≡◌, ℕ, zero, suc, ◌+◌, ◌*◌, ◌/◌, ◌%◌, ◌^◌, ◌<◌, ◌≤◌, true, false, cond, eqb, ℤ, pos, negsuc, ◌+ℤ◌, ◌-ℤ◌, neg_ℤ, nat_abs, List, [], ◌∷◌, ◌++◌, length, get_or, take, drop, replicate, refl, ap, ap₂, sym, ◌∙◌, arith, add-one}
+use Rattle.std.proofs.Common.{◌≡◌, ℕ, zero, suc, ◌+◌, ◌*◌, ◌/◌, ◌%◌, ◌^◌, ◌<◌, ◌≤◌, true, false, cond, eqb, ℤ, pos, negsuc, ◌+ℤ◌, ◌-ℤ◌, neg_ℤ}
+use Rattle.std.proofs.Common.{nat_abs, List, [], ◌∷◌, ◌++◌, length, get_or, take, drop, replicate, refl, ap, ap₂, sym, ◌∙◌, arith, add-one}
 use Rattle.std.proofs.lemmas.Int.{ints}
 use Rattle.std.proofs.lemmas.List.{take-append-drop, drop-drop}
 use Rattle.std.proofs.Math.Nat.{pow-suc}
@@ -27,10 +28,12 @@ double-less-turned (pos (suc n)) = omega (arith, ints)
 double-less-turned (negsuc n) = omega (arith, ints)
 
 signed-is : (bit : ℕ) (a : ℤ) → signed bit a ≡ pos (2 * above_zero (signed bit a)) -ℤ pos (nat_abs a)
-signed-is bit a = elim (eqb bit 1) as (λ v. cond v a (neg_ℤ a) ≡ pos (2 * above_zero (cond v a (neg_ℤ a))) -ℤ pos (nat_abs a)) [ true ↦ double-less a | false ↦ double-less-turned a ]
+signed-is bit a = elim (eqb bit 1) as (λ v. cond v a (neg_ℤ a) ≡ pos (2 * above_zero (cond v a (neg_ℤ a))) -ℤ pos
+    (nat_abs a)) [ true ↦ double-less a | false ↦ double-less-turned a ]
 
 -- A signed sum is twice what goes upward, less all sizes.
-pub signed_sum-is : (coefs : List ℤ) (samples : List ℕ) → length coefs ≤ length samples → signed_sum coefs samples ≡ pos (2 * upward_sum coefs samples) -ℤ pos (size_sum coefs)
+pub signed_sum-is : (coefs : List ℤ) (samples : List ℕ) → length coefs ≤ length samples →
+    signed_sum coefs samples ≡ pos (2 * upward_sum coefs samples) -ℤ pos (size_sum coefs)
 unfolding signed_sum upward_sum size_sum
 signed_sum-is [] samples h = refl
 signed_sum-is (a ∷ coefs) [] h = absurd (omega arith)
@@ -52,7 +55,8 @@ upward_sum-append (a ∷ coefs) [] ys = omega arith
 upward_sum-append (a ∷ coefs) (x ∷ xs) ys = omega (arith, upward_sum-append coefs xs ys)
 
 -- A number's bit i goes from 0 to 1.
-pub upward_sum-raised : (coefs : List ℤ) (n i x : ℕ) → i < n → x < 2 ^ i → pos (upward_sum coefs (rising_bits n (2 ^ i + x))) ≡ pos (upward_sum coefs (rising_bits n x)) +ℤ get_or coefs i (pos 0)
+pub upward_sum-raised : (coefs : List ℤ) (n i x : ℕ) → i < n → x < 2 ^ i →
+    pos (upward_sum coefs (rising_bits n (2 ^ i + x))) ≡ pos (upward_sum coefs (rising_bits n x)) +ℤ get_or coefs i (pos 0)
 unfolding upward_sum rising_bits
 upward_sum-raised [] n i x h k = refl
 upward_sum-raised (a ∷ coefs) zero i x h k = absurd (omega arith)
@@ -66,7 +70,8 @@ upward_sum-raised (a ∷ coefs) (suc n) (suc i) x h k =
     rw (low, rest) (omega (arith, ints, further))
 
 -- one more coefficient with a sample 0
-pub upward_sum-zeros : (coefs : List ℤ) (i : ℕ) → upward_sum coefs (rising_bits (suc i) 0) ≡ upward_sum coefs (rising_bits i 0) + above_zero (neg_ℤ (get_or coefs i (pos 0)))
+pub upward_sum-zeros : (coefs : List ℤ) (i : ℕ) → upward_sum coefs (rising_bits (suc i) 0) ≡ upward_sum coefs (rising_bits i 0) + above_zero
+    (neg_ℤ (get_or coefs i (pos 0)))
 unfolding upward_sum rising_bits
 upward_sum-zeros [] i = refl
 upward_sum-zeros (a ∷ coefs) zero = omega (arith, upward_sum-none coefs)
@@ -91,7 +96,8 @@ upward_sum-below (a ∷ coefs) [] h = omega arith
 upward_sum-below (a ∷ coefs) (bit ∷ samples) h = omega (arith, above_zero-below bit a h.0, upward_sum-below coefs samples h.1)
 
 -- equal coefficients, with zeros behind
-pub upward_sum-same : (xs ys : List ℤ) (samples : List ℕ) → ((j : ℕ) → get_or xs j (pos 0) ≡ get_or ys j (pos 0)) → upward_sum xs samples ≡ upward_sum ys samples
+pub upward_sum-same : (xs ys : List ℤ) (samples : List ℕ) → ((j : ℕ) → get_or xs j (pos 0) ≡ get_or ys j (pos 0)) →
+    upward_sum xs samples ≡ upward_sum ys samples
 unfolding upward_sum
 upward_sum-same [] [] samples h = refl
 upward_sum-same [] (y ∷ ys) [] h = refl
@@ -107,7 +113,8 @@ upward_sum-same (x ∷ xs) [] (bit ∷ samples) h =
 upward_sum-same (x ∷ xs) (y ∷ ys) (bit ∷ samples) h = ap₂ (λ a s. above_zero (signed bit a) + s) (h 0) (upward_sum-same xs ys samples (λ j. h (suc j)))
 
 -- the first n coefficients, and those behind at their places
-split-at : (n : ℕ) (coefs : List ℤ) (samples : List ℕ) → upward_sum coefs samples ≡ upward_sum coefs (take n samples) + upward_sum (replicate n (pos 0) ++ drop n coefs) samples
+split-at : (n : ℕ) (coefs : List ℤ) (samples : List ℕ) →
+    upward_sum coefs samples ≡ upward_sum coefs (take n samples) + upward_sum (replicate n (pos 0) ++ drop n coefs) samples
 unfolding upward_sum
 split-at zero coefs samples = omega (arith, upward_sum-none coefs)
 split-at (suc n) coefs [] = omega (arith, upward_sum-none coefs, upward_sum-none (replicate (suc n) (pos 0) ++ drop (suc n) coefs))
@@ -119,7 +126,8 @@ split-at (suc n) [] (bit ∷ samples) = omega (arith, above_zero-none bit, split
 split-at (suc n) (a ∷ coefs) (bit ∷ samples) = omega (arith, above_zero-none bit, split-at n coefs samples)
 
 -- zeros in front leave out samples
-skip-zeros : (n p : ℕ) (xs : List ℤ) (samples : List ℕ) → p ≤ n → upward_sum (replicate n (pos 0) ++ xs) samples ≡ upward_sum (drop p (replicate n (pos 0) ++ xs)) (drop p samples)
+skip-zeros : (n p : ℕ) (xs : List ℤ) (samples : List ℕ) → p ≤ n →
+    upward_sum (replicate n (pos 0) ++ xs) samples ≡ upward_sum (drop p (replicate n (pos 0) ++ xs)) (drop p samples)
 unfolding upward_sum
 skip-zeros n zero xs samples h = refl
 skip-zeros zero (suc p) xs samples h = absurd (omega arith)
@@ -127,20 +135,23 @@ skip-zeros (suc n) (suc p) xs [] h = sym (upward_sum-none (drop p (replicate n (
 skip-zeros (suc n) (suc p) xs (bit ∷ samples) h = omega (arith, above_zero-none bit, skip-zeros n p xs samples (omega arith))
 
 -- the newest eight samples, and those that are in the sums ahead
-pub upward_sum-split : (coefs : List ℤ) (place : ℕ) (samples : List ℕ) → place ≤ 8 → upward_sum coefs samples ≡ upward_sum coefs (take 8 samples) + upward_sum (drop place (far coefs)) (drop place samples)
+pub upward_sum-split : (coefs : List ℤ) (place : ℕ) (samples : List ℕ) → place ≤ 8 →
+    upward_sum coefs samples ≡ upward_sum coefs (take 8 samples) + upward_sum (drop place (far coefs)) (drop place samples)
 unfolding far
 upward_sum-split coefs place samples h =
     split-at 8 coefs samples ∙ ap (λ n. upward_sum coefs (take 8 samples) + n) (skip-zeros 8 place (drop 8 coefs) samples h)
 
 -- a whole byte goes into the sums
-pub upward_sum-taken : (xs : List ℤ) (lane : ℕ) (samples : List ℕ) → length (take 8 samples) ≡ 8 → upward_sum (drop lane xs) samples ≡ upward_sum (drop lane xs) (take 8 samples) + upward_sum (drop (lane + 8) xs) (drop 8 samples)
+pub upward_sum-taken : (xs : List ℤ) (lane : ℕ) (samples : List ℕ) → length (take 8 samples) ≡ 8 →
+    upward_sum (drop lane xs) samples ≡ upward_sum (drop lane xs) (take 8 samples) + upward_sum (drop (lane + 8) xs) (drop 8 samples)
 upward_sum-taken xs lane samples long =
     ap (upward_sum (drop lane xs)) (sym (take-append-drop 8 samples))
     ∙ upward_sum-append (drop lane xs) (take 8 samples) (drop 8 samples)
     ∙ ap (λ n. upward_sum (drop lane xs) (take 8 samples) + upward_sum (drop n (drop lane xs)) (drop 8 samples)) long
     ∙ ap (λ t. upward_sum (drop lane xs) (take 8 samples) + upward_sum t (drop 8 samples)) (drop-drop 8 lane xs)
 
-pub upward_sum-within : (coefs : List ℤ) (samples : List ℕ) → ((j : ℕ) → InRange filter_kind (get_or coefs j (pos 0))) → upward_sum coefs samples ≤ 256 * length samples
+pub upward_sum-within : (coefs : List ℤ) (samples : List ℕ) → ((j : ℕ) → InRange filter_kind (get_or coefs j (pos 0))) →
+    upward_sum coefs samples ≤ 256 * length samples
 unfolding upward_sum
 upward_sum-within [] samples h = omega arith
 upward_sum-within (a ∷ coefs) [] h = omega arith

@@ -33,14 +33,16 @@ pub one_less : {A : Type 0} (whole : Fields (List A)) (old now next : Reading) (
     ToCome whole old given (m >>= (λ y. rest y >>= (λ xs. gives (y ∷ xs)))) now → HasRead m now x next → ToCome whole old (given ++ x ∷ []) (rest x) next
 one_less whole old now next given m x rest h g =
     h
-    ∙ ap (onward (λ xs. gives (given ++ xs))) (read-bind m (λ y. rest y >>= (λ xs. gives (y ∷ xs))) (left now) now.place ∙ ap (onward (λ y. rest y >>= (λ xs. gives (y ∷ xs)))) g ∙ read-bind (rest x) (λ xs. gives (x ∷ xs)) (left next) next.place)
+    ∙ ap (onward (λ xs. gives (given ++ xs))) (read-bind m (λ y. rest y >>= (λ xs. gives (y ∷ xs))) (left now) now.place
+    ∙ ap (onward (λ y. rest y >>= (λ xs. gives (y ∷ xs)))) g ∙ read-bind (rest x) (λ xs. gives (x ∷ xs)) (left next) next.place)
     ∙ onward_more given x (read (rest x) (left next) next.place)
 
 pub fails_here : {A : Type 0} (whole : Fields (List A)) (old now : Reading) (given : List A) (m : Fields A) (f : A → Fields (List A)) (fault : FrameFault) →
     ToCome whole old given (m >>= f) now → IsAtFault m now fault → IsAtFault whole old fault
 fails_here whole old now given m f fault h g = h ∙ ap (onward (λ xs. gives (given ++ xs))) (read-bind m f (left now) now.place ∙ ap (onward f) g)
 
-pub none_to_come : {A : Type 0} (whole : Fields (List A)) (old now : Reading) (given : List A) → ToCome whole old given (gives []) now → HasRead whole old given now
+pub none_to_come : {A : Type 0} (whole : Fields (List A)) (old now : Reading) (given : List A) → ToCome whole old given (gives []) now →
+    HasRead whole old given now
 unfolding read
 none_to_come whole old now given h = h ∙ ap (λ ys. Ok (ys, left now, now.place)) (append-nil given)
 
@@ -80,17 +82,21 @@ numbers_start channels old n e =
     rw same (rest_to_come (0 ∷ []) (map_number_fields (channels - 1) 1) old)
 
 pub numbers_more : (channels : ℕ) (old now next : Reading) (k count : ℕ) (given : List ℕ) (x : ℕ) →
-    NumbersToCome channels old k count given now → HasRead (field (map_bits count) (number_rule count) gives) now x next → NumbersToCome channels old (k + 1) (max count (x + 1)) (given ++ x ∷ []) next
+    NumbersToCome channels old k count given now → HasRead (field (map_bits count) (number_rule count) gives) now x next →
+    NumbersToCome channels old (k + 1) (max count (x + 1)) (given ++ x ∷ []) next
 unfolding map_number_fields
 numbers_more channels old now next k count given x h g n e =
-    one_less (element_fields channels) old now next given (field (map_bits count) (number_rule count) gives) x (λ y. map_number_fields n (max count (y + 1))) (h (suc n) (omega arith)) g
+    one_less (element_fields channels) old now next given (field (map_bits count) (number_rule count) gives) x
+    (λ y. map_number_fields n (max count (y + 1))) (h (suc n) (omega arith)) g
 
 pub numbers_fail : (channels : ℕ) (old now : Reading) (k count : ℕ) (given : List ℕ) (fault : FrameFault) →
-    NumbersToCome channels old k count given now → k < channels → IsAtFault (field (map_bits count) (number_rule count) gives) now fault → IsAtFault (element_fields channels) old fault
+    NumbersToCome channels old k count given now → k < channels → IsAtFault (field (map_bits count) (number_rule count) gives) now fault →
+    IsAtFault (element_fields channels) old fault
 unfolding map_number_fields
 numbers_fail channels old now k count given fault h some g =
     let n = channels - k - 1 in
-    fails_here (element_fields channels) old now given (field (map_bits count) (number_rule count) gives) (λ y. map_number_fields n (max count (y + 1)) >>= (λ xs. gives (y ∷ xs))) fault (h (suc n) (omega arith)) g
+    fails_here (element_fields channels) old now given (field (map_bits count) (number_rule count) gives)
+    (λ y. map_number_fields n (max count (y + 1)) >>= (λ xs. gives (y ∷ xs))) fault (h (suc n) (omega arith)) g
 
 pub numbers_end : (channels : ℕ) (old now : Reading) (k count : ℕ) (given : List ℕ) →
     NumbersToCome channels old k count given now → k ≤ channels → channels ≤ k → HasRead (element_fields channels) old given now

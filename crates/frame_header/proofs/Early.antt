@@ -1,5 +1,6 @@
 -- In front of the code no reason is one of the code's.
-use Rattle.std.proofs.Common.{◌≡◌, ℕ, zero, suc, ◌+◌, ◌-◌, ◌≤◌, ◌==◌, ◌||◌, max, nat_lt, Bool, true, false, cond, if◌then◌else◌, List, [], ◌∷◌, ◌++◌, length, drop, replicate, reverse, subst, arith, ℤ, ◌-ℤ◌, Option, Some, None, Result, Err}
+use Rattle.std.proofs.Common.{◌≡◌, ℕ, zero, suc, ◌+◌, ◌-◌, ◌≤◌, ◌==◌, ◌||◌, max, nat_lt, Bool, true, false, cond, if◌then◌else◌, List, [], ◌∷◌, ◌++◌}
+use Rattle.std.proofs.Common.{length, drop, replicate, reverse, subst, arith, ℤ, ◌-ℤ◌, Option, Some, None, Result, Err}
 use Rattle.std.specs.Prelude.{int_lt}
 use Rattle.dst_spec.specs.Bits.{number_from}
 use Rattle.dst_spec.specs.Sample.{Shape}
@@ -7,10 +8,12 @@ use Rattle.dst_spec.specs.Table.{Kind, filter_kind, prob_kind, is_alone, eighth}
 use Rattle.dst_spec.specs.Map.{element_count}
 use Rattle.dst_spec.specs.Reasons.{reason_number}
 use Rattle.dst_spec.specs.Fields.{Fields, gives, field, residual, code, ◌>>=◌, number, read, residual_length, residual_value}
-use Rattle.dst_spec.specs.Offends.{times, end_rule, segment_fields, map_number_fields, map_fields, both_segments, both_maps, plain_fields, range_rule, later_fields, coded_fields, body_fields, table_fields, header_fields, plain_frame_fields}
+use Rattle.dst_spec.specs.Offends.{times, end_rule, segment_fields, map_number_fields, map_fields, both_segments, both_maps, plain_fields, range_rule}
+use Rattle.dst_spec.specs.Offends.{later_fields, coded_fields, body_fields, table_fields, header_fields, plain_frame_fields}
 use Rattle.dst_spec.specs.declared.faults.FrameFault.{FrameFault}
 use Rattle.dst_spec.specs.declared.faults.Reason.{Reason}
-use Rattle.dst_spec.specs.declared.faults.Reason.TheVariants.{Truncated, PlainStuffing, MultiSegment, MapSkips, MethodReserved, TableTooShort, CoefRange, ProbRange}
+use Rattle.dst_spec.specs.declared.faults.Reason.TheVariants.{Truncated, PlainStuffing, MultiSegment, MapSkips, MethodReserved, TableTooShort}
+use Rattle.dst_spec.specs.declared.faults.Reason.TheVariants.{CoefRange, ProbRange}
 
 abbrev IsEarlyReason : Option Reason → Type 0
 IsEarlyReason None = Unit {0}
@@ -31,7 +34,12 @@ IsEarly-bind (code n rule next) f h k = absurd h
 
 tested : {A : Type 0} (b : Bool) (o : Option Reason) (place : ℕ) (r : Result (A × List ℕ × ℕ) FrameFault) (fault : FrameFault) → IsEarlyReason o →
     (r ≡ Err fault → reason_number fault.reason ≤ 8) →
-    ◌≡◌ {A = Result (A × List ℕ × ℕ) FrameFault} (elim b [ true ↦ Err (record { reason = Truncated; bit = place }) | false ↦ elim o [ Some reason ↦ Err (record { reason = reason; bit = place }) | None ↦ r ] ]) (Err fault) →
+    ◌≡◌ {A = Result (A × List ℕ × ℕ) FrameFault} (elim b [
+      | true ↦ Err
+          (record { reason = Truncated; bit = place })
+      | false ↦ elim o [ Some reason ↦ Err (record { reason = reason; bit = place }) | None ↦ r ]
+    ])
+    (Err fault) →
     reason_number fault.reason ≤ 8
 tested true o place r fault h k e =
     let same : ◌≡◌ {A = FrameFault} (record { reason = Truncated; bit = place }) fault = cc in
@@ -43,16 +51,19 @@ tested false (Some reason) place r fault h k e =
     subst P same h
 tested false None place r fault h k e = k e
 
-pub early_reason : {A : Type 0} (m : Fields A) (xs : List ℕ) (place : ℕ) (fault : FrameFault) → IsEarly m → read m xs place ≡ Err fault → reason_number fault.reason ≤ 8
+pub early_reason : {A : Type 0} (m : Fields A) (xs : List ℕ) (place : ℕ) (fault : FrameFault) → IsEarly m → read m xs place ≡ Err fault →
+    reason_number fault.reason ≤ 8
 unfolding read
 early_reason (gives x) xs place fault h e = absurd cc
 early_reason (field n rule next) xs place fault h e =
     let v = number_from xs 0 n in
-    tested (nat_lt (length xs) n) (rule v) place (read (next v) (drop n xs) (place + n)) fault (h.0 v) (early_reason (next v) (drop n xs) (place + n) fault (h.1 v)) e
+    tested (nat_lt (length xs) n) (rule v) place (read (next v) (drop n xs) (place + n)) fault (h.0 v)
+    (early_reason (next v) (drop n xs) (place + n) fault (h.1 v)) e
 early_reason (residual m rule next) xs place fault h e =
     let n = residual_length m xs in
     let v = residual_value m xs in
-    tested (nat_lt (length xs) n) (rule v) place (read (next v) (drop n xs) (place + n)) fault (h.0 v) (early_reason (next v) (drop n xs) (place + n) fault (h.1 v)) e
+    tested (nat_lt (length xs) n) (rule v) place (read (next v) (drop n xs) (place + n)) fault (h.0 v)
+    (early_reason (next v) (drop n xs) (place + n) fault (h.1 v)) e
 early_reason (code n rule next) xs place fault h e = absurd h
 
 -- ---- part by part
@@ -70,7 +81,8 @@ either false m n h k = k
 early_times : {A : Type 0} (n : ℕ) (m : Fields A) → IsEarly m → IsEarly (times n m)
 unfolding times
 early_times zero m h = tt
-early_times (suc n) m h = IsEarly-bind m (λ x. times n m >>= (λ xs. gives (x ∷ xs))) h (λ x. IsEarly-bind (times n m) (λ xs. gives (x ∷ xs)) (early_times n m h) (λ xs. tt))
+early_times (suc n) m h = IsEarly-bind m (λ x. times n m >>= (λ xs. gives (x ∷ xs))) h
+    (λ x. IsEarly-bind (times n m) (λ xs. gives (x ∷ xs)) (early_times n m h) (λ xs. tt))
 
 early_end : IsEarly (field 1 end_rule gives)
 early_end = (λ v. early_choice (v == 0) (Some MultiSegment) None (omega arith) tt, λ v. tt)
@@ -108,7 +120,8 @@ unfolding both_maps
 early_both_maps channels = (
   λ v. tt,
   λ same. IsEarly-bind (map_fields channels) (λ m. (if same == 1 then gives m else map_fields channels) >>= (λ k. gives (m, k))) (early_map channels)
-      (λ m. IsEarly-bind (if same == 1 then gives m else map_fields channels) (λ k. gives (m, k)) (either (same == 1) (gives m) (map_fields channels) tt (early_map channels)) (λ k. tt)),
+      (λ m. IsEarly-bind (if same == 1 then gives m else map_fields channels) (λ k. gives (m, k))
+      (either (same == 1) (gives m) (map_fields channels) tt (early_map channels)) (λ k. tt)),
 )
 
 early_plain : (K : Kind) → IsEarly (plain_fields K)
@@ -145,7 +158,11 @@ early_coded K count = (
 )
 
 early_body : (K : Kind) (count : ℕ) → IsEarly (body_fields K count)
-early_body K count = (λ v. tt, λ is_coded. either (is_coded == 0) (times count (plain_fields K)) (coded_fields K count) (early_times count (plain_fields K) (early_plain K)) (early_coded K count))
+early_body K count = (
+  λ v. tt,
+  λ is_coded. either (is_coded == 0) (times count (plain_fields K)) (coded_fields K count)
+      (early_times count (plain_fields K) (early_plain K)) (early_coded K count),
+)
 
 early_table : (K : Kind) → IsEarly (table_fields K)
 unfolding table_fields
@@ -157,8 +174,10 @@ early_header channels =
     IsEarly-bind (both_segments channels) _ (early_both_segments channels) (λ s.
     IsEarly-bind (both_maps channels) _ (early_both_maps channels) (λ maps.
     IsEarly-bind (times channels (number 1)) _ (early_times channels (number 1) (early_number 1)) (λ half_prob.
-    IsEarly-bind (times (element_count maps.0) (table_fields filter_kind)) _ (early_times (element_count maps.0) (table_fields filter_kind) (early_table filter_kind)) (λ filters.
-    IsEarly-bind (times (element_count maps.1) (table_fields prob_kind)) _ (early_times (element_count maps.1) (table_fields prob_kind) (early_table prob_kind)) (λ probs. tt)))))
+    IsEarly-bind (times (element_count maps.0) (table_fields filter_kind)) _
+    (early_times (element_count maps.0) (table_fields filter_kind) (early_table filter_kind)) (λ filters.
+    IsEarly-bind (times (element_count maps.1) (table_fields prob_kind)) _
+    (early_times (element_count maps.1) (table_fields prob_kind) (early_table prob_kind)) (λ probs. tt)))))
 
 pub early_plain_frame : (f : Shape) → IsEarly (plain_frame_fields f)
 unfolding plain_frame_fields

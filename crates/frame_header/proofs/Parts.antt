@@ -22,11 +22,13 @@ pub segments_cut : (channels : ℕ) (old : Reading) (fault : FrameFault) → IsA
 unfolding segment_fields
 segments_cut channels old fault h = failed_within (number 1) (ends_for channels) old fault h
 
-pub segments_passed : (channels same : ℕ) (old mid new : Reading) → HasRead (number 1) old same mid → HasPassed (ends_for channels same) mid new → HasPassed (segment_fields channels) old new
+pub segments_passed : (channels same : ℕ) (old mid new : Reading) → HasRead (number 1) old same mid → HasPassed (ends_for channels same) mid new →
+    HasPassed (segment_fields channels) old new
 unfolding segment_fields
 segments_passed channels same old mid new g h = (h.0, onto (number 1) (ends_for channels) old mid same g ∙ h.1)
 
-pub segments_failed : (channels same : ℕ) (old mid : Reading) (fault : FrameFault) → HasRead (number 1) old same mid → IsAtFault (ends_for channels same) mid fault → IsAtFault (segment_fields channels) old fault
+pub segments_failed : (channels same : ℕ) (old mid : Reading) (fault : FrameFault) → HasRead (number 1) old same mid →
+    IsAtFault (ends_for channels same) mid fault → IsAtFault (segment_fields channels) old fault
 unfolding segment_fields
 segments_failed channels same old mid fault g h = onto (number 1) (ends_for channels) old mid same g ∙ h
 
@@ -41,7 +43,8 @@ pub both_segments_cut : (channels : ℕ) (old : Reading) (fault : FrameFault) �
 unfolding both_segments
 both_segments_cut channels old fault h = failed_within (number 1) (segments_for channels) old fault h
 
-pub first_segments_failed : (channels same : ℕ) (old mid : Reading) (fault : FrameFault) → HasRead (number 1) old same mid → IsAtFault (segment_fields channels) mid fault →
+pub first_segments_failed : (channels same : ℕ) (old mid : Reading) (fault : FrameFault) → HasRead (number 1) old same mid →
+    IsAtFault (segment_fields channels) mid fault →
     IsAtFault (both_segments channels) old fault
 unfolding both_segments
 first_segments_failed channels same old mid fault g h =
@@ -53,20 +56,23 @@ unfolding both_segments
 to_second channels same old mid next xs g h =
     onto (number 1) (segments_for channels) old mid same g ∙ onto (segment_fields channels) (second_segments channels same) mid next xs h
 
-pub second_segments_failed : (channels same : ℕ) (old mid next : Reading) (fault : FrameFault) → HasRead (number 1) old same mid → HasPassed (segment_fields channels) mid next → (same ≡ 1 → ⊥) →
+pub second_segments_failed : (channels same : ℕ) (old mid next : Reading) (fault : FrameFault) → HasRead (number 1) old same mid →
+    HasPassed (segment_fields channels) mid next → (same ≡ 1 → ⊥) →
     IsAtFault (segment_fields channels) next fault → IsAtFault (both_segments channels) old fault
 second_segments_failed channels same old mid next fault g h ne k =
     to_second channels same old mid next h.0 g h.1
     ∙ ap (λ b. read (cond b (gives h.0) (segment_fields channels)) (left next) next.place) (not_one same ne) ∙ k
 
-pub same_segments_passed : (channels same : ℕ) (old mid next : Reading) → HasRead (number 1) old same mid → HasPassed (segment_fields channels) mid next → same ≡ 1 → HasPassed (both_segments channels) old next
+pub same_segments_passed : (channels same : ℕ) (old mid next : Reading) → HasRead (number 1) old same mid → HasPassed (segment_fields channels) mid next →
+    same ≡ 1 → HasPassed (both_segments channels) old next
 unfolding read
 same_segments_passed channels same old mid next g h one = (
   h.0,
   to_second channels same old mid next h.0 g h.1 ∙ ap (λ s. read (second_segments channels s h.0) (left next) next.place) one,
 )
 
-pub both_segments_passed : (channels same : ℕ) (old mid next new : Reading) → HasRead (number 1) old same mid → HasPassed (segment_fields channels) mid next → (same ≡ 1 → ⊥) →
+pub both_segments_passed : (channels same : ℕ) (old mid next new : Reading) → HasRead (number 1) old same mid →
+    HasPassed (segment_fields channels) mid next → (same ≡ 1 → ⊥) →
     HasPassed (segment_fields channels) next new → HasPassed (both_segments channels) old new
 both_segments_passed channels same old mid next new g h ne k = (
   k.0,
@@ -82,21 +88,27 @@ pub map_cut : (channels : ℕ) (old : Reading) (fault : FrameFault) → IsAtFaul
 unfolding map_fields
 map_cut channels old fault h = failed_within (number 1) (elements_for channels) old fault h
 
-to_elements : (channels same : ℕ) (old mid : Reading) → HasRead (number 1) old same mid → read (map_fields channels) (left old) old.place ≡ read (elements_for channels same) (left mid) mid.place
+to_elements : (channels same : ℕ) (old mid : Reading) → HasRead (number 1) old same mid →
+    read (map_fields channels) (left old) old.place ≡ read (elements_for channels same) (left mid) mid.place
 unfolding map_fields
 to_elements channels same old mid g = onto (number 1) (elements_for channels) old mid same g
 
-pub zeros_gave : (channels same : ℕ) (old mid : Reading) → HasRead (number 1) old same mid → same ≡ 1 → HasRead (map_fields channels) old (replicate channels 0) mid
+pub zeros_gave : (channels same : ℕ) (old mid : Reading) → HasRead (number 1) old same mid → same ≡ 1 →
+    HasRead (map_fields channels) old (replicate channels 0) mid
 unfolding read
 zeros_gave channels same old mid g one = to_elements channels same old mid g ∙ ap (λ s. read (elements_for channels s) (left mid) mid.place) one
 
-pub elements_gave : (channels same : ℕ) (old mid new : Reading) (es : List ℕ) → HasRead (number 1) old same mid → (same ≡ 1 → ⊥) → HasRead (element_fields channels) mid es new → HasRead (map_fields channels) old es new
+pub elements_gave : (channels same : ℕ) (old mid new : Reading) (es : List ℕ) → HasRead (number 1) old same mid → (same ≡ 1 → ⊥) →
+    HasRead (element_fields channels) mid es new → HasRead (map_fields channels) old es new
 elements_gave channels same old mid new es g ne h =
-    to_elements channels same old mid g ∙ ap (λ b. read (cond b (gives (replicate channels 0)) (element_fields channels)) (left mid) mid.place) (not_one same ne) ∙ h
+    to_elements channels same old mid g ∙ ap (λ b. read (cond b (gives (replicate channels 0)) (element_fields channels)) (left mid) mid.place)
+    (not_one same ne) ∙ h
 
-pub elements_failed : (channels same : ℕ) (old mid : Reading) (fault : FrameFault) → HasRead (number 1) old same mid → (same ≡ 1 → ⊥) → IsAtFault (element_fields channels) mid fault → IsAtFault (map_fields channels) old fault
+pub elements_failed : (channels same : ℕ) (old mid : Reading) (fault : FrameFault) → HasRead (number 1) old same mid → (same ≡ 1 → ⊥) →
+    IsAtFault (element_fields channels) mid fault → IsAtFault (map_fields channels) old fault
 elements_failed channels same old mid fault g ne h =
-    to_elements channels same old mid g ∙ ap (λ b. read (cond b (gives (replicate channels 0)) (element_fields channels)) (left mid) mid.place) (not_one same ne) ∙ h
+    to_elements channels same old mid g ∙ ap (λ b. read (cond b (gives (replicate channels 0)) (element_fields channels)) (left mid) mid.place)
+    (not_one same ne) ∙ h
 
 -- ---- both maps
 abbrev with_first : List ℕ → List ℕ → Fields (List ℕ × List ℕ)
@@ -112,7 +124,8 @@ pub both_maps_cut : (channels : ℕ) (old : Reading) (fault : FrameFault) → Is
 unfolding both_maps
 both_maps_cut channels old fault h = failed_within (number 1) (maps_for channels) old fault h
 
-pub first_map_failed : (channels same : ℕ) (old mid : Reading) (fault : FrameFault) → HasRead (number 1) old same mid → IsAtFault (map_fields channels) mid fault → IsAtFault (both_maps channels) old fault
+pub first_map_failed : (channels same : ℕ) (old mid : Reading) (fault : FrameFault) → HasRead (number 1) old same mid →
+    IsAtFault (map_fields channels) mid fault → IsAtFault (both_maps channels) old fault
 unfolding both_maps
 first_map_failed channels same old mid fault g h =
     onto (number 1) (maps_for channels) old mid same g ∙ failed_within (map_fields channels) (λ m. second_map channels same m >>= with_first m) mid fault h
@@ -127,17 +140,20 @@ own_map : (channels same : ℕ) (next : Reading) (m : List ℕ) → (same ≡ 1 
     read (second_map channels same m >>= with_first m) (left next) next.place ≡ read (map_fields channels >>= with_first m) (left next) next.place
 own_map channels same next m ne = ap (λ b. read (cond b (gives m) (map_fields channels) >>= with_first m) (left next) next.place) (not_one same ne)
 
-pub second_map_failed : (channels same : ℕ) (old mid next : Reading) (m : List ℕ) (fault : FrameFault) → HasRead (number 1) old same mid → HasRead (map_fields channels) mid m next → (same ≡ 1 → ⊥) →
+pub second_map_failed : (channels same : ℕ) (old mid next : Reading) (m : List ℕ) (fault : FrameFault) → HasRead (number 1) old same mid →
+    HasRead (map_fields channels) mid m next → (same ≡ 1 → ⊥) →
     IsAtFault (map_fields channels) next fault → IsAtFault (both_maps channels) old fault
 second_map_failed channels same old mid next m fault g h ne k =
     to_second_map channels same old mid next m g h ∙ own_map channels same next m ne ∙ failed_within (map_fields channels) (with_first m) next fault k
 
-pub same_map_gave : (channels same : ℕ) (old mid next : Reading) (m : List ℕ) → HasRead (number 1) old same mid → HasRead (map_fields channels) mid m next → same ≡ 1 → HasRead (both_maps channels) old (m, m) next
+pub same_map_gave : (channels same : ℕ) (old mid next : Reading) (m : List ℕ) → HasRead (number 1) old same mid → HasRead (map_fields channels) mid m next →
+    same ≡ 1 → HasRead (both_maps channels) old (m, m) next
 unfolding read
 same_map_gave channels same old mid next m g h one =
     to_second_map channels same old mid next m g h ∙ ap (λ s. read (second_map channels s m >>= with_first m) (left next) next.place) one
 
-pub both_maps_gave : (channels same : ℕ) (old mid next new : Reading) (m k : List ℕ) → HasRead (number 1) old same mid → HasRead (map_fields channels) mid m next → (same ≡ 1 → ⊥) →
+pub both_maps_gave : (channels same : ℕ) (old mid next new : Reading) (m k : List ℕ) → HasRead (number 1) old same mid →
+    HasRead (map_fields channels) mid m next → (same ≡ 1 → ⊥) →
     HasRead (map_fields channels) next k new → HasRead (both_maps channels) old (m, k) new
 unfolding read
 both_maps_gave channels same old mid next new m k g h ne i =

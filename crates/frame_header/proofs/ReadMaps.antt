@@ -1,5 +1,6 @@
 -- What is read as a map is one.
-use Rattle.std.proofs.Common.{◌≡◌, ℕ, zero, suc, ◌+◌, ◌-◌, ◌≤◌, ◌==◌, max, nat_lt, Bool, true, false, cond, if◌then◌else◌, List, [], ◌∷◌, length, drop, replicate, refl, ap, sym, subst, ◌∙◌, arith, Ok}
+use Rattle.std.proofs.Common.{◌≡◌, ℕ, zero, suc, ◌+◌, ◌-◌, ◌≤◌, ◌==◌, max, nat_lt, Bool, true, false, cond, if◌then◌else◌, List, [], ◌∷◌, length}
+use Rattle.std.proofs.Common.{drop, replicate, refl, ap, sym, subst, ◌∙◌, arith, Ok}
 use Rattle.std.proofs.lemmas.List.{length-replicate}
 use Rattle.dst_spec.specs.Bits.{number_from}
 use Rattle.dst_spec.specs.Map.{Numbers, IsMap, map_bits}
@@ -17,7 +18,8 @@ given_same : {A : Type 0} (x : A) (xs : List ℕ) (place : ℕ) (r : A × List �
 unfolding read
 given_same x xs place r e = let same : (x, xs, place) ≡ r = cc in ap (λ q. q.0) (sym same)
 
-numbers_read : (n count : ℕ) (xs : List ℕ) (place : ℕ) (r : List ℕ × List ℕ × ℕ) → read (map_number_fields n count) xs place ≡ Ok r → (length r.0 ≡ n) × Numbers count r.0
+numbers_read : (n count : ℕ) (xs : List ℕ) (place : ℕ) (r : List ℕ × List ℕ × ℕ) → read (map_number_fields n count) xs place ≡ Ok r →
+    (length r.0 ≡ n) × Numbers count r.0
 unfolding map_number_fields Numbers read
 numbers_read zero count xs place r e =
     let none = given_same [] xs place r e in
@@ -27,7 +29,8 @@ numbers_read (suc n) count xs place r e =
     let v = number_from xs 0 b in
     let more : ℕ → Fields (List ℕ) = λ x. map_number_fields n (max count (x + 1)) in
     let ys = drop b xs in
-    let k = was_met (nat_lt (length xs) b) (number_rule count v) (record { reason = Truncated; bit = place }) place (read (more v >>= (λ es. gives (v ∷ es))) ys (place + b)) r e in
+    let k = was_met (nat_lt (length xs) b) (number_rule count v) (record { reason = Truncated; bit = place }) place
+    (read (more v >>= (λ es. gives (v ∷ es))) ys (place + b)) r e in
     let p = onward_ok (λ es. gives (v ∷ es)) (read (more v) ys (place + b)) r (sym (read-bind (more v) (λ es. gives (v ∷ es)) ys (place + b)) ∙ k.2) in
     let rest = numbers_read n (max count (v + 1)) ys (place + b) p.0 p.1 in
     let whole = given_same (v ∷ p.0.0) p.0.1 p.0.2 r p.2 in
@@ -56,7 +59,8 @@ map_read n xs place r e =
     go : (b : Bool) (ys : List ℕ) (from : ℕ) → read (cond b (gives (replicate (suc n) 0)) (element_fields (suc n))) ys from ≡ Ok r → IsMap (suc n) r.0
     go true ys from h = subst (IsMap (suc n)) (sym (given_same (replicate (suc n) 0) ys from r h)) (zeros_are_map n)
     go false ys from h =
-        let q = onward_ok (λ es. gives (0 ∷ es)) (read (map_number_fields (suc n - 1) 1) ys from) r (sym (read-bind (map_number_fields (suc n - 1) 1) (λ es. gives (0 ∷ es)) ys from) ∙ h) in
+        let q = onward_ok (λ es. gives (0 ∷ es)) (read (map_number_fields (suc n - 1) 1) ys from) r
+        (sym (read-bind (map_number_fields (suc n - 1) 1) (λ es. gives (0 ∷ es)) ys from) ∙ h) in
         let numbers = numbers_read (suc n - 1) 1 ys from q.0 q.1 in
         subst (IsMap (suc n)) (sym (given_same (0 ∷ q.0.0) q.0.1 q.0.2 r q.2)) (elements_are_map n q.0.0 (omega (arith, numbers.0)) numbers.1)
 

@@ -1,5 +1,6 @@
 -- Steps through the fields of a frame.
-use Rattle.std.proofs.Common.{◌≡◌, ℕ, ◌+◌, ◌<◌, ◌≤◌, nat_lt, Bool, true, false, List, length, drop, refl, ap, sym, subst, ◌∙◌, arith, length-drop, Option, Some, None, Result, Ok, Err, IsErrAnd, IfErr, IfNone, IsSome, le-ltb, lt-ltb}
+use Rattle.std.proofs.Common.{◌≡◌, ℕ, ◌+◌, ◌<◌, ◌≤◌, nat_lt, Bool, true, false, List, length, drop, refl, ap, sym, subst, ◌∙◌, arith, length-drop}
+use Rattle.std.proofs.Common.{Option, Some, None, Result, Ok, Err, IsErrAnd, IfErr, IfNone, IsSome, le-ltb, lt-ltb}
 use Rattle.dst_spec.specs.Bits.{bits, number_from, AreBits}
 use Rattle.dst_spec.specs.Fields.{Fields, gives, field, residual, code, ◌>>=◌, number, read, residual_length, residual_value}
 use Rattle.dst_spec.specs.declared.faults.FrameFault.{FrameFault}
@@ -17,7 +18,8 @@ pub onto : {A B : Type 0} (m : Fields A) (f : A → Fields B) (old new : Reading
 onto m f old new x h = read-bind m f (left old) old.place ∙ ap (onward f) h
 
 -- what a part failed at is what the whole fails at
-pub failed_within : {A B : Type 0} (m : Fields A) (f : A → Fields B) (old : Reading) (fault : FrameFault) → IsAtFault m old fault → IsAtFault (m >>= f) old fault
+pub failed_within : {A B : Type 0} (m : Fields A) (f : A → Fields B) (old : Reading) (fault : FrameFault) → IsAtFault m old fault →
+    IsAtFault (m >>= f) old fault
 failed_within m f old fault h = read-bind m f (left old) old.place ∙ ap (onward f) h
 
 -- a fault that is handed on
@@ -26,7 +28,8 @@ handed_on (Ok x) fault P h p = tt
 handed_on (Err e) fault P h p = subst P (sym h) p
 
 -- ---- a field without a rule
-pub number_gave : (n : ℕ) (old new : Reading) (v : ℕ) → n ≤ length (left old) → v ≡ number_from (left old) 0 n → left new ≡ drop n (left old) → new.place ≡ old.place + n →
+pub number_gave : (n : ℕ) (old new : Reading) (v : ℕ) → n ≤ length (left old) → v ≡ number_from (left old) 0 n → left new ≡ drop n (left old) →
+    new.place ≡ old.place + n →
     HasRead (number n) old v new
 unfolding read
 number_gave n old new v enough is rest place =
@@ -35,7 +38,8 @@ number_gave n old new v enough is rest place =
     let same : all ≡ Ok (v, left new, new.place) = rw (is, rest, place) refl in
     field_met (nat_lt (length xs) n) None (record { reason = Truncated; bit = old.place }) old.place all (le-ltb (length xs) n enough) refl ∙ same
 
-not_there : {A : Type 0} (b : Bool) (t : FrameFault) (r : Result A FrameFault) → b ≡ true → ◌≡◌ {A = Result A FrameFault} (elim b [ true ↦ Err t | false ↦ r ]) (Err t)
+not_there : {A : Type 0} (b : Bool) (t : FrameFault) (r : Result A FrameFault) → b ≡ true →
+    ◌≡◌ {A = Result A FrameFault} (elim b [ true ↦ Err t | false ↦ r ]) (Err t)
 not_there true t r e = refl
 not_there false t r e = absurd cc
 
@@ -50,7 +54,8 @@ number_cut n old short =
 given_one : (a b : ℕ × List ℕ × ℕ) → ◌≡◌ {A = Result (ℕ × List ℕ × ℕ) FrameFault} (Ok a) (Ok b) → a ≡ b
 given_one a b e = cc
 
-pub rule_met : (n : ℕ) (rule : ℕ → Option Reason) (old new : Reading) (v : ℕ) → HasRead (number n) old v new → rule v ≡ None → HasRead (field n rule gives) old v new
+pub rule_met : (n : ℕ) (rule : ℕ → Option Reason) (old new : Reading) (v : ℕ) → HasRead (number n) old v new → rule v ≡ None →
+    HasRead (field n rule gives) old v new
 unfolding read
 rule_met n rule old new v h keeps =
     let xs = left old in
@@ -61,8 +66,10 @@ rule_met n rule old new v h keeps =
     let is : number_from xs 0 n ≡ v = ap (λ q. q.0) same in
     field_met (nat_lt (length xs) n) (rule (number_from xs 0 n)) t old.place all k.0 (ap rule is ∙ keeps) ∙ k.2
 
-is_broken : {A : Type 0} (b : Bool) (o : Option Reason) (reason : Reason) (t : FrameFault) (place : ℕ) (r : Result (A × List ℕ × ℕ) FrameFault) → b ≡ false → o ≡ Some reason →
-    ◌≡◌ {A = Result (A × List ℕ × ℕ) FrameFault} (elim b [ true ↦ Err t | false ↦ elim o [ Some x ↦ Err (record { reason = x; bit = place }) | None ↦ r ] ]) (Err (record { reason = reason; bit = place }))
+is_broken : {A : Type 0} (b : Bool) (o : Option Reason) (reason : Reason) (t : FrameFault) (place : ℕ) (r : Result (A × List ℕ × ℕ) FrameFault) →
+    b ≡ false → o ≡ Some reason →
+    ◌≡◌ {A = Result (A × List ℕ × ℕ) FrameFault} (elim b [ true ↦ Err t | false ↦ elim o [ Some x ↦ Err (record { reason = x; bit = place }) | None ↦ r ] ])
+    (Err (record { reason = reason; bit = place }))
 is_broken true o reason t place r e f = absurd cc
 is_broken false None reason t place r e f = absurd cc
 is_broken false (Some x) reason t place r e f = let same : x ≡ reason = cc in ap (λ y. Err (record { reason = y; bit = place })) same
@@ -81,11 +88,13 @@ rule_broken n rule old new v reason h breaks =
 
 is_cut : {A : Type 0} (b : Bool) (o : Option Reason) (t fault : FrameFault) (place : ℕ) (q : A × List ℕ × ℕ) (r : Result (A × List ℕ × ℕ) FrameFault) →
     ◌≡◌ {A = Result (A × List ℕ × ℕ) FrameFault} (elim b [ true ↦ Err t | false ↦ Ok q ]) (Err fault) →
-    ◌≡◌ {A = Result (A × List ℕ × ℕ) FrameFault} (elim b [ true ↦ Err t | false ↦ elim o [ Some x ↦ Err (record { reason = x; bit = place }) | None ↦ r ] ]) (Err fault)
+    ◌≡◌ {A = Result (A × List ℕ × ℕ) FrameFault} (elim b [ true ↦ Err t | false ↦ elim o [ Some x ↦ Err (record { reason = x; bit = place }) | None ↦ r ] ])
+    (Err fault)
 is_cut true o t fault place q r e = e
 is_cut false o t fault place q r e = absurd cc
 
-pub field_cut : (n : ℕ) (rule : ℕ → Option Reason) (old : Reading) (fault : FrameFault) → IsAtFault (number n) old fault → IsAtFault (field n rule gives) old fault
+pub field_cut : (n : ℕ) (rule : ℕ → Option Reason) (old : Reading) (fault : FrameFault) → IsAtFault (number n) old fault →
+    IsAtFault (field n rule gives) old fault
 unfolding read
 field_cut n rule old fault h =
     let xs = left old in

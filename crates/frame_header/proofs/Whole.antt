@@ -1,5 +1,6 @@
 -- A whole header, from its parts.
-use Rattle.std.proofs.Common.{◌≡◌, ℕ, zero, suc, ◌*◌, ◌≤◌, Bool, List, [], ◌∷◌, ◌++◌, length, map, take, drop, get_or, refl, ap, ap₂, sym, subst, ◌∙◌, arith, ℤ, pos, nat_abs, Ok, length-append, take_at}
+use Rattle.std.proofs.Common.{◌≡◌, ℕ, zero, suc, ◌*◌, ◌≤◌, Bool, List, [], ◌∷◌, ◌++◌, length, map, take, drop, get_or, refl, ap, ap₂, sym, subst, ◌∙◌}
+use Rattle.std.proofs.Common.{arith, ℤ, pos, nat_abs, Ok, length-append, take_at}
 use Rattle.dst_spec.specs.Bits.{bits}
 use Rattle.dst_spec.specs.Table.{filter_kind, prob_kind}
 use Rattle.dst_spec.specs.Map.{element_count}
@@ -34,39 +35,51 @@ abbrev map_part : ℕ → List ℕ → Fields Params
 map_part channels segments = both_maps channels >>= half_part channels
 
 -- ---- one part after the other
-pub segments_fail : (channels : ℕ) (old : Reading) (fault : FrameFault) → IsAtFault (both_segments channels) old fault → IsAtFault (header_fields channels) old fault
+pub segments_fail : (channels : ℕ) (old : Reading) (fault : FrameFault) → IsAtFault (both_segments channels) old fault →
+    IsAtFault (header_fields channels) old fault
 unfolding header_fields
 segments_fail channels old fault h = failed_within (both_segments channels) (map_part channels) old fault h
 
-to_maps : (channels : ℕ) (a b : Reading) → HasPassed (both_segments channels) a b → read (header_fields channels) (left a) a.place ≡ read (both_maps channels >>= half_part channels) (left b) b.place
+to_maps : (channels : ℕ) (a b : Reading) → HasPassed (both_segments channels) a b →
+    read (header_fields channels) (left a) a.place ≡ read (both_maps channels >>= half_part channels) (left b) b.place
 unfolding header_fields
 to_maps channels a b h = onto (both_segments channels) (map_part channels) a b h.0 h.1
 
-pub maps_fail : (channels : ℕ) (a b : Reading) (fault : FrameFault) → HasPassed (both_segments channels) a b → IsAtFault (both_maps channels) b fault → IsAtFault (header_fields channels) a fault
+pub maps_fail : (channels : ℕ) (a b : Reading) (fault : FrameFault) → HasPassed (both_segments channels) a b → IsAtFault (both_maps channels) b fault →
+    IsAtFault (header_fields channels) a fault
 maps_fail channels a b fault h k = to_maps channels a b h ∙ failed_within (both_maps channels) (half_part channels) b fault k
 
 to_half : (channels : ℕ) (a b c : Reading) (maps : List ℕ × List ℕ) → HasPassed (both_segments channels) a b → HasRead (both_maps channels) b maps c →
     read (header_fields channels) (left a) a.place ≡ read (half_part channels maps) (left c) c.place
 to_half channels a b c maps h k = to_maps channels a b h ∙ onto (both_maps channels) (half_part channels) b c maps k
 
-pub half_fails : (channels : ℕ) (a b c : Reading) (maps : List ℕ × List ℕ) (fault : FrameFault) → HasPassed (both_segments channels) a b → HasRead (both_maps channels) b maps c →
+pub half_fails : (channels : ℕ) (a b c : Reading) (maps : List ℕ × List ℕ) (fault : FrameFault) → HasPassed (both_segments channels) a b →
+    HasRead (both_maps channels) b maps c →
     IsAtFault (times channels (number 1)) c fault → IsAtFault (header_fields channels) a fault
 half_fails channels a b c maps fault h k i = to_half channels a b c maps h k ∙ failed_within (times channels (number 1)) (filter_part maps) c fault i
 
-to_filters : (channels : ℕ) (a b c d : Reading) (maps : List ℕ × List ℕ) (half_prob : List ℕ) → HasPassed (both_segments channels) a b → HasRead (both_maps channels) b maps c → HasRead (times channels (number 1)) c half_prob d →
+to_filters : (channels : ℕ) (a b c d : Reading) (maps : List ℕ × List ℕ) (half_prob : List ℕ) → HasPassed (both_segments channels) a b →
+    HasRead (both_maps channels) b maps c → HasRead (times channels (number 1)) c half_prob d →
     read (header_fields channels) (left a) a.place ≡ read (filter_part maps half_prob) (left d) d.place
 to_filters channels a b c d maps half_prob h k i = to_half channels a b c maps h k ∙ onto (times channels (number 1)) (filter_part maps) c d half_prob i
 
-pub filters_fail : (channels : ℕ) (a b c d : Reading) (maps : List ℕ × List ℕ) (half_prob : List ℕ) (fault : FrameFault) → HasPassed (both_segments channels) a b → HasRead (both_maps channels) b maps c →
+pub filters_fail : (channels : ℕ) (a b c d : Reading) (maps : List ℕ × List ℕ) (half_prob : List ℕ) (fault : FrameFault) →
+    HasPassed (both_segments channels) a b → HasRead (both_maps channels) b maps c →
     HasRead (times channels (number 1)) c half_prob d → IsAtFault (filters_for maps.0) d fault → IsAtFault (header_fields channels) a fault
-filters_fail channels a b c d maps half_prob fault h k i j = to_filters channels a b c d maps half_prob h k i ∙ failed_within (filters_for maps.0) (prob_part maps half_prob) d fault j
+filters_fail channels a b c d maps half_prob fault h k i j = to_filters channels a b c d maps half_prob h k i
+    ∙ failed_within (filters_for maps.0) (prob_part maps half_prob) d fault j
 
-to_probs : (channels : ℕ) (a b c d e : Reading) (maps : List ℕ × List ℕ) (half_prob : List ℕ) (filters : List (List ℤ)) → HasPassed (both_segments channels) a b → HasRead (both_maps channels) b maps c →
-    HasRead (times channels (number 1)) c half_prob d → HasRead (filters_for maps.0) d filters e → read (header_fields channels) (left a) a.place ≡ read (prob_part maps half_prob filters) (left e) e.place
-to_probs channels a b c d e maps half_prob filters h k i j = to_filters channels a b c d maps half_prob h k i ∙ onto (filters_for maps.0) (prob_part maps half_prob) d e filters j
+to_probs : (channels : ℕ) (a b c d e : Reading) (maps : List ℕ × List ℕ) (half_prob : List ℕ) (filters : List (List ℤ)) →
+    HasPassed (both_segments channels) a b → HasRead (both_maps channels) b maps c →
+    HasRead (times channels (number 1)) c half_prob d → HasRead (filters_for maps.0) d filters e →
+    read (header_fields channels) (left a) a.place ≡ read (prob_part maps half_prob filters) (left e) e.place
+to_probs channels a b c d e maps half_prob filters h k i j = to_filters channels a b c d maps half_prob h k i
+    ∙ onto (filters_for maps.0) (prob_part maps half_prob) d e filters j
 
-pub probs_fail : (channels : ℕ) (a b c d e : Reading) (maps : List ℕ × List ℕ) (half_prob : List ℕ) (filters : List (List ℤ)) (fault : FrameFault) → HasPassed (both_segments channels) a b → HasRead (both_maps channels) b maps c →
-    HasRead (times channels (number 1)) c half_prob d → HasRead (filters_for maps.0) d filters e → IsAtFault (probs_for maps.1) e fault → IsAtFault (header_fields channels) a fault
+pub probs_fail : (channels : ℕ) (a b c d e : Reading) (maps : List ℕ × List ℕ) (half_prob : List ℕ) (filters : List (List ℤ)) (fault : FrameFault) →
+    HasPassed (both_segments channels) a b → HasRead (both_maps channels) b maps c →
+    HasRead (times channels (number 1)) c half_prob d → HasRead (filters_for maps.0) d filters e → IsAtFault (probs_for maps.1) e fault →
+    IsAtFault (header_fields channels) a fault
 probs_fail channels a b c d e maps half_prob filters fault h k i j l =
     to_probs channels a b c d e maps half_prob filters h k i j ∙ failed_within (probs_for maps.1) (last_part maps half_prob filters) e fault l
 
@@ -75,8 +88,10 @@ filters_again : (filters : List (List ℤ)) → map (λ t. t) filters ≡ filter
 filters_again [] = refl
 filters_again (t ∷ filters) = ap (λ ts. t ∷ ts) (filters_again filters)
 
-pub header_gave : (channels : ℕ) (a b c d e f : Reading) (filter_map prob_map : List ℕ) (half_prob : List Bool) (filters : List (List ℤ)) (probs : List (List ℕ)) →
-    HasPassed (both_segments channels) a b → HasRead (both_maps channels) b (filter_map, prob_map) c → HasRead (times channels (number 1)) c (map bit_of half_prob) d →
+pub header_gave : (channels : ℕ) (a b c d e f : Reading) (filter_map prob_map : List ℕ) (half_prob : List Bool) (filters : List (List ℤ))
+    (probs : List (List ℕ)) →
+    HasPassed (both_segments channels) a b → HasRead (both_maps channels) b (filter_map, prob_map) c →
+    HasRead (times channels (number 1)) c (map bit_of half_prob) d →
     HasRead (filters_for filter_map) d (map (λ t. t) filters) e → HasRead (probs_for prob_map) e (map (λ t. map pos t) probs) f →
     HasRead (header_fields channels) a (params_of filter_map prob_map half_prob filters probs) f
 unfolding read
@@ -86,8 +101,10 @@ header_gave channels a b c d e f filter_map prob_map half_prob filters probs h k
     let fs = map (λ (t : List ℤ). t) filters in
     let ps = map (λ (t : List ℕ). map pos t) probs in
     let same : made maps hs fs ps ≡ params_of filter_map prob_map half_prob filters probs =
-    ap (λ x. record { filter_map = filter_map; prob_map = prob_map; half_prob = x; filters = fs; probs = map (λ entries. map nat_abs entries) ps }) (bits_again half_prob)
-    ∙ ap₂ (λ x y. record { filter_map = filter_map; prob_map = prob_map; half_prob = half_prob; filters = x; probs = y }) (filters_again filters) (probs_again probs) in
+    ap (λ x. record { filter_map = filter_map; prob_map = prob_map; half_prob = x; filters = fs; probs = map (λ entries. map nat_abs entries) ps })
+    (bits_again half_prob)
+    ∙ ap₂ (λ x y. record { filter_map = filter_map; prob_map = prob_map; half_prob = half_prob; filters = x; probs = y }) (filters_again filters)
+    (probs_again probs) in
     to_probs channels a b c d e maps hs fs h k i j ∙ onto (probs_for prob_map) (last_part maps hs fs) e f ps l ∙ ap (λ P. Ok (P, left f, f.place)) same
 
 -- ---- what was read has a header's bits
@@ -99,7 +116,8 @@ pub record IsFound (channels : ℕ) (old new : Reading) (P : Params) : Type 0 wh
   pub header : HasHeader channels P (take new.place (bits old.bytes))
   pub inside : new.place ≤ 8 * length old.bytes
 
-pub header_found : (channels : ℕ) (old new : Reading) (P : Params) → 1 ≤ channels → old.place ≡ 1 → get_or (bits old.bytes) 0 0 ≡ 1 → HasRead (header_fields channels) old P new → IsFound channels old new P
+pub header_found : (channels : ℕ) (old new : Reading) (P : Params) → 1 ≤ channels → old.place ≡ 1 → get_or (bits old.bytes) 0 0 ≡ 1 →
+    HasRead (header_fields channels) old P new → IsFound channels old new P
 header_found zero old new P some place one h = absurd (omega arith)
 header_found (suc n) old new P some place one h =
     let t = Takes-header n (left old) old.place (P, left new, new.place) (are_bits_left old) h in
@@ -116,4 +134,5 @@ header_found (suc n) old new P some place one h =
 
 pub params_found : (channels : ℕ) (old new : Reading) (P : Params) → 1 ≤ channels → HasRead (header_fields channels) old P new → IsParams channels P
 params_found zero old new P some h = absurd (omega arith)
-params_found (suc n) old new P some h = let t = Takes-header n (left old) old.place (P, left new, new.place) (are_bits_left old) h in let k : HasHeader (suc n) P (1 ∷ t.bits) = t.related in k.params
+params_found (suc n) old new P some h = let t = Takes-header n (left old) old.place (P, left new, new.place) (are_bits_left old) h in let k : HasHeader
+    (suc n) P (1 ∷ t.bits) = t.related in k.params

@@ -1,5 +1,6 @@
 -- Lists appended one after the other, and the room that is left.
-use Rattle.std.proofs.Common.{◌≡◌, true, false, ℕ, zero, suc, ◌+◌, ◌-◌, ◌<◌, ◌≤◌, List, [], ◌∷◌, ◌++◌, length, get_or, take, refl, ap, sym, ◌∙◌, arith, append_assoc, append-nil, length-append, ℤ, ◌+ℤ◌}
+use Rattle.std.proofs.Common.{◌≡◌, true, false, ℕ, zero, suc, ◌+◌, ◌-◌, ◌<◌, ◌≤◌, List, [], ◌∷◌, ◌++◌, length, get_or, take, refl, ap, sym, ◌∙◌}
+use Rattle.std.proofs.Common.{arith, append_assoc, append-nil, length-append, ℤ, ◌+ℤ◌}
 use Rattle.std.proofs.lemmas.List.Folds.{length-flat_map-take}
 use Rattle.std.specs.List.{flat_map}
 use Rattle.dst_spec.specs.Bits.{low_bits}
@@ -12,13 +13,16 @@ use Rattle.dst_spec.proofs.Lists.{flat_map-next}
 pub joined : (a b c u v : List ℕ) → b ≡ a ++ u → c ≡ b ++ v → c ≡ a ++ (u ++ v)
 joined a b c u v e f = f ∙ ap (λ xs. xs ++ v) e ∙ append_assoc a u v
 
-pub next_bits : {X : Type 0} (f : X → List ℕ) (xs : List X) (i : ℕ) (d : X) (a b c : List ℕ) → i < length xs → b ≡ a ++ flat_map f (take i xs) → c ≡ b ++ f (get_or xs i d) → c ≡ a ++ flat_map f (take (i + 1) xs)
+pub next_bits : {X : Type 0} (f : X → List ℕ) (xs : List X) (i : ℕ) (d : X) (a b c : List ℕ) → i < length xs → b ≡ a ++ flat_map f (take i xs) →
+    c ≡ b ++ f (get_or xs i d) → c ≡ a ++ flat_map f (take (i + 1) xs)
 next_bits f xs i d a b c h e g = joined a b c (flat_map f (take i xs)) (f (get_or xs i d)) e g ∙ ap (λ zs. a ++ zs) (sym (flat_map-next f xs i d h))
 
-pub next_room : {X : Type 0} (f : X → List ℕ) (xs : List X) (i : ℕ) (d : X) (p q r : ℕ) → i < length xs → q + length (flat_map f (take i xs)) ≡ p → r + length (f (get_or xs i d)) ≡ q → r + length (flat_map f (take (i + 1) xs)) ≡ p
+pub next_room : {X : Type 0} (f : X → List ℕ) (xs : List X) (i : ℕ) (d : X) (p q r : ℕ) → i < length xs → q + length (flat_map f (take i xs)) ≡ p →
+    r + length (f (get_or xs i d)) ≡ q → r + length (flat_map f (take (i + 1) xs)) ≡ p
 next_room f xs i d p q r h e g = omega (arith, ap length (flat_map-next f xs i d h), length-append (flat_map f (take i xs)) (f (get_or xs i d)))
 
-pub still_room : {X : Type 0} (f : X → List ℕ) (xs : List X) (i : ℕ) (d : X) (p q : ℕ) → i < length xs → length (flat_map f xs) ≤ p → q + length (flat_map f (take i xs)) ≡ p → length (f (get_or xs i d)) ≤ q
+pub still_room : {X : Type 0} (f : X → List ℕ) (xs : List X) (i : ℕ) (d : X) (p q : ℕ) → i < length xs → length (flat_map f xs) ≤ p →
+    q + length (flat_map f (take i xs)) ≡ p → length (f (get_or xs i d)) ≤ q
 still_room f xs i d p q h k e = omega (arith, length-flat_map-take f xs i d h)
 
 -- values plain, and residuals, one by one
@@ -50,6 +54,7 @@ pub bits_alone : (K : Kind) (vs : List ℤ) (s : Spelling) → is_alone K (lengt
 unfolding table_bits
 bits_alone K vs s alone = rw alone (append-nil (low_bits K.length_bits (length vs - 1)))
 
-pub bits_together : (K : Kind) (vs : List ℤ) (s : Spelling) → is_alone K (length vs) ≡ false → table_bits K vs s ≡ low_bits K.length_bits (length vs - 1) ++ body K vs s
+pub bits_together : (K : Kind) (vs : List ℤ) (s : Spelling) → is_alone K (length vs) ≡ false →
+    table_bits K vs s ≡ low_bits K.length_bits (length vs - 1) ++ body K vs s
 unfolding table_bits
 bits_together K vs s together = rw together refl

@@ -1,5 +1,6 @@
 -- The shortest spelling, found spelling by spelling.
-use Rattle.std.proofs.Common.{◌≡◌, ℕ, zero, suc, ◌+◌, ◌<◌, ◌≤◌, nat_lt, Bool, true, false, cond, List, [], ◌∷◌, ◌++◌, length, map, flat_map, refl, ap, ap₂, sym, ◌∙◌, arith, append-nil, add-one, ℤ, lt-ltb, le-ltb}
+use Rattle.std.proofs.Common.{◌≡◌, ℕ, zero, suc, ◌+◌, ◌<◌, ◌≤◌, nat_lt, Bool, true, false, cond, List, [], ◌∷◌, ◌++◌, length, map, flat_map, refl, ap}
+use Rattle.std.proofs.Common.{ap₂, sym, ◌∙◌, arith, append-nil, add-one, ℤ, lt-ltb, le-ltb}
 use Rattle.std.proofs.lemmas.List.FromFn.{map-range_with_len_more}
 use Rattle.std.proofs.lemmas.Grind.{flat_map-append}
 use Rattle.std.proofs.lemmas.List.Sums.{fold_push, fold-append}
@@ -21,7 +22,8 @@ pub chosen : (K : Kind) (vs : List ℤ) (best r : Chosen × ℕ) (method m n : �
     IsChoice K vs (spelled r.0) r.1 × (spelled r.0 ≡ shorter K vs (spelled best.0) (coded method m))
 chosen K vs best r method m n together h k enough choice long e = go (nat_lt n best.1) refl e
   where
-    go : (t : Bool) → nat_lt n best.1 ≡ t → r ≡ cond t (Coded method m, n) best → IsChoice K vs (spelled r.0) r.1 × (spelled r.0 ≡ shorter K vs (spelled best.0) (coded method m))
+    go : (t : Bool) → nat_lt n best.1 ≡ t → r ≡ cond t (Coded method m, n) best →
+        IsChoice K vs (spelled r.0) r.1 × (spelled r.0 ≡ shorter K vs (spelled best.0) (coded method m))
     go true test is =
         let suited : Suits K vs (coded method m) = (together, h, omega arith, k) in
         let taken = sym (ap₂ nat_lt long choice.long) ∙ test in
@@ -38,7 +40,8 @@ of_method-more K vs method m best s e =
     ∙ ap (fold (shorter K vs) best) (sym (map-range_with_len_more (λ i. coded method i) 0 m m (omega arith)))
 
 -- spellings that don't suit the table are passed over
-none_suits : (K : Kind) (vs : List ℤ) (best : Spelling) (list : List Spelling) → AllByRecursion (λ s. suits K vs s ≡ false) list → fold (shorter K vs) best list ≡ best
+none_suits : (K : Kind) (vs : List ℤ) (best : Spelling) (list : List Spelling) → AllByRecursion (λ s. suits K vs s ≡ false) list →
+    fold (shorter K vs) best list ≡ best
 none_suits K vs best [] h = refl
 none_suits K vs best (s ∷ list) h =
     let stays : shorter K vs best s ≡ best = rw h.0 refl in
@@ -54,7 +57,8 @@ too_short K vs method m h = go (is_alone K (length vs))
 pub none_of_method : (K : Kind) (vs : List ℤ) (method : ℕ) (best : Spelling) → length vs ≤ method → fold (shorter K vs) best (of_method method 8) ≡ best
 none_of_method K vs method best h =
     none_suits K vs best (of_method method 8)
-    (all_map (λ s. suits K vs s ≡ false) (λ m. coded method m) (range_with_len 0 8) (all_range (λ m. suits K vs (coded method m) ≡ false) 0 8 (λ m k. too_short K vs method m h)))
+    (all_map (λ s. suits K vs s ≡ false) (λ m. coded method m) (range_with_len 0 8)
+    (all_range (λ m. suits K vs (coded method m) ≡ false) 0 8 (λ m k. too_short K vs method m h)))
 
 pub plain_alone : (K : Kind) (vs : List ℤ) → is_alone K (length vs) ≡ true → shortest K vs ≡ plain
 unfolding shortest
@@ -62,7 +66,8 @@ plain_alone K vs alone =
     none_suits K vs plain coded_spellings
     (all_flat_map (λ s. suits K vs s ≡ false) (λ method. map (λ m. coded method m) (range_with_len 0 8)) (range_with_len 0 3)
     (all_range (λ method. AllByRecursion (λ s. suits K vs s ≡ false) (map (λ m. coded method m) (range_with_len 0 8))) 0 3
-    (λ method h. all_map (λ s. suits K vs s ≡ false) (λ m. coded method m) (range_with_len 0 8) (all_range (λ m. suits K vs (coded method m) ≡ false) 0 8 (λ m k. rw alone refl)))))
+    (λ method h. all_map (λ s. suits K vs s ≡ false) (λ m. coded method m) (range_with_len 0 8)
+    (all_range (λ m. suits K vs (coded method m) ≡ false) 0 8 (λ m k. rw alone refl)))))
 
 range-more : (a n : ℕ) → range_with_len a (suc n) ≡ range_with_len a n ++ (a + n) ∷ []
 range-more a zero = ap (λ i. i ∷ []) (omega arith)

@@ -1,5 +1,6 @@
 -- How reading goes on behind a part that was read.
-use Rattle.std.proofs.Common.{◌≡◌, ℕ, suc, ◌+◌, ◌-◌, ◌<◌, ◌≤◌, List, [], ◌∷◌, ◌++◌, length, reverse, refl, ap, sym, ◌∙◌, arith, append_assoc, append-nil, length-append, drop, ℤ, ◌-ℤ◌, Some, None, Result, Ok, Err}
+use Rattle.std.proofs.Common.{◌≡◌, ℕ, suc, ◌+◌, ◌-◌, ◌<◌, ◌≤◌, List, [], ◌∷◌, ◌++◌, length, reverse, refl, ap, sym, ◌∙◌, arith, append_assoc}
+use Rattle.std.proofs.Common.{append-nil, length-append, drop, ℤ, ◌-ℤ◌, Some, None, Result, Ok, Err}
 use Rattle.std.proofs.lemmas.List.{reverse-append}
 use Rattle.dst_spec.specs.Table.{Kind, eighth}
 use Rattle.dst_spec.specs.Fields.{Fields, gives, ◌>>=◌, read, residual_length, residual_value}
@@ -12,7 +13,8 @@ use Rattle.table_code.proofs.FieldSteps.{residual_passed, residual_cut, residual
 use Rattle.table_code.specs.Parts.{later_field, plain_rest, later_rest}
 use Rattle.dst_spec.proofs.Meaning.{read-gives}
 
-pub read-then : {A B : Type 0} (m : Fields A) (f : A → Fields B) (xs ys : List ℕ) (p q : ℕ) (x : A) → read m xs p ≡ Ok (x, ys, q) → read (m >>= f) xs p ≡ read (f x) ys q
+pub read-then : {A B : Type 0} (m : Fields A) (f : A → Fields B) (xs ys : List ℕ) (p q : ℕ) (x : A) → read m xs p ≡ Ok (x, ys, q) →
+    read (m >>= f) xs p ≡ read (f x) ys q
 read-then m f xs ys p q x e = read-bind m f xs p ∙ ap (onward f) e
 
 pub read-stops : {A B : Type 0} (m : Fields A) (f : A → Fields B) (xs : List ℕ) (p : ℕ) (t : FrameFault) → read m xs p ≡ Err t → read (m >>= f) xs p ≡ Err t
@@ -37,7 +39,8 @@ left_over : (count : ℕ) (front : List ℤ) (v : ℤ) → length front < count 
 left_over count front v h = omega (arith, length-append front (v ∷ []))
 
 -- a value plain
-pub plain_next : (K : Kind) (count : ℕ) (front : List ℤ) (v : ℤ) (xs ys : List ℕ) (p q : ℕ) → length front < count → read (plain_fields K) xs p ≡ Ok (v, ys, q) →
+pub plain_next : (K : Kind) (count : ℕ) (front : List ℤ) (v : ℤ) (xs ys : List ℕ) (p q : ℕ) → length front < count →
+    read (plain_fields K) xs p ≡ Ok (v, ys, q) →
     read (plain_rest K count front) xs p ≡ read (plain_rest K count (front ++ v ∷ [])) ys q
 unfolding times
 plain_next K count front v xs ys p q h e =
@@ -75,7 +78,8 @@ plain_begins K count xs p =
     ∙ read-bind (times count (plain_fields K)) (λ vs. gives ([] ++ vs)) xs p ∙ same_again (read (times count (plain_fields K)) xs p)
 
 -- a value by its residual
-pub later_next : (K : Kind) (weights : List ℤ) (m count : ℕ) (front : List ℤ) (v : ℤ) (xs ys : List ℕ) (p q : ℕ) → length front < count → read (later_field K weights m (reverse front)) xs p ≡ Ok (v, ys, q) →
+pub later_next : (K : Kind) (weights : List ℤ) (m count : ℕ) (front : List ℤ) (v : ℤ) (xs ys : List ℕ) (p q : ℕ) → length front < count →
+    read (later_field K weights m (reverse front)) xs p ≡ Ok (v, ys, q) →
     read (later_rest K weights m count front) xs p ≡ read (later_rest K weights m count (front ++ v ∷ [])) ys q
 unfolding later_fields
 later_next K weights m count front v xs ys p q h e =
@@ -87,7 +91,8 @@ later_next K weights m count front v xs ys p q h e =
     ∙ regrouped (later_fields K weights m n (v ∷ reverse front)) front v ys q
     ∙ ap (λ es. read (later_fields K weights m n es >>= (λ vs. gives ((front ++ v ∷ []) ++ vs))) ys q) earlier
 
-pub later_stops : (K : Kind) (weights : List ℤ) (m count : ℕ) (front : List ℤ) (xs : List ℕ) (p : ℕ) (t : FrameFault) → length front < count → read (later_field K weights m (reverse front)) xs p ≡ Err t →
+pub later_stops : (K : Kind) (weights : List ℤ) (m count : ℕ) (front : List ℤ) (xs : List ℕ) (p : ℕ) (t : FrameFault) → length front < count →
+    read (later_field K weights m (reverse front)) xs p ≡ Err t →
     read (later_rest K weights m count front) xs p ≡ Err t
 unfolding later_fields
 later_stops K weights m count front xs p t h e =
@@ -97,24 +102,31 @@ later_stops K weights m count front xs p t h e =
     ap (λ k. read (later_fields K weights m k (reverse front) >>= (λ vs. gives (front ++ vs))) xs p) more
     ∙ read-stops (later_field K weights m (reverse front)) rest xs p t e
 
-pub later_ends : (K : Kind) (weights : List ℤ) (m count : ℕ) (front : List ℤ) (xs : List ℕ) (p : ℕ) → length front ≡ count → read (later_rest K weights m count front) xs p ≡ Ok (front, xs, p)
+pub later_ends : (K : Kind) (weights : List ℤ) (m count : ℕ) (front : List ℤ) (xs : List ℕ) (p : ℕ) → length front ≡ count →
+    read (later_rest K weights m count front) xs p ≡ Ok (front, xs, p)
 unfolding later_fields read
 later_ends K weights m count front xs p e =
     let none : count - length front ≡ 0 = omega arith in
     ap (λ k. read (later_fields K weights m k (reverse front) >>= (λ vs. gives (front ++ vs))) xs p) none ∙ ap (λ vs. Ok (vs, xs, p)) (append-nil front)
 
 -- a value by its residual: given, cut short, or out of range
-pub later_given : (K : Kind) (weights : List ℤ) (m : ℕ) (earlier : List ℤ) (xs : List ℕ) (p : ℕ) (r v : ℤ) → residual_length m xs ≤ length xs → r ≡ residual_value m xs → v ≡ r -ℤ eighth weights earlier → range_rule K v ≡ None →
+pub later_given : (K : Kind) (weights : List ℤ) (m : ℕ) (earlier : List ℤ) (xs : List ℕ) (p : ℕ) (r v : ℤ) → residual_length m xs ≤ length xs →
+    r ≡ residual_value m xs → v ≡ r -ℤ eighth weights earlier → range_rule K v ≡ None →
     read (later_field K weights m earlier) xs p ≡ Ok (v, drop (residual_length m xs) xs, p + residual_length m xs)
 later_given K weights m earlier xs p r v enough value is keeps =
-    residual_passed m (λ s. range_rule K (s -ℤ eighth weights earlier)) (λ s. gives (s -ℤ eighth weights earlier)) xs p r enough value (ap (range_rule K) (sym is) ∙ keeps)
+    residual_passed m (λ s. range_rule K (s -ℤ eighth weights earlier)) (λ s. gives (s -ℤ eighth weights earlier)) xs p r enough value
+    (ap (range_rule K) (sym is) ∙ keeps)
     ∙ read-gives (r -ℤ eighth weights earlier) (drop (residual_length m xs) xs) (p + residual_length m xs)
     ∙ ap (λ s. Ok (s, drop (residual_length m xs) xs, p + residual_length m xs)) (sym is)
 
-pub later_cut : (K : Kind) (weights : List ℤ) (m : ℕ) (earlier : List ℤ) (xs : List ℕ) (p : ℕ) → length xs < residual_length m xs → read (later_field K weights m earlier) xs p ≡ Err (record { reason = Truncated; bit = p })
-later_cut K weights m earlier xs p short = residual_cut m (λ s. range_rule K (s -ℤ eighth weights earlier)) (λ s. gives (s -ℤ eighth weights earlier)) xs p short
+pub later_cut : (K : Kind) (weights : List ℤ) (m : ℕ) (earlier : List ℤ) (xs : List ℕ) (p : ℕ) → length xs < residual_length m xs →
+    read (later_field K weights m earlier) xs p ≡ Err (record { reason = Truncated; bit = p })
+later_cut K weights m earlier xs p short = residual_cut m (λ s. range_rule K (s -ℤ eighth weights earlier))
+    (λ s. gives (s -ℤ eighth weights earlier)) xs p short
 
-pub later_refused : (K : Kind) (weights : List ℤ) (m : ℕ) (earlier : List ℤ) (xs : List ℕ) (p : ℕ) (r v : ℤ) (reason : Reason) → residual_length m xs ≤ length xs → r ≡ residual_value m xs → v ≡ r -ℤ eighth weights earlier → range_rule K v ≡ Some reason →
+pub later_refused : (K : Kind) (weights : List ℤ) (m : ℕ) (earlier : List ℤ) (xs : List ℕ) (p : ℕ) (r v : ℤ) (reason : Reason) →
+    residual_length m xs ≤ length xs → r ≡ residual_value m xs → v ≡ r -ℤ eighth weights earlier → range_rule K v ≡ Some reason →
     read (later_field K weights m earlier) xs p ≡ Err (record { reason = reason; bit = p })
 later_refused K weights m earlier xs p r v reason enough value is breaks =
-    residual_broken m (λ s. range_rule K (s -ℤ eighth weights earlier)) (λ s. gives (s -ℤ eighth weights earlier)) xs p r reason enough value (ap (range_rule K) (sym is) ∙ breaks)
+    residual_broken m (λ s. range_rule K (s -ℤ eighth weights earlier)) (λ s. gives (s -ℤ eighth weights earlier)) xs p r reason enough value
+    (ap (range_rule K) (sym is) ∙ breaks)

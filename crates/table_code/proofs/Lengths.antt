@@ -1,5 +1,7 @@
 -- How many bits spellings take.
-use Rattle.std.proofs.Common.{◌≡◌, ℕ, zero, suc, ◌+◌, ◌-◌, ◌*◌, ◌^◌, ◌<◌, ◌≤◌, Bool, true, false, cond, List, [], ◌∷◌, ◌++◌, length, get_or, take, drop, reverse, refl, ap, ap₂, sym, ◌∙◌, arith, length-append, length-take-le, drop-cons, add-one, ℤ, pos, negsuc, ◌+ℤ◌, ◌-ℤ◌, nat_abs}
+use Rattle.std.proofs.Common.{◌≡◌, ℕ, zero, suc, ◌+◌, ◌-◌, ◌*◌, ◌^◌, ◌<◌, ◌≤◌, Bool, true, false, cond, List, [], ◌∷◌, ◌++◌, length, get_or, take}
+use Rattle.std.proofs.Common.{drop, reverse, refl, ap, ap₂, sym, ◌∙◌, arith, length-append, length-take-le, drop-cons, add-one, ℤ, pos, negsuc, ◌+ℤ◌}
+use Rattle.std.proofs.Common.{◌-ℤ◌, nat_abs}
 use Rattle.std.proofs.lemmas.Int.{ints}
 use Rattle.std.proofs.lemmas.Nat.{shr_le}
 use Rattle.std.proofs.lemmas.List.{take_more, reverse-append}
@@ -34,12 +36,18 @@ residuals_next ws vs j r h e =
     ap (residuals ws (reverse (take j vs))) front
     ∙ ap₂ (λ x xs. x ∷ xs) (sym e) (ap₂ (residuals ws) (sym more) (ap (λ i. drop i vs) (sym (add-one j))))
 
-pub length-later : (ws : List ℤ) (m : ℕ) (earlier vs : List ℤ) → length (later_values ws m earlier vs) ≡ sum_by (λ r. length (rice r m)) (residuals ws earlier vs)
+pub length-later : (ws : List ℤ) (m : ℕ) (earlier vs : List ℤ) →
+    length (later_values ws m earlier vs) ≡ sum_by (λ r. length (rice r m)) (residuals ws earlier vs)
 unfolding later_values
 length-later ws m earlier [] = refl
 length-later ws m earlier (v ∷ vs) =
     let r = v +ℤ eighth ws earlier in
-    omega (arith, length-append (rice r m) (later_values ws m (v ∷ earlier) vs), length-later ws m (v ∷ earlier) vs, sum_by-cons (λ s. length (rice s m)) r (residuals ws (v ∷ earlier) vs))
+    omega (
+      arith,
+      length-append (rice r m) (later_values ws m (v ∷ earlier) vs),
+      length-later ws m (v ∷ earlier) vs,
+      sum_by-cons (λ s. length (rice s m)) r (residuals ws (v ∷ earlier) vs),
+    )
 
 length-signed_bits : (n : ℕ) (v : ℤ) → length (signed_bits n v) ≡ n
 length-signed_bits n (pos x) = length-low_bits n x
@@ -73,7 +81,8 @@ pub length-plain : (K : Kind) (vs : List ℤ) → is_alone K (length vs) ≡ fal
 length-plain K vs together = omega (arith, length-table K vs plain together, length-plain_values K vs)
 
 pub length-coded_body : (K : Kind) (vs : List ℤ) (method m : ℕ) →
-    length (body K vs (coded method m)) ≡ 6 + length (plain_values K (take (method + 1) vs)) + length (later_values (K.weights method) m (reverse (take (method + 1) vs)) (drop (method + 1) vs))
+    length (body K vs (coded method m)) ≡ 6 + length (plain_values K (take (method + 1) vs)) + length
+    (later_values (K.weights method) m (reverse (take (method + 1) vs)) (drop (method + 1) vs))
 length-coded_body K vs method m =
     let first = take (method + 1) vs in
     let later = later_values (K.weights method) m (reverse first) (drop (method + 1) vs) in
@@ -88,12 +97,19 @@ length-coded_body K vs method m =
 
 pub length-coded : (K : Kind) (vs : List ℤ) (method m : ℕ) → is_alone K (length vs) ≡ false → method < length vs →
     length (table_bits K vs (coded method m))
-    ≡ K.length_bits + 6 + (method + 1) * K.value_bits + sum_by (λ r. length (rice r m)) (residuals (K.weights method) (reverse (take (method + 1) vs)) (drop (method + 1) vs))
+    ≡ K.length_bits + 6 + (method + 1) * K.value_bits + sum_by (λ r. length (rice r m))
+    (residuals (K.weights method) (reverse (take (method + 1) vs)) (drop (method + 1) vs))
 length-coded K vs method m together h =
     let first = take (method + 1) vs in
     let long : length first ≡ method + 1 = length-take-le (method + 1) vs (omega arith) in
     let values : length (plain_values K first) ≡ (method + 1) * K.value_bits = length-plain_values K first ∙ ap (λ n. n * K.value_bits) long in
-    omega (arith, length-table K vs (coded method m) together, values, length-later (K.weights method) m (reverse first) (drop (method + 1) vs), length-coded_body K vs method m)
+    omega (
+      arith,
+      length-table K vs (coded method m) together,
+      values,
+      length-later (K.weights method) m (reverse first) (drop (method + 1) vs),
+      length-coded_body K vs method m,
+    )
 
 -- at least its length field
 pub length-least : (K : Kind) (vs : List ℤ) (s : Spelling) → K.length_bits ≤ length (table_bits K vs s)

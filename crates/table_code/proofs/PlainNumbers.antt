@@ -1,5 +1,6 @@
 -- The value that a plain number spells.
-use Rattle.std.proofs.Common.{◌≡◌, ℕ, ◌-◌, ◌^◌, ◌<◌, ◌≤◌, nat_lt, Bool, true, false, ℤ, pos, negsuc, ◌+ℤ◌, ◌-ℤ◌, ◌≤ℤ◌, ◌<ℤ◌, refl, ap, sym, ◌∙◌, arith, le-ltb, lt-ltb, ltb-true, ltb-false}
+use Rattle.std.proofs.Common.{◌≡◌, ℕ, ◌-◌, ◌^◌, ◌<◌, ◌≤◌, nat_lt, Bool, true, false, ℤ, pos, negsuc, ◌+ℤ◌, ◌-ℤ◌, ◌≤ℤ◌, ◌<ℤ◌, refl, ap, sym, ◌∙◌}
+use Rattle.std.proofs.Common.{arith, le-ltb, lt-ltb, ltb-true, ltb-false}
 use Rattle.std.proofs.lemmas.Int.{ints}
 use mir.Val.{SFits, to_z, of_z}
 use mir.Syntax.{w32}
@@ -59,7 +60,8 @@ number_low K v law h least some = go (number_of K v law h)
             let is : pos p.0 -ℤ pos (2 ^ K.value_bits) ≡ v = sym (value_high K p.0 least (ltb-false p.0 (2 ^ (K.value_bits - 1)) e)) ∙ p.2 in
             absurd (omega (arith, ints, p.1.below))
 
-pub number_high : (K : Kind) (v : ℤ) → HasPlainValues K → InRange K v → K.least <ℤ pos 0 → v <ℤ pos 0 → (x : ℕ) × IsNumber K v x × (v +ℤ pos (2 ^ K.value_bits) ≡ pos x)
+pub number_high : (K : Kind) (v : ℤ) → HasPlainValues K → InRange K v → K.least <ℤ pos 0 → v <ℤ pos 0 →
+    (x : ℕ) × IsNumber K v x × (v +ℤ pos (2 ^ K.value_bits) ≡ pos x)
 number_high K v law h least some = go (number_of K v law h)
   where
     go : (x : ℕ) × IsNumber K v x × (value_of K x ≡ v) → (x : ℕ) × IsNumber K v x × (v +ℤ pos (2 ^ K.value_bits) ≡ pos x)
@@ -77,5 +79,6 @@ number_high K v law h least some = go (number_of K v law h)
 pub moved_up : (v : ℤ) (n x : ℕ) → SFits w32 v → n ≤ 512 → x < n → v +ℤ pos n ≡ pos x → to_z w32 (of_z w32 (to_z w32 (of_z w32 v) +ℤ to_z w32 n)) ≡ pos x
 moved_up v n x fits few below e = omega (arith, ints)
 
-pub moved_down : (v l : ℤ) (x : ℕ) → SFits w32 v → SFits w32 l → x < 512 → v -ℤ l ≡ pos x → to_z w32 (of_z w32 (to_z w32 (of_z w32 v) -ℤ to_z w32 (of_z w32 l))) ≡ pos x
+pub moved_down : (v l : ℤ) (x : ℕ) → SFits w32 v → SFits w32 l → x < 512 → v -ℤ l ≡ pos x →
+    to_z w32 (of_z w32 (to_z w32 (of_z w32 v) -ℤ to_z w32 (of_z w32 l))) ≡ pos x
 moved_down v l x fits fits_l below e = omega (arith, ints)

@@ -1,5 +1,7 @@
 -- What a residual is, part by part as it is read.
-use Rattle.std.proofs.Common.{◌≡◌, ℕ, zero, suc, ◌+◌, ◌-◌, ◌*◌, ◌/◌, ◌%◌, ◌^◌, ◌<◌, ◌≤◌, ◌==◌, Bool, true, false, cond, List, ◌∷◌, ◌++◌, length, drop, get_or, refl, ap, sym, ◌∙◌, arith, length-append, length-drop, drop-drop, get_or-drop, ℤ, pos, negsuc, neg_ℤ, if◌then◌else◌, not, ne_eqb, nat_abs, replicate, append_assoc, ap₂, add-one, ◌<ℤ◌}
+use Rattle.std.proofs.Common.{◌≡◌, ℕ, zero, suc, ◌+◌, ◌-◌, ◌*◌, ◌/◌, ◌%◌, ◌^◌, ◌<◌, ◌≤◌, ◌==◌, Bool, true, false, cond, List, ◌∷◌, ◌++◌, length, drop}
+use Rattle.std.proofs.Common.{get_or, refl, ap, sym, ◌∙◌, arith, length-append, length-drop, drop-drop, get_or-drop, ℤ, pos, negsuc, neg_ℤ}
+use Rattle.std.proofs.Common.{if◌then◌else◌, not, ne_eqb, nat_abs, replicate, append_assoc, ap₂, add-one, ◌<ℤ◌}
 use Rattle.std.proofs.lemmas.Int.{ints}
 use Rattle.std.proofs.lemmas.Nat.{pow_pos, shr_high, shr_split}
 use mir.Val.{bool_byte}
@@ -46,7 +48,8 @@ size_of xs m q low rest f =
     let same : low ≡ number_from xs (q + 1) m = f.value ∙ number_from-drop xs (q + 1) 0 m ∙ ap (λ i. number_from xs i m) place in
     rw (sym f.run, same) refl
 
-whole : (xs : List ℕ) (m n : ℕ) (r : ℤ) (rest : List ℕ) → AreBits xs → residual_length m xs ≡ n → n ≤ length xs → r ≡ residual_value m xs → rest ≡ drop n xs → IsResidual xs m n r rest
+whole : (xs : List ℕ) (m n : ℕ) (r : ℤ) (rest : List ℕ) → AreBits xs → residual_length m xs ≡ n → n ≤ length xs → r ≡ residual_value m xs →
+    rest ≡ drop n xs → IsResidual xs m n r rest
 whole xs m n r rest bits long enough value behind =
     let front = front-rice m xs bits (omega arith) in
     let same : drop (residual_length m xs) xs ≡ rest = ap (λ k. drop k xs) long ∙ sym behind in
@@ -63,8 +66,10 @@ either_zero true = refl
 either_zero false = refl
 
 -- behind its low bits stands its sign, which a residual of size 0 doesn't have
-pub signed_residual : (xs : List ℕ) (m q low size sign n : ℕ) (zs rest : List ℕ) (r : ℤ) → IsFront xs m q low zs → q * 2 ^ m + low ≡ size → n ≡ sign_length size →
-    n ≤ length zs → sign ≡ number_from zs 0 n → rest ≡ drop n zs → r ≡ (if sign == 0 then pos size else neg_ℤ (pos size)) → IsResidual xs m (q + 1 + m + n) r rest
+pub signed_residual : (xs : List ℕ) (m q low size sign n : ℕ) (zs rest : List ℕ) (r : ℤ) → IsFront xs m q low zs → q * 2 ^ m + low ≡ size →
+    n ≡ sign_length size →
+    n ≤ length zs → sign ≡ number_from zs 0 n → rest ≡ drop n zs → r ≡ (if sign == 0 then pos size else neg_ℤ (pos size)) →
+    IsResidual xs m (q + 1 + m + n) r rest
 unfolding number_from
 signed_residual xs m q low size sign n zs rest r f is long there value behind signed =
     let same : residual_size m xs ≡ size = size_of xs m q low zs f ∙ is in
@@ -102,7 +107,8 @@ no_low_bits xs a ys m q same run one behind short =
     omega arith
 
 -- it is cut in its sign
-pub no_sign : (xs : List ℕ) (m q low n : ℕ) (zs : List ℕ) → IsFront xs m q low zs → n ≡ sign_length (q * 2 ^ m + low) → length zs < n → length xs < residual_length m xs
+pub no_sign : (xs : List ℕ) (m q low n : ℕ) (zs : List ℕ) → IsFront xs m q low zs → n ≡ sign_length (q * 2 ^ m + low) → length zs < n →
+    length xs < residual_length m xs
 no_sign xs m q low n zs f long short =
     let same : sign_length (residual_size m xs) ≡ n = ap sign_length (size_of xs m q low zs f) ∙ sym long in
     let run = f.run in
@@ -126,7 +132,8 @@ one_with_low_bits m a =
     rw (add-one, more, top, low) refl
 
 -- zeros, a one with the low bits, and the sign
-pub rice_in_parts : (xs ys zs ws : List ℕ) (r : ℤ) (m : ℕ) → ys ≡ xs ++ replicate (nat_abs r / 2 ^ m) 0 → zs ≡ ys ++ low_bits (m + 1) (2 ^ m + nat_abs r % 2 ^ m) → ws ≡ zs ++ sign_bits r →
+pub rice_in_parts : (xs ys zs ws : List ℕ) (r : ℤ) (m : ℕ) → ys ≡ xs ++ replicate (nat_abs r / 2 ^ m) 0 →
+    zs ≡ ys ++ low_bits (m + 1) (2 ^ m + nat_abs r % 2 ^ m) → ws ≡ zs ++ sign_bits r →
     ws ≡ xs ++ rice r m
 rice_in_parts xs ys zs ws r m e f g =
     let a = nat_abs r in

@@ -1,5 +1,6 @@
 -- Zeros in front of the first one, by a number of some of the bits.
-use Rattle.std.proofs.Common.{◌≡◌, ◌≢◌, ℕ, zero, suc, ◌+◌, ◌-◌, ◌*◌, ◌^◌, ◌<◌, ◌≤◌, min, List, [], ◌∷◌, length, length-drop, drop, refl, ap, sym, subst, ◌∙◌, arith}
+use Rattle.std.proofs.Common.{◌≡◌, ◌≢◌, ℕ, zero, suc, ◌+◌, ◌-◌, ◌*◌, ◌^◌, ◌<◌, ◌≤◌, min, List, [], ◌∷◌, length, length-drop, drop, refl, ap, sym}
+use Rattle.std.proofs.Common.{subst, ◌∙◌, arith}
 use Rattle.std.proofs.Math.Pow.{pow_mono}
 use Rattle.std.proofs.lemmas.Nat.{pow_pos, leading_top, mul-le}
 use lib.Count.{count_leading_zeros}
@@ -22,7 +23,8 @@ run_past_zeros (zero ∷ xs) (suc n) e =
     omega arith
 
 -- the place of the first one by the place of the highest digit
-pub run_by_top : (xs : List ℕ) (n z j : ℕ) → AreBits xs → z + suc j ≡ n → 2 ^ j ≤ number_from xs 0 n → number_from xs 0 n < 2 ^ suc j → (zero_run xs ≡ z) × (z < length xs)
+pub run_by_top : (xs : List ℕ) (n z j : ℕ) → AreBits xs → z + suc j ≡ n → 2 ^ j ≤ number_from xs 0 n → number_from xs 0 n < 2 ^ suc j →
+    (zero_run xs ≡ z) × (z < length xs)
 run_by_top [] n z j bits e h k = absurd (omega (arith, number_from-past [] 0 n (omega arith), pow_pos j))
 run_by_top (x ∷ xs) zero z j bits e h k = absurd (omega arith)
 run_by_top (zero ∷ xs) (suc n) zero j bits e h k =

@@ -1,5 +1,6 @@
 -- What is read as a table spells it, for each kind by its laws.
-use Rattle.std.proofs.Common.{◌≡◌, ℕ, ◌+◌, ◌-◌, ◌^◌, ◌<◌, Bool, true, false, cond, nat_lt, List, [], ◌∷◌, ◌++◌, length, refl, ap, sym, ◌∙◌, arith, append-nil, ℤ, pos, negsuc, ◌+ℤ◌, ◌-ℤ◌, nat_abs, Ok, if◌then◌else◌}
+use Rattle.std.proofs.Common.{◌≡◌, ℕ, ◌+◌, ◌-◌, ◌^◌, ◌<◌, Bool, true, false, cond, nat_lt, List, [], ◌∷◌, ◌++◌, length, refl, ap, sym, ◌∙◌, arith}
+use Rattle.std.proofs.Common.{append-nil, ℤ, pos, negsuc, ◌+ℤ◌, ◌-ℤ◌, nat_abs, Ok, if◌then◌else◌}
 use Rattle.std.proofs.lemmas.Int.{ints}
 use Rattle.std.proofs.lemmas.Nat.{pow_pos}
 use Rattle.std.specs.Int.{is_negative}
@@ -28,7 +29,8 @@ signed_again n x h = go (nat_lt x (2 ^ (n - 1)))
 pub plain_value-value_of : (K : Kind) (x : ℕ) → x < 2 ^ K.value_bits → plain_value K (value_of K x) ≡ low_bits K.value_bits x
 plain_value-value_of K x h = go (is_negative K.least)
   where
-    go : (b : Bool) → (if b then signed_bits K.value_bits (cond b (signed_value K.value_bits x) (pos x +ℤ K.least)) else low_bits K.value_bits (nat_abs (cond b (signed_value K.value_bits x) (pos x +ℤ K.least) -ℤ K.least))) ≡ low_bits K.value_bits x
+    go : (b : Bool) → (if b then signed_bits K.value_bits (cond b (signed_value K.value_bits x) (pos x +ℤ K.least)) else low_bits K.value_bits
+        (nat_abs (cond b (signed_value K.value_bits x) (pos x +ℤ K.least) -ℤ K.least))) ≡ low_bits K.value_bits x
     go true = signed_again K.value_bits x h
     go false =
         let same : pos x +ℤ K.least -ℤ K.least ≡ pos x = omega (arith, ints) in
@@ -53,7 +55,8 @@ pub table_spelled : (K : Kind) (xs ys : List ℕ) (p q : ℕ) (vs : List ℤ) �
     (w : List ℕ) × HasTable K vs w × (xs ≡ w ++ ys) × (q ≡ p + length w)
 unfolding times HasTables
 table_spelled K xs ys p q vs law bits e =
-    let one : read (times 1 (table_fields K)) xs p ≡ Ok (vs ∷ [], ys, q) = read-then (table_fields K) (λ v. gives (v ∷ [])) xs ys p q vs e ∙ read-gives (vs ∷ []) ys q in
+    let one : read (times 1 (table_fields K)) xs p ≡ Ok (vs ∷ [], ys, q) = read-then (table_fields K) (λ v. gives (v ∷ [])) xs ys p q vs e
+    ∙ read-gives (vs ∷ []) ys q in
     let t = Takes-tables K 1 (is_kind K law) (greatest_in_range K law) xs p (vs ∷ [], ys, q) bits one in
     let h = t.related.1 in
     let whole : t.bits ≡ h.0 = h.4 ∙ ap (λ zs. h.0 ++ zs) h.3 ∙ append-nil h.0 in

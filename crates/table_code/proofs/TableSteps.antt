@@ -18,21 +18,25 @@ behind_first K count method first = number 3 >>= behind_m K count method first
 abbrev pub behind_method : Kind → ℕ → ℕ → Fields (List ℤ)
 behind_method K count method = times (method + 1) (plain_fields K) >>= behind_first K count method
 
-pub method_stops : (K : Kind) (count : ℕ) (xs : List ℕ) (p : ℕ) (t : FrameFault) → read (field 2 (method_rule count) gives) xs p ≡ Err t → read (coded_fields K count) xs p ≡ Err t
+pub method_stops : (K : Kind) (count : ℕ) (xs : List ℕ) (p : ℕ) (t : FrameFault) → read (field 2 (method_rule count) gives) xs p ≡ Err t →
+    read (coded_fields K count) xs p ≡ Err t
 method_stops K count xs p t e = read-stops (field 2 (method_rule count) gives) (behind_method K count) xs p t e
 
 pub method_then : (K : Kind) (count method : ℕ) (xs ys : List ℕ) (p q : ℕ) → read (field 2 (method_rule count) gives) xs p ≡ Ok (method, ys, q) →
     read (coded_fields K count) xs p ≡ read (behind_method K count method) ys q
 method_then K count method xs ys p q e = read-then (field 2 (method_rule count) gives) (behind_method K count) xs ys p q method e
 
-pub first_stops : (K : Kind) (count method : ℕ) (xs : List ℕ) (p : ℕ) (t : FrameFault) → read (times (method + 1) (plain_fields K)) xs p ≡ Err t → read (behind_method K count method) xs p ≡ Err t
+pub first_stops : (K : Kind) (count method : ℕ) (xs : List ℕ) (p : ℕ) (t : FrameFault) → read (times (method + 1) (plain_fields K)) xs p ≡ Err t →
+    read (behind_method K count method) xs p ≡ Err t
 first_stops K count method xs p t e = read-stops (times (method + 1) (plain_fields K)) (behind_first K count method) xs p t e
 
-pub first_then : (K : Kind) (count method : ℕ) (first : List ℤ) (xs ys : List ℕ) (p q : ℕ) → read (times (method + 1) (plain_fields K)) xs p ≡ Ok (first, ys, q) →
+pub first_then : (K : Kind) (count method : ℕ) (first : List ℤ) (xs ys : List ℕ) (p q : ℕ) →
+    read (times (method + 1) (plain_fields K)) xs p ≡ Ok (first, ys, q) →
     read (behind_method K count method) xs p ≡ read (behind_first K count method first) ys q
 first_then K count method first xs ys p q e = read-then (times (method + 1) (plain_fields K)) (behind_first K count method) xs ys p q first e
 
-pub m_stops : (K : Kind) (count method : ℕ) (first : List ℤ) (xs : List ℕ) (p : ℕ) (t : FrameFault) → read (number 3) xs p ≡ Err t → read (behind_first K count method first) xs p ≡ Err t
+pub m_stops : (K : Kind) (count method : ℕ) (first : List ℤ) (xs : List ℕ) (p : ℕ) (t : FrameFault) → read (number 3) xs p ≡ Err t →
+    read (behind_first K count method first) xs p ≡ Err t
 m_stops K count method first xs p t e = read-stops (number 3) (behind_m K count method first) xs p t e
 
 pub m_then : (K : Kind) (count method m : ℕ) (first : List ℤ) (xs ys : List ℕ) (p q : ℕ) → length first ≡ method + 1 → read (number 3) xs p ≡ Ok (m, ys, q) →
@@ -70,11 +74,13 @@ behind_bit K count x = if x == 0 then times count (plain_fields K) else coded_fi
 pub bit_stops : (K : Kind) (count : ℕ) (xs : List ℕ) (p : ℕ) (t : FrameFault) → read (number 1) xs p ≡ Err t → read (body_fields K count) xs p ≡ Err t
 bit_stops K count xs p t e = read-stops (number 1) (behind_bit K count) xs p t e
 
-pub bit_0_then : (K : Kind) (count x : ℕ) (xs ys : List ℕ) (p q : ℕ) → read (number 1) xs p ≡ Ok (x, ys, q) → x ≡ 0 → read (body_fields K count) xs p ≡ read (times count (plain_fields K)) ys q
+pub bit_0_then : (K : Kind) (count x : ℕ) (xs ys : List ℕ) (p q : ℕ) → read (number 1) xs p ≡ Ok (x, ys, q) → x ≡ 0 →
+    read (body_fields K count) xs p ≡ read (times count (plain_fields K)) ys q
 bit_0_then K count x xs ys p q e zero_is =
     read-then (number 1) (behind_bit K count) xs ys p q x e ∙ ap (λ y. read (behind_bit K count y) ys q) zero_is
 
-pub bit_1_then : (K : Kind) (count x : ℕ) (xs ys : List ℕ) (p q : ℕ) → read (number 1) xs p ≡ Ok (x, ys, q) → x ≢ 0 → read (body_fields K count) xs p ≡ read (coded_fields K count) ys q
+pub bit_1_then : (K : Kind) (count x : ℕ) (xs ys : List ℕ) (p q : ℕ) → read (number 1) xs p ≡ Ok (x, ys, q) → x ≢ 0 →
+    read (body_fields K count) xs p ≡ read (coded_fields K count) ys q
 bit_1_then K count x xs ys p q e some =
     read-then (number 1) (behind_bit K count) xs ys p q x e
     ∙ ap (λ b. read (if b then times count (plain_fields K) else coded_fields K count) ys q) (ne_eqb x 0 some)

@@ -1,5 +1,6 @@
 -- How large weighted sums of values are, and how they go on.
-use Rattle.std.proofs.Common.{◌≡◌, ℕ, zero, suc, ◌+◌, ◌-◌, ◌*◌, ◌/◌, ◌<◌, ◌≤◌, List, [], ◌∷◌, length, get_or, drop, reverse, refl, ap, ap₂, sym, subst, ◌∙◌, arith, drop-cons, add-one, ℤ, pos, negsuc, neg_ℤ, ◌+ℤ◌, ◌*ℤ◌, ◌≤ℤ◌, nat_abs}
+use Rattle.std.proofs.Common.{◌≡◌, ℕ, zero, suc, ◌+◌, ◌-◌, ◌*◌, ◌/◌, ◌<◌, ◌≤◌, List, [], ◌∷◌, length, get_or, drop, reverse, refl, ap, ap₂, sym}
+use Rattle.std.proofs.Common.{subst, ◌∙◌, arith, drop-cons, add-one, ℤ, pos, negsuc, neg_ℤ, ◌+ℤ◌, ◌*ℤ◌, ◌≤ℤ◌, nat_abs}
 use Rattle.std.proofs.lemmas.Int.{ints, unsigned_abs-mul}
 use Rattle.std.proofs.lemmas.Nat.{mul-le}
 use Rattle.std.proofs.lemmas.List.{length-reverse, get_or-reverse}
@@ -80,14 +81,16 @@ value_is_small K vs j d s each h = small_value K (get_or vs j d) s (get_all (InR
 
 -- one weight more
 pub weighted_next : (ws vs : List ℤ) (k : ℕ) → k < length ws → k < length vs →
-    weighted (drop k ws) (drop k (reverse vs)) ≡ get_or ws k (pos 0) *ℤ get_or vs (length vs - 1 - k) (pos 0) +ℤ weighted (drop (k + 1) ws) (drop (k + 1) (reverse vs))
+    weighted (drop k ws) (drop k (reverse vs)) ≡ get_or ws k (pos 0) *ℤ get_or vs (length vs - 1 - k) (pos 0) +ℤ weighted (drop (k + 1) ws)
+    (drop (k + 1) (reverse vs))
 unfolding weighted
 weighted_next ws vs k h i =
     let front = drop-cons ws k (pos 0) h in
     let there : k < length (reverse vs) = omega (arith, length-reverse vs) in
     let back = drop-cons (reverse vs) k (pos 0) there in
     let at = get_or-reverse vs k (pos 0) i in
-    ap₂ weighted front back ∙ ap (λ v. get_or ws k (pos 0) *ℤ v +ℤ weighted (drop (suc k) ws) (drop (suc k) (reverse vs))) at ∙ ap (λ i. get_or ws k (pos 0) *ℤ get_or vs (length vs - 1 - k) (pos 0) +ℤ weighted (drop i ws) (drop i (reverse vs))) (sym (add-one k))
+    ap₂ weighted front back ∙ ap (λ v. get_or ws k (pos 0) *ℤ v +ℤ weighted (drop (suc k) ws) (drop (suc k) (reverse vs))) at
+    ∙ ap (λ i. get_or ws k (pos 0) *ℤ get_or vs (length vs - 1 - k) (pos 0) +ℤ weighted (drop i ws) (drop i (reverse vs))) (sym (add-one k))
 
 pub weighted_past : (ws vs : List ℤ) (k : ℕ) → length ws ≡ k → weighted (drop k ws) vs ≡ pos 0
 unfolding weighted

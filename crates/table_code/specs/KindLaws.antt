@@ -1,15 +1,30 @@
 -- The laws of both kinds of tables.
-use Rattle.std.proofs.Common.{◌≡◌, ℕ, zero, suc, ◌-◌, ◌<◌, ◌≤◌, Bool, true, false, nat_lt, cond, ℤ, pos, negsuc, ◌-ℤ◌, List, [], ◌∷◌, map, refl, ap₂, arith, ltb-true, ltb-false, lt-ltb, le-ltb}
+use Rattle.std.proofs.Common.{◌≡◌, ℕ, zero, suc, ◌-◌, ◌<◌, ◌≤◌, Bool, true, false, nat_lt, cond, ℤ, pos, negsuc, ◌-ℤ◌, List, [], ◌∷◌, map, refl, ap₂}
+use Rattle.std.proofs.Common.{arith, ltb-true, ltb-false, lt-ltb, le-ltb}
 use Rattle.std.proofs.lemmas.Int.{ints}
 use Rattle.dst_spec.specs.Table.{filter_kind, prob_kind, InRange}
 use Rattle.dst_spec.specs.Offends.{value_of}
 use Rattle.table_code.specs.Kinds.{IsSmall, HasPlainValues, HasWeights}
 
 pub filter_small : IsSmall filter_kind
-filter_small = record { some_length = omega arith; most_length = omega arith; some_value = omega arith; most_value = omega arith; least = omega (arith, ints); greatest = omega (arith, ints) }
+filter_small = record {
+  some_length = omega arith;
+  most_length = omega arith;
+  some_value = omega arith;
+  most_value = omega arith;
+  least = omega (arith, ints);
+  greatest = omega (arith, ints);
+}
 
 pub prob_small : IsSmall prob_kind
-prob_small = record { some_length = omega arith; most_length = omega arith; some_value = omega arith; most_value = omega arith; least = omega (arith, ints); greatest = omega (arith, ints) }
+prob_small = record {
+  some_length = omega arith;
+  most_length = omega arith;
+  some_value = omega arith;
+  most_value = omega arith;
+  least = omega (arith, ints);
+  greatest = omega (arith, ints);
+}
 
 pub filter_plain : HasPlainValues filter_kind
 filter_plain = (λ x h. within x (nat_lt x 256) refl h, spelled)

@@ -23,7 +23,8 @@ returns-clause-within c =
     let small : c.args.part ≤ 4095 = omega (arith, b.small, c.requires.range.most) in
     let zero = c.overflowing_sub-rest.result.1 in
     let is = less zero c.args.gap c.args.part small c.overflowing_sub-rest.ensures.overflow in
-    let gap = c.select.ensures ∙ gap_is zero c.args.gap c.args.part c.args.factor c.overflowing_sub-rest.result.0 small b.most c.ranges.gap.fits (omega arith) is c.overflowing_sub-rest.ensures.value in
+    let gap = c.select.ensures ∙ gap_is zero c.args.gap c.args.part c.args.factor c.overflowing_sub-rest.result.0 small b.most c.ranges.gap.fits
+    (omega arith) is c.overflowing_sub-rest.ensures.value in
     rw (gap, c.select-2.ensures) (within_left zero c.args.range c.args.gap c.args.part c.args.factor some c.requires.within is)
 
 pub returns-clause-step : goal.returns-clause-step
@@ -32,5 +33,7 @@ returns-clause-step c p least most cut =
     let small : c.args.part ≤ 4095 = omega (arith, b.small, c.requires.range.most) in
     let zero = c.overflowing_sub-rest.result.1 in
     let is = less zero c.args.gap c.args.part small c.overflowing_sub-rest.ensures.overflow in
-    let gap = c.select.ensures ∙ gap_is zero c.args.gap c.args.part c.args.factor c.overflowing_sub-rest.result.0 small b.most c.ranges.gap.fits (omega arith) is c.overflowing_sub-rest.ensures.value in
-    parted p c.args.range c.args.gap c.args.part c.args.factor zero most c.requires.range c.requires.within c.requires.some cut is c.select.result c.select-2.result gap c.select-2.ensures
+    let gap = c.select.ensures ∙ gap_is zero c.args.gap c.args.part c.args.factor c.overflowing_sub-rest.result.0 small b.most c.ranges.gap.fits
+    (omega arith) is c.overflowing_sub-rest.ensures.value in
+    parted p c.args.range c.args.gap c.args.part c.args.factor zero most c.requires.range c.requires.within c.requires.some cut is c.select.result
+    c.select-2.result gap c.select-2.ensures

@@ -16,6 +16,7 @@ loop-turn-preserved c =
     let bits = c.put-in-loop-turn.ensures.bits done in
     let left = c.put-in-loop-turn.ensures.room done in
     record {
-      bits = bits ∙ run_more c.args.writer.now.bits c.loop-turn.writer.bits c.args.carry c.args.block c.args.width c.loop-turn.turn c.if-carry.behind behind i.bits;
+      bits = bits ∙ run_more c.args.writer.now.bits c.loop-turn.writer.bits c.args.carry c.args.block c.args.width c.loop-turn.turn c.if-carry.behind
+          behind i.bits;
       room = omega arith;
     }

@@ -10,8 +10,10 @@ pub overflow_add-part : goal.overflow_add-part
 overflow_add-part c =
     let low = get_or c.loop-byte.part c.loop-byte.byte (pos 0) in
     let coef = c.coef_at-coef.result in
-    let here : low ≡ signed_sum (drop c.args.first c.args.coefs.now) (rising_bits 8 c.loop-byte.byte) = c.loop-byte.invariant.0 c.loop-byte.byte (omega arith) in
-    let step = raised-step c.args.coefs.now c.args.first c.loop-i.i c.loop-i.half c.loop-byte.byte low coef c.requires.table.each (omega arith) c.loop-i.invariant.0 (omega arith) here c.coef_at-coef.ensures in
+    let here : low ≡ signed_sum (drop c.args.first c.args.coefs.now) (rising_bits 8 c.loop-byte.byte) =
+    c.loop-byte.invariant.0 c.loop-byte.byte (omega arith) in
+    let step = raised-step c.args.coefs.now c.args.first c.loop-i.i c.loop-i.half c.loop-byte.byte low coef c.requires.table.each
+    (omega arith) c.loop-i.invariant.0 (omega arith) here c.coef_at-coef.ensures in
     let least : neg_ℤ (pos 2048) ≤ℤ (low +ℤ (coef +ℤ coef)) = step.1.0 in
     let most : (low +ℤ (coef +ℤ coef)) ≤ℤ pos 2048 = step.1.1 in
     let bound = within-bits c.args.coefs.now c.args.first 8 c.loop-byte.byte (omega arith) c.requires.table.each in
@@ -24,8 +26,10 @@ loop-byte-preserved c =
     let low = get_or c.loop-byte.part c.loop-byte.byte (pos 0) in
     let coef = c.coef_at-coef.result in
     let place = c.loop-i.half + c.loop-byte.byte in
-    let here : low ≡ signed_sum (drop c.args.first c.args.coefs.now) (rising_bits 8 c.loop-byte.byte) = c.loop-byte.invariant.0 c.loop-byte.byte (omega arith) in
-    let step = raised-step c.args.coefs.now c.args.first c.loop-i.i c.loop-i.half c.loop-byte.byte low coef c.requires.table.each (omega arith) c.loop-i.invariant.0 (omega arith) here c.coef_at-coef.ensures in
+    let here : low ≡ signed_sum (drop c.args.first c.args.coefs.now) (rising_bits 8 c.loop-byte.byte) =
+    c.loop-byte.invariant.0 c.loop-byte.byte (omega arith) in
+    let step = raised-step c.args.coefs.now c.args.first c.loop-i.i c.loop-i.half c.loop-byte.byte low coef c.requires.table.each
+    (omega arith) c.loop-i.invariant.0 (omega arith) here c.coef_at-coef.ensures in
     let is : low +ℤ (coef +ℤ coef) ≡ signed_sum (drop c.args.first c.args.coefs.now) (rising_bits 8 (c.loop-i.half + c.loop-byte.byte)) = step.0 in
     let least : neg_ℤ (pos 2048) ≤ℤ (low +ℤ (coef +ℤ coef)) = step.1.0 in
     let most : (low +ℤ (coef +ℤ coef)) ≤ℤ pos 2048 = step.1.1 in
@@ -36,5 +40,8 @@ loop-byte-preserved c =
     let stored_is : stored ≡ signed_sum (drop c.args.first c.args.coefs.now) (rising_bits 8 (c.loop-i.half + c.loop-byte.byte)) = omega (arith, ints) in
     let eighth : 2 * 2 ^ c.loop-i.i ≤ 256 = half-below c.loop-i.i (omega arith) in
     let power : c.loop-i.half ≡ 2 ^ c.loop-i.i = c.loop-i.invariant.0 in
-    let inside : place < length c.loop-byte.part = omega arith in
-    (λ b lt. table-more c.loop-byte.part place stored (λ k. signed_sum (drop c.args.first c.args.coefs.now) (rising_bits 8 k)) inside c.loop-byte.invariant.0 stored_is b (omega arith), length-set c.loop-byte.part place stored ∙ c.loop-byte.invariant.1)
+    let inside : place < length c.loop-byte.part = omega arith in (
+      λ b lt. table-more c.loop-byte.part place stored (λ k.
+          signed_sum (drop c.args.first c.args.coefs.now) (rising_bits 8 k)) inside c.loop-byte.invariant.0 stored_is b (omega arith),
+      length-set c.loop-byte.part place stored ∙ c.loop-byte.invariant.1,
+    )

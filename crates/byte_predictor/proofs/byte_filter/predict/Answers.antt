@@ -20,13 +20,16 @@ loop-j-preserved c =
     let byte = get_or bytes c.loop-j.j 0 in
     let table : IsTable filter_kind coefs = subst (IsTable filter_kind) c.filter.view_is c.filter.invariant.table in
     let inside : byte < 256 = search rules in
-    let stored_is : get_or (get_or c.filter.inside.parts c.loop-j.j []) byte (pos 0) ≡ part_sum (take c.filter.inside.length c.filter.inside.coefs) c.loop-j.j byte = c.filter.invariant.sums c.loop-j.j byte (omega arith) inside in
-    let entry : get_or (get_or c.filter.inside.parts c.loop-j.j []) byte (pos 0) ≡ part_sum coefs c.loop-j.j byte = stored_is ∙ ap (λ t. part_sum t c.loop-j.j byte) c.filter.view_is in
+    let stored_is : get_or (get_or c.filter.inside.parts c.loop-j.j []) byte (pos 0) ≡ part_sum
+    (take c.filter.inside.length c.filter.inside.coefs) c.loop-j.j byte = c.filter.invariant.sums c.loop-j.j byte (omega arith) inside in
+    let entry : get_or (get_or c.filter.inside.parts c.loop-j.j []) byte (pos 0) ≡ part_sum coefs c.loop-j.j byte = stored_is
+    ∙ ap (λ t. part_sum t c.loop-j.j byte) c.filter.view_is in
     let bound = within-bits coefs (8 * c.loop-j.j) 8 byte (omega arith) table.each in
     let least : neg_ℤ (pos 2048) ≤ℤ part_sum coefs c.loop-j.j byte = bound.0 in
     let most : part_sum coefs c.loop-j.j byte ≤ℤ pos 2048 = bound.1 in
     let long : length bytes ≡ 16 = omega (arith, length-samples_of bytes, ap length c.bytes-bytes.ensures.samples, c.bytes-bytes.ensures.long) in
-    let more : signed_sum coefs (samples_of (take (c.loop-j.j + 1) bytes)) ≡ signed_sum coefs (samples_of (take c.loop-j.j bytes)) +ℤ part_sum coefs c.loop-j.j byte = signed_sum-more coefs bytes c.loop-j.j (omega arith) in
+    let more : signed_sum coefs (samples_of (take (c.loop-j.j + 1) bytes)) ≡ signed_sum coefs
+    (samples_of (take c.loop-j.j bytes)) +ℤ part_sum coefs c.loop-j.j byte = signed_sum-more coefs bytes c.loop-j.j (omega arith) in
     (omega (arith, ints), omega (arith, ints), omega (arith, ints))
 
 pub returns-clause-plain : goal.returns-clause-plain

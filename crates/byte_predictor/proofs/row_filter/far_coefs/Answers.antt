@@ -8,9 +8,11 @@ loop-j-init c = (refl, λ k h. zeros-at 136 k, λ k h i. absurd (omega arith), �
 
 pub returns-clause-places : goal.returns-clause-places
 returns-clause-places c =
-    is-far c.args.coefs.now c.loop-j.later c.requires.most c.loop-j.invariant.0 c.loop-j.invariant.1 (λ k h i. c.loop-j.invariant.2 k h (omega arith)) (λ k h. c.loop-j.invariant.3 k (omega arith))
+    is-far c.args.coefs.now c.loop-j.later c.requires.most c.loop-j.invariant.0 c.loop-j.invariant.1 (λ k h i. c.loop-j.invariant.2 k h (omega arith))
+    (λ k h. c.loop-j.invariant.3 k (omega arith))
 
 pub returns-clause-range : goal.returns-clause-range
 returns-clause-range c = λ k.
-    let at = is-far c.args.coefs.now c.loop-j.later c.requires.most c.loop-j.invariant.0 c.loop-j.invariant.1 (λ m h i. c.loop-j.invariant.2 m h (omega arith)) (λ m h. c.loop-j.invariant.3 m (omega arith)) k in
+    let at = is-far c.args.coefs.now c.loop-j.later c.requires.most c.loop-j.invariant.0 c.loop-j.invariant.1
+    (λ m h i. c.loop-j.invariant.2 m h (omega arith)) (λ m h. c.loop-j.invariant.3 m (omega arith)) k in
     subst (InRange filter_kind) (sym at) (far-range c.args.coefs.now k c.requires.each)

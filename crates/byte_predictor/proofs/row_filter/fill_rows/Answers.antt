@@ -11,8 +11,10 @@ pub raise_row-requires-clause-least : goal.raise_row-requires-clause-least
 raise_row-requires-clause-least c = λ lane h.
     let low = get_or (get_or c.loop-byte.rows c.loop-byte.byte []) lane 0 in
     let here : low ≡ upward_sum (drop lane c.args.later.now) (rising_bits 8 c.loop-byte.byte) = c.loop-byte.invariant.0 c.loop-byte.byte lane (omega arith) h in
-    let step = raised-lane c.args.later.now lane c.loop-i.i c.loop-i.half c.loop-byte.byte low c.requires (omega arith) c.loop-i.invariant.0 (omega arith) here in
-    let sum : pos low +ℤ get_or c.args.later.now (lane + c.loop-i.i) (pos 0) ≡ pos (upward_sum (drop lane c.args.later.now) (rising_bits 8 (c.loop-i.half + c.loop-byte.byte))) = step.0 in
+    let step = raised-lane c.args.later.now lane c.loop-i.i c.loop-i.half c.loop-byte.byte low c.requires (omega arith) c.loop-i.invariant.0
+    (omega arith) here in
+    let sum : pos low +ℤ get_or c.args.later.now (lane + c.loop-i.i) (pos 0) ≡ pos
+    (upward_sum (drop lane c.args.later.now) (rising_bits 8 (c.loop-i.half + c.loop-byte.byte))) = step.0 in
     let most : upward_sum (drop lane c.args.later.now) (rising_bits 8 (c.loop-i.half + c.loop-byte.byte)) ≤ 2048 = step.1 in
     omega (arith, ints)
 
@@ -20,22 +22,30 @@ pub raise_row-requires-clause-most : goal.raise_row-requires-clause-most
 raise_row-requires-clause-most c = λ lane h.
     let low = get_or (get_or c.loop-byte.rows c.loop-byte.byte []) lane 0 in
     let here : low ≡ upward_sum (drop lane c.args.later.now) (rising_bits 8 c.loop-byte.byte) = c.loop-byte.invariant.0 c.loop-byte.byte lane (omega arith) h in
-    let step = raised-lane c.args.later.now lane c.loop-i.i c.loop-i.half c.loop-byte.byte low c.requires (omega arith) c.loop-i.invariant.0 (omega arith) here in
-    let sum : pos low +ℤ get_or c.args.later.now (lane + c.loop-i.i) (pos 0) ≡ pos (upward_sum (drop lane c.args.later.now) (rising_bits 8 (c.loop-i.half + c.loop-byte.byte))) = step.0 in
+    let step = raised-lane c.args.later.now lane c.loop-i.i c.loop-i.half c.loop-byte.byte low c.requires (omega arith) c.loop-i.invariant.0
+    (omega arith) here in
+    let sum : pos low +ℤ get_or c.args.later.now (lane + c.loop-i.i) (pos 0) ≡ pos
+    (upward_sum (drop lane c.args.later.now) (rising_bits 8 (c.loop-i.half + c.loop-byte.byte))) = step.0 in
     let most : upward_sum (drop lane c.args.later.now) (rising_bits 8 (c.loop-i.half + c.loop-byte.byte)) ≤ 2048 = step.1 in
     omega (arith, ints)
 
 pub loop-byte-preserved : goal.loop-byte-preserved
 loop-byte-preserved c =
     let place = c.loop-i.half + c.loop-byte.byte in
-    let stored_is : (lane : ℕ) → lane < 128 → get_or c.raise_row.new.high lane 0 ≡ upward_sum (drop lane c.args.later.now) (rising_bits 8 (c.loop-i.half + c.loop-byte.byte)) = λ lane h.
+    let stored_is : (lane : ℕ) → lane < 128 → get_or c.raise_row.new.high lane 0 ≡ upward_sum (drop lane c.args.later.now)
+    (rising_bits 8 (c.loop-i.half + c.loop-byte.byte)) = λ lane h.
     let low = get_or (get_or c.loop-byte.rows c.loop-byte.byte []) lane 0 in
     let here : low ≡ upward_sum (drop lane c.args.later.now) (rising_bits 8 c.loop-byte.byte) = c.loop-byte.invariant.0 c.loop-byte.byte lane (omega arith) h in
-    let step = raised-lane c.args.later.now lane c.loop-i.i c.loop-i.half c.loop-byte.byte low c.requires (omega arith) c.loop-i.invariant.0 (omega arith) here in
-    let sum : pos low +ℤ get_or c.args.later.now (lane + c.loop-i.i) (pos 0) ≡ pos (upward_sum (drop lane c.args.later.now) (rising_bits 8 (c.loop-i.half + c.loop-byte.byte))) = step.0 in
+    let step = raised-lane c.args.later.now lane c.loop-i.i c.loop-i.half c.loop-byte.byte low c.requires (omega arith) c.loop-i.invariant.0
+    (omega arith) here in
+    let sum : pos low +ℤ get_or c.args.later.now (lane + c.loop-i.i) (pos 0) ≡ pos
+    (upward_sum (drop lane c.args.later.now) (rising_bits 8 (c.loop-i.half + c.loop-byte.byte))) = step.0 in
     let most : upward_sum (drop lane c.args.later.now) (rising_bits 8 (c.loop-i.half + c.loop-byte.byte)) ≤ 2048 = step.1 in
     omega (arith, ints, c.raise_row.ensures lane h) in
     let eighth : 2 * 2 ^ c.loop-i.i ≤ 256 = half-below c.loop-i.i (omega arith) in
     let power : c.loop-i.half ≡ 2 ^ c.loop-i.i = c.loop-i.invariant.0 in
-    let inside : place < length c.loop-byte.rows = omega arith in
-    (λ b lane lt h. rows-more c.loop-byte.rows place c.raise_row.new.high (λ k m. upward_sum (drop m c.args.later.now) (rising_bits 8 k)) inside c.loop-byte.invariant.0 stored_is b lane (omega arith) h, length-set c.loop-byte.rows place c.raise_row.new.high ∙ c.loop-byte.invariant.1)
+    let inside : place < length c.loop-byte.rows = omega arith in (
+      λ b lane lt h. rows-more c.loop-byte.rows place c.raise_row.new.high
+          (λ k m. upward_sum (drop m c.args.later.now) (rising_bits 8 k)) inside c.loop-byte.invariant.0 stored_is b lane (omega arith) h,
+      length-set c.loop-byte.rows place c.raise_row.new.high ∙ c.loop-byte.invariant.1,
+    )

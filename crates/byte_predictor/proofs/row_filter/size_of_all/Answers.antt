@@ -9,7 +9,8 @@ loop-coef-init c = (size_sum-none, omega arith)
 
 pub loop-coef-preserved : goal.loop-coef-preserved
 loop-coef-preserved c =
-    let more : size_sum (take (c.loop-coef.coef-index + 1) c.args.coefs.now) ≡ size_sum (take c.loop-coef.coef-index c.args.coefs.now) + nat_abs (get_or c.args.coefs.now c.loop-coef.coef-index (pos 0)) = size_sum-more c.args.coefs.now c.loop-coef.coef-index (omega arith) in
+    let more : size_sum (take (c.loop-coef.coef-index + 1) c.args.coefs.now) ≡ size_sum (take c.loop-coef.coef-index c.args.coefs.now) + nat_abs
+    (get_or c.args.coefs.now c.loop-coef.coef-index (pos 0)) = size_sum-more c.args.coefs.now c.loop-coef.coef-index (omega arith) in
     let value : c.unsigned_abs.result ≡ nat_abs (get_or c.args.coefs.now c.loop-coef.coef-index (pos 0)) = grind (arith, ints) in
     let bound : c.unsigned_abs.result ≤ 32768 = omega (arith, c.unsigned_abs.ensures.bound) in
     (omega arith, omega arith)

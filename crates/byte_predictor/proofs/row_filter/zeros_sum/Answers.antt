@@ -13,7 +13,8 @@ pub overflow_add-sum : goal.overflow_add-sum
 overflow_add-sum c =
     let fits : FitsSigned w16 c.coef_at.result = search rules in
     let size = c.below_zero-size.ensures ∙ ap (λ a. above_zero (neg_ℤ a)) (to_z-of_z w16 c.coef_at.result fits) in
-    let step = zeros-step c.args.coefs.now c.args.first c.loop-i.i c.loop-i.sum c.below_zero-size.result c.coef_at.result c.requires.range (omega arith) c.loop-i.invariant c.coef_at.ensures size in
+    let step = zeros-step c.args.coefs.now c.args.first c.loop-i.i c.loop-i.sum c.below_zero-size.result c.coef_at.result c.requires.range
+    (omega arith) c.loop-i.invariant c.coef_at.ensures size in
     let most : c.loop-i.sum + c.below_zero-size.result ≤ 2048 = step.1 in
     omega arith
 
@@ -21,5 +22,6 @@ pub loop-i-preserved : goal.loop-i-preserved
 loop-i-preserved c =
     let fits : FitsSigned w16 c.coef_at.result = search rules in
     let size = c.below_zero-size.ensures ∙ ap (λ a. above_zero (neg_ℤ a)) (to_z-of_z w16 c.coef_at.result fits) in
-    let step = zeros-step c.args.coefs.now c.args.first c.loop-i.i c.loop-i.sum c.below_zero-size.result c.coef_at.result c.requires.range (omega arith) c.loop-i.invariant c.coef_at.ensures size in
+    let step = zeros-step c.args.coefs.now c.args.first c.loop-i.i c.loop-i.sum c.below_zero-size.result c.coef_at.result c.requires.range
+    (omega arith) c.loop-i.invariant c.coef_at.ensures size in
     step.0

@@ -11,7 +11,8 @@ ends v h = rw (ne_eqb v 0 h) refl
 pub returns-in-Ok-eq0-clause-fault : goal.returns-in-Ok-eq0-clause-fault
 returns-in-Ok-eq0-clause-fault c =
     let a = c.in-Ok-eq0 in
-    rw c.place-bit.ensures.place (rule_broken 1 end_rule c.args.reader.now c.read_number.new.reader a.field-0 MultiSegment a.ensures.read (ap end_rule a.field-0-test))
+    rw c.place-bit.ensures.place (rule_broken 1 end_rule c.args.reader.now c.read_number.new.reader a.field-0 MultiSegment a.ensures.read
+    (ap end_rule a.field-0-test))
 
 pub returns-in-Ok-clause-read : goal.returns-in-Ok-clause-read
 returns-in-Ok-clause-read c =

@@ -16,7 +16,8 @@ returns-then-element-count-clause-fault c =
     let count = c.args.count in
     let e = c.in-Ok.element in
     let a = rw c.map_bits.ensures.bits at c.in-Ok.ensures.read in
-    rw c.place-bit.ensures.place (rule_broken (map_bits count) (number_rule count) c.args.reader.now c.read_number.new.reader e MapSkips a (skips count e c.if-element-count.true))
+    rw c.place-bit.ensures.place (rule_broken (map_bits count) (number_rule count) c.args.reader.now c.read_number.new.reader e MapSkips a
+    (skips count e c.if-element-count.true))
 
 pub returns-else-element-count-clause-read : goal.returns-else-element-count-clause-read
 returns-else-element-count-clause-read c =

@@ -16,12 +16,14 @@ returns-in-Ok-eq0-clause-read c =
     let a = c.in-Ok-eq0 in
     let old = c.args.reader.now in
     let new = c.read_number.new.reader in
-    subst (λ v. HasRead (field 6 stuffing_rule gives) old v new) a.field-0-test (rule_met 6 stuffing_rule old new a.field-0 a.ensures.read (ap stuffing_rule a.field-0-test))
+    subst (λ v. HasRead (field 6 stuffing_rule gives) old v new) a.field-0-test
+    (rule_met 6 stuffing_rule old new a.field-0 a.ensures.read (ap stuffing_rule a.field-0-test))
 
 pub returns-in-Ok-clause-fault : goal.returns-in-Ok-clause-fault
 returns-in-Ok-clause-fault c =
     let a = c.in-Ok in
-    rw c.place-bit.ensures.place (rule_broken 6 stuffing_rule c.args.reader.now c.read_number.new.reader a.field-0 PlainStuffing a.ensures.read (stuffed a.field-0 a.field-0-test.1))
+    rw c.place-bit.ensures.place (rule_broken 6 stuffing_rule c.args.reader.now c.read_number.new.reader a.field-0 PlainStuffing a.ensures.read
+    (stuffed a.field-0 a.field-0-test.1))
 
 pub returns-in-Err-clause-fault : goal.returns-in-Err-clause-fault
 returns-in-Err-clause-fault c = field_cut 6 stuffing_rule c.args.reader.now c.in-Err.fault c.in-Err.ensures.fault

@@ -1,5 +1,5 @@
 use Rattle.std.proofs.Common.{◌≡◌, ◌≤◌, length, map, pos, subst, sym, arith, lit<}
-use Rattle.dst_spec.specs.Header.{bit_of, IsParams}
+use Rattle.dst_spec.specs.Header.{Params, bit_of, IsParams}
 use Rattle.dst_spec.specs.Fields.{number}
 use Rattle.dst_spec.specs.Table.{filter_kind, prob_kind}
 use Rattle.dst_spec.specs.Offends.{times, both_segments, both_maps, table_fields, header_fields}
@@ -13,7 +13,8 @@ pub returns-in_err-read_both_segments-clause-fault : goal.returns-in_err-read_bo
 returns-in_err-read_both_segments-clause-fault c =
     let fault = c.in_err-read_both_segments.field-0.0 in
     let a = c.args.reader.now in
-    handed_on c.from_residual.result fault (IsAtFault (header_fields c.args.channels) a) c.from_residual.ensures.1 (segments_fail c.args.channels a fault c.in_err-read_both_segments.ensures.fault)
+    handed_on c.from_residual.result fault (IsAtFault (header_fields c.args.channels) a) c.from_residual.ensures.1
+    (segments_fail c.args.channels a fault c.in_err-read_both_segments.ensures.fault)
 
 pub returns-in_err-filter_map-clause-fault : goal.returns-in_err-filter_map-clause-fault
 returns-in_err-filter_map-clause-fault c =
@@ -43,7 +44,11 @@ read_tables-requires c =
     let s = c.in_ok-read_both_segments.ensures.read in
     let first = shorter (both_segments c.args.channels) (left a) a.place (s.0, left b, b.place) s.1 in
     let second = shorter (both_maps c.args.channels) (left b) b.place ((m.filter_map, m.prob_map), left d, d.place) m.ensures.read in
-    let third = shorter (times c.args.channels (number 1)) (left d) d.place (map bit_of c.in_ok-half_prob.half_prob.items, left e, e.place) c.in_ok-half_prob.ensures.read in
+    let third = shorter (times c.args.channels (number 1)) (left d) d.place (
+      map bit_of c.in_ok-half_prob.half_prob.items,
+      left e,
+      e.place,
+    ) c.in_ok-half_prob.ensures.read in
     let few : length (left e) ≤ 2000000 = omega (arith, first, second, third, c.requires.few) in
     let count : c.count.result ≤ 6 = omega (arith, c.count.ensures.most, c.count.ensures.map.1) in
     (lit< tt, (count, few))
@@ -58,7 +63,8 @@ returns-in_err-filters-clause-fault c =
     let m = c.in_ok-filter_map in
     let failed = subst (λ n. IsAtFault (times n (table_fields filter_kind)) e fault) c.count.ensures.count c.in_err-filters.ensures.fault in
     handed_on c.from_residual-in_err-filters.result fault (IsAtFault (header_fields c.args.channels) a) c.from_residual-in_err-filters.ensures.1
-    (filters_fail c.args.channels a b d e (m.filter_map, m.prob_map) (map bit_of c.in_ok-half_prob.half_prob.items) fault c.in_ok-read_both_segments.ensures.read m.ensures.read c.in_ok-half_prob.ensures.read failed)
+    (filters_fail c.args.channels a b d e (m.filter_map, m.prob_map)
+    (map bit_of c.in_ok-half_prob.half_prob.items) fault c.in_ok-read_both_segments.ensures.read m.ensures.read c.in_ok-half_prob.ensures.read failed)
 
 pub read_tables-requires-2 : goal.read_tables-requires-2
 read_tables-requires-2 c =
@@ -71,8 +77,16 @@ read_tables-requires-2 c =
     let s = c.in_ok-read_both_segments.ensures.read in
     let first = shorter (both_segments c.args.channels) (left a) a.place (s.0, left b, b.place) s.1 in
     let second = shorter (both_maps c.args.channels) (left b) b.place ((m.filter_map, m.prob_map), left d, d.place) m.ensures.read in
-    let third = shorter (times c.args.channels (number 1)) (left d) d.place (map bit_of c.in_ok-half_prob.half_prob.items, left e, e.place) c.in_ok-half_prob.ensures.read in
-    let fourth = shorter (times c.count.result (table_fields filter_kind)) (left e) e.place (map (λ t. t) c.in_ok-filters.filters.items, left f, f.place) c.in_ok-filters.ensures.read in
+    let third = shorter (times c.args.channels (number 1)) (left d) d.place (
+      map bit_of c.in_ok-half_prob.half_prob.items,
+      left e,
+      e.place,
+    ) c.in_ok-half_prob.ensures.read in
+    let fourth = shorter (times c.count.result (table_fields filter_kind)) (left e) e.place (
+      map (λ t. t) c.in_ok-filters.filters.items,
+      left f,
+      f.place,
+    ) c.in_ok-filters.ensures.read in
     let few : length (left f) ≤ 2000000 = omega (arith, first, second, third, fourth, c.requires.few) in
     let count : c.count-2.result ≤ 6 = omega (arith, c.count-2.ensures.most, c.count-2.ensures.map.1) in
     (lit< tt, (count, few))
@@ -90,40 +104,39 @@ returns-in_err-probs-clause-fault c =
     let gave = subst (λ n. HasRead (times n (table_fields filter_kind)) e filters f) c.count.ensures.count c.in_ok-filters.ensures.read in
     let failed = subst (λ n. IsAtFault (times n (table_fields prob_kind)) f fault) c.count-2.ensures.count c.in_err-probs.ensures.fault in
     handed_on c.from_residual-in_err-probs.result fault (IsAtFault (header_fields c.args.channels) a) c.from_residual-in_err-probs.ensures.1
-    (probs_fail c.args.channels a b d e f (m.filter_map, m.prob_map) (map bit_of c.in_ok-half_prob.half_prob.items) filters fault c.in_ok-read_both_segments.ensures.read m.ensures.read c.in_ok-half_prob.ensures.read gave failed)
+    (probs_fail c.args.channels a b d e f (m.filter_map, m.prob_map)
+    (map bit_of c.in_ok-half_prob.half_prob.items) filters fault c.in_ok-read_both_segments.ensures.read m.ensures.read c.in_ok-half_prob.ensures.read
+    gave failed)
+
+-- the parameters of the parts that were read, and that the fields give them
+abbrev made : goal.After-new → Params
+made c =
+    params_of c.in_ok-filter_map.filter_map c.in_ok-filter_map.prob_map c.in_ok-half_prob.half_prob.items c.in_ok-filters.filters.items
+    c.in_ok-probs.probs.items
+
+all_read : (c : goal.After-new) → HasRead (header_fields c.args.channels) c.args.reader.now (made c) c.read_tables-2.new.reader
+all_read c =
+    let e = c.read_half_bits.new.reader in
+    let f = c.read_tables.new.reader in
+    let h = c.read_tables-2.new.reader in
+    let m = c.in_ok-filter_map in
+    let filters = c.in_ok-filters.filters.items in
+    let probs = c.in_ok-probs.probs.items in
+    let gave_filters = subst (λ n. HasRead (times n (table_fields filter_kind)) e (map (λ t. t) filters) f) c.count.ensures.count
+    c.in_ok-filters.ensures.read in
+    let gave_probs = subst (λ n. HasRead (times n (table_fields prob_kind)) f (map (λ t. map pos t) probs) h) c.count-2.ensures.count
+    c.in_ok-probs.ensures.read in
+    header_gave c.args.channels c.args.reader.now c.read_both_segments.new.reader c.read_both_maps.new.reader e f h m.filter_map m.prob_map
+    c.in_ok-half_prob.half_prob.items filters probs
+    c.in_ok-read_both_segments.ensures.read m.ensures.read c.in_ok-half_prob.ensures.read gave_filters gave_probs
 
 pub unwrap-requires : goal.unwrap-requires
 unwrap-requires c =
-    let a = c.args.reader.now in
-    let e = c.read_half_bits.new.reader in
-    let f = c.read_tables.new.reader in
-    let h = c.read_tables-2.new.reader in
-    let m = c.in_ok-filter_map in
-    let half_prob = c.in_ok-half_prob.half_prob.items in
-    let filters = c.in_ok-filters.filters.items in
-    let probs = c.in_ok-probs.probs.items in
-    let P = params_of m.filter_map m.prob_map half_prob filters probs in
-    let gave_filters = subst (λ n. HasRead (times n (table_fields filter_kind)) e (map (λ t. t) filters) f) c.count.ensures.count c.in_ok-filters.ensures.read in
-    let gave_probs = subst (λ n. HasRead (times n (table_fields prob_kind)) f (map (λ t. map pos t) probs) h) c.count-2.ensures.count c.in_ok-probs.ensures.read in
-    let gave = header_gave c.args.channels a c.read_both_segments.new.reader c.read_both_maps.new.reader e f h m.filter_map m.prob_map half_prob filters probs
-    c.in_ok-read_both_segments.ensures.read m.ensures.read c.in_ok-half_prob.ensures.read gave_filters gave_probs in
-    let is = params_found c.args.channels a h P c.requires.least gave in
-    there_unless c.new.result (IsParams (length half_prob) P) c.new.ensures.none (subst (λ n. IsParams n P) (sym is.half_prob) is)
+    let is = params_found c.args.channels c.args.reader.now c.read_tables-2.new.reader (made c) c.requires.least (all_read c) in
+    there_unless c.new.result (IsParams (length c.in_ok-half_prob.half_prob.items) (made c)) c.new.ensures.none
+    (subst (λ n. IsParams n (made c)) (sym is.half_prob) is)
 
 pub returns-clause-read : goal.returns-clause-read
 returns-clause-read c =
-    let a = c.args.reader.now in
-    let e = c.read_half_bits.new.reader in
-    let f = c.read_tables.new.reader in
-    let h = c.read_tables-2.new.reader in
-    let m = c.in_ok-filter_map in
-    let half_prob = c.in_ok-half_prob.half_prob.items in
-    let filters = c.in_ok-filters.filters.items in
-    let probs = c.in_ok-probs.probs.items in
-    let P = params_of m.filter_map m.prob_map half_prob filters probs in
-    let gave_filters = subst (λ n. HasRead (times n (table_fields filter_kind)) e (map (λ t. t) filters) f) c.count.ensures.count c.in_ok-filters.ensures.read in
-    let gave_probs = subst (λ n. HasRead (times n (table_fields prob_kind)) f (map (λ t. map pos t) probs) h) c.count-2.ensures.count c.in_ok-probs.ensures.read in
-    let gave = header_gave c.args.channels a c.read_both_segments.new.reader c.read_both_maps.new.reader e f h m.filter_map m.prob_map half_prob filters probs
-    c.in_ok-read_both_segments.ensures.read m.ensures.read c.in_ok-half_prob.ensures.read gave_filters gave_probs in
-    let same : c.unwrap.result ≡ P = rw c.unwrap.ensures at c.new.ensures.params in
-    subst (λ Q. HasRead (header_fields c.args.channels) a Q h) (sym same) gave
+    let same : c.unwrap.result ≡ made c.before = rw c.unwrap.ensures at c.new.ensures.params in
+    subst (λ Q. HasRead (header_fields c.args.channels) c.args.reader.now Q c.read_tables-2.new.reader) (sym same) (all_read c.before)

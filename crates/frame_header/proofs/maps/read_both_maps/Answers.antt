@@ -9,7 +9,8 @@ pub returns-in_err-same-clause-fault : goal.returns-in_err-same-clause-fault
 returns-in_err-same-clause-fault c =
     let fault = c.in_err-same.field-0.0 in
     let old = c.args.reader.now in
-    handed_on c.from_residual.result fault (IsAtFault (both_maps c.args.channels) old) c.from_residual.ensures.1 (both_maps_cut c.args.channels old fault c.in_err-same.ensures.fault)
+    handed_on c.from_residual.result fault (IsAtFault (both_maps c.args.channels) old) c.from_residual.ensures.1
+    (both_maps_cut c.args.channels old fault c.in_err-same.ensures.fault)
 
 pub returns-in_err-filter_map-clause-fault : goal.returns-in_err-filter_map-clause-fault
 returns-in_err-filter_map-clause-fault c =
@@ -35,12 +36,14 @@ returns-in_err-prob_map-clause-fault c =
     let mid = c.read_number.new.reader in
     let next = c.read_map.new.reader in
     handed_on c.from_residual-in_err-prob_map.result fault (IsAtFault (both_maps c.args.channels) old) c.from_residual-in_err-prob_map.ensures.1
-    (second_map_failed c.args.channels c.in_ok-same.same old mid next c.in_ok-filter_map.filter_map fault c.in_ok-same.ensures.read c.in_ok-filter_map.ensures.read c.if-same-eq1.false c.in_err-prob_map.ensures.fault)
+    (second_map_failed c.args.channels c.in_ok-same.same old mid next c.in_ok-filter_map.filter_map fault c.in_ok-same.ensures.read
+    c.in_ok-filter_map.ensures.read c.if-same-eq1.false c.in_err-prob_map.ensures.fault)
 
 pub returns-clause-read : goal.returns-clause-read
 returns-clause-read c =
     let old = c.args.reader.now in
     let mid = c.read_number.new.reader in
     let next = c.read_map.new.reader in
-    both_maps_gave c.args.channels c.in_ok-same.same old mid next c.read_map-2.new.reader c.in_ok-filter_map.filter_map c.in_ok-prob_map.prob_map c.in_ok-same.ensures.read c.in_ok-filter_map.ensures.read c.if-same-eq1.false
+    both_maps_gave c.args.channels c.in_ok-same.same old mid next c.read_map-2.new.reader c.in_ok-filter_map.filter_map c.in_ok-prob_map.prob_map
+    c.in_ok-same.ensures.read c.in_ok-filter_map.ensures.read c.if-same-eq1.false
     c.in_ok-prob_map.ensures.read

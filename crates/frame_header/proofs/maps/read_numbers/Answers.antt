@@ -21,7 +21,8 @@ returns-in_err-element-clause-fault c =
     let fault = c.in_err-element.field-0.0 in
     let old = c.args.reader.now in
     handed_on c.from_residual.result fault (IsAtFault (element_fields c.args.channels) old) c.from_residual.ensures.1
-    (numbers_fail c.args.channels old l.reader l.channel l.count l.elements.items fault l.invariant.coming c.loop-channel-test.true c.in_err-element.ensures.fault)
+    (numbers_fail c.args.channels old l.reader l.channel l.count l.elements.items fault l.invariant.coming c.loop-channel-test.true
+    c.in_err-element.ensures.fault)
 
 pub loop-channel-preserved : goal.loop-channel-preserved
 loop-channel-preserved c =
@@ -35,10 +36,12 @@ loop-channel-preserved c =
     record {
       bytes = c.in_ok-element.ensures.bytes ∙ l.invariant.bytes;
       long = p.ensures.len ∙ ap (λ n. n + 1) l.invariant.long;
-      coming = subst (λ n. NumbersToCome c.args.channels old (l.channel + 1) n p.new.self.items next) (sym count) (subst (λ xs. NumbersToCome c.args.channels old (l.channel + 1) (max l.count (e + 1)) xs next) (sym p.ensures.items) coming);
+      coming = subst (λ n. NumbersToCome c.args.channels old (l.channel + 1) n p.new.self.items next) (sym count)
+          (subst (λ xs. NumbersToCome c.args.channels old (l.channel + 1) (max l.count (e + 1)) xs next) (sym p.ensures.items) coming);
     }
 
 pub returns-clause-read : goal.returns-clause-read
 returns-clause-read c =
     let l = c.loop-channel in
-    numbers_end c.args.channels c.args.reader.now l.reader l.channel l.count l.elements.items l.invariant.coming (l.auto.channel-end c.requires.least) c.loop-channel-test.false
+    numbers_end c.args.channels c.args.reader.now l.reader l.channel l.count l.elements.items l.invariant.coming
+    (l.auto.channel-end c.requires.least) c.loop-channel-test.false

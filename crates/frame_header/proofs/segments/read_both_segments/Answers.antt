@@ -9,7 +9,8 @@ pub returns-in_err-same-clause-fault : goal.returns-in_err-same-clause-fault
 returns-in_err-same-clause-fault c =
     let fault = c.in_err-same.field-0.0 in
     let old = c.args.reader.now in
-    handed_on c.from_residual.result fault (IsAtFault (both_segments c.args.channels) old) c.from_residual.ensures.1 (both_segments_cut c.args.channels old fault c.in_err-same.ensures.fault)
+    handed_on c.from_residual.result fault (IsAtFault (both_segments c.args.channels) old) c.from_residual.ensures.1
+    (both_segments_cut c.args.channels old fault c.in_err-same.ensures.fault)
 
 pub returns-in_err-read_segments-clause-fault : goal.returns-in_err-read_segments-clause-fault
 returns-in_err-read_segments-clause-fault c =
@@ -27,8 +28,10 @@ returns-in_err-read_segments-2-clause-fault c =
     let next = c.read_segments.new.reader in
     let same = c.in_ok-same.same in
     let zero : same ≡ 0 = c.if-same-eq0.true in
-    handed_on c.from_residual-in_err-read_segments-2.result fault (IsAtFault (both_segments c.args.channels) old) c.from_residual-in_err-read_segments-2.ensures.1
-    (second_segments_failed c.args.channels same old mid next fault c.in_ok-same.ensures.read c.in_ok-read_segments.ensures.read (λ one. omega (arith, zero, one)) c.in_err-read_segments-2.ensures.fault)
+    handed_on c.from_residual-in_err-read_segments-2.result fault
+    (IsAtFault (both_segments c.args.channels) old) c.from_residual-in_err-read_segments-2.ensures.1
+    (second_segments_failed c.args.channels same old mid next fault c.in_ok-same.ensures.read c.in_ok-read_segments.ensures.read
+    (λ one. omega (arith, zero, one)) c.in_err-read_segments-2.ensures.fault)
 
 pub returns-in_ok-read_segments-2-clause-read : goal.returns-in_ok-read_segments-2-clause-read
 returns-in_ok-read_segments-2-clause-read c =
@@ -38,7 +41,8 @@ returns-in_ok-read_segments-2-clause-read c =
     let new = c.read_segments-then-same-eq0.new.reader in
     let same = c.in_ok-same.same in
     let zero : same ≡ 0 = c.if-same-eq0.true in
-    both_segments_passed c.args.channels same old mid next new c.in_ok-same.ensures.read c.in_ok-read_segments.ensures.read (λ one. omega (arith, zero, one)) c.in_ok-read_segments-2.ensures.read
+    both_segments_passed c.args.channels same old mid next new c.in_ok-same.ensures.read c.in_ok-read_segments.ensures.read
+    (λ one. omega (arith, zero, one)) c.in_ok-read_segments-2.ensures.read
 
 pub returns-else-same-eq0-clause-read : goal.returns-else-same-eq0-clause-read
 returns-else-same-eq0-clause-read c =

@@ -15,7 +15,8 @@ returns-in_err-read_end-clause-fault c =
     let fault = c.in_err-read_end.field-0.0 in
     let old = c.args.reader.now in
     handed_on c.from_residual.result fault (IsAtFault (times c.args.count (field 1 end_rule gives)) old) c.from_residual.ensures.1
-    (times_fail (field 1 end_rule gives) c.args.count old l.reader l.passed l.invariant.coming.0 fault l.invariant.coming.1 c.loop-passed-test.true c.in_err-read_end.ensures.fault)
+    (times_fail (field 1 end_rule gives) c.args.count old l.reader l.passed l.invariant.coming.0 fault l.invariant.coming.1 c.loop-passed-test.true
+    c.in_err-read_end.ensures.fault)
 
 pub loop-passed-preserved : goal.loop-passed-preserved
 loop-passed-preserved c =
@@ -23,10 +24,18 @@ loop-passed-preserved c =
     let e = c.in_ok-read_end.ensures in
     record {
       bytes = e.bytes ∙ l.invariant.bytes;
-      coming = (l.invariant.coming.0 ++ e.read.0 ∷ [], times_more (field 1 end_rule gives) c.args.count c.args.reader.now l.reader c.read_end.new.reader l.passed l.invariant.coming.0 e.read.0 l.invariant.coming.1 e.read.1);
+      coming = (
+        l.invariant.coming.0 ++ e.read.0 ∷ [],
+        times_more
+            (field 1 end_rule gives) c.args.count c.args.reader.now l.reader c.read_end.new.reader l.passed l.invariant.coming.0 e.read.0 l.invariant.coming.1
+            e.read.1,
+      );
     }
 
 pub returns-clause-read : goal.returns-clause-read
 returns-clause-read c =
-    let l = c.loop-passed in
-    (l.invariant.coming.0, times_end (field 1 end_rule gives) c.args.count c.args.reader.now l.reader l.passed l.invariant.coming.0 l.invariant.coming.1 l.auto.passed-end c.loop-passed-test.false)
+    let l = c.loop-passed in (
+      l.invariant.coming.0,
+      times_end (field 1 end_rule gives) c.args.count c.args.reader.now l.reader l.passed l.invariant.coming.0 l.invariant.coming.1
+          l.auto.passed-end c.loop-passed-test.false,
+    )

@@ -12,7 +12,8 @@ pub returns-in_err-same-clause-fault : goal.returns-in_err-same-clause-fault
 returns-in_err-same-clause-fault c =
     let fault = c.in_err-same.field-0.0 in
     let old = c.args.reader.now in
-    handed_on c.from_residual.result fault (IsAtFault (segment_fields c.args.channels) old) c.from_residual.ensures.1 (segments_cut c.args.channels old fault c.in_err-same.ensures.fault)
+    handed_on c.from_residual.result fault (IsAtFault (segment_fields c.args.channels) old) c.from_residual.ensures.1
+    (segments_cut c.args.channels old fault c.in_err-same.ensures.fault)
 
 how_many : (c : goal.After-read_ends) → c.if-same-eq1.ends ≡ (if c.in_ok-same.same == 1 then 1 else c.args.channels)
 how_many c = elim c.if-same-eq1.branch [
@@ -27,7 +28,8 @@ returns-clause-read c =
     let new = c.read_ends.new.reader in
     let same = c.in_ok-same.same in
     IfOk-weaker c.read_ends.result (λ _. HasPassed (times c.if-same-eq1.ends end_bit) mid new) (λ _. HasPassed (segment_fields c.args.channels) old new)
-    (λ _ p. segments_passed c.args.channels same old mid new c.in_ok-same.ensures.read (subst (λ n. HasPassed (times n end_bit) mid new) (how_many c) p)) c.read_ends.ensures.read
+    (λ _ p. segments_passed c.args.channels same old mid new c.in_ok-same.ensures.read (subst (λ n. HasPassed (times n end_bit) mid new) (how_many c) p))
+    c.read_ends.ensures.read
 
 pub returns-clause-fault : goal.returns-clause-fault
 returns-clause-fault c =
@@ -35,4 +37,5 @@ returns-clause-fault c =
     let mid = c.read_number.new.reader in
     let same = c.in_ok-same.same in
     IfErr-weaker c.read_ends.result (IsAtFault (times c.if-same-eq1.ends end_bit) mid) (IsAtFault (segment_fields c.args.channels) old)
-    (λ fault p. segments_failed c.args.channels same old mid fault c.in_ok-same.ensures.read (subst (λ n. IsAtFault (times n end_bit) mid fault) (how_many c) p)) c.read_ends.ensures.fault
+    (λ fault p. segments_failed c.args.channels same old mid fault c.in_ok-same.ensures.read
+    (subst (λ n. IsAtFault (times n end_bit) mid fault) (how_many c) p)) c.read_ends.ensures.fault

@@ -14,7 +14,8 @@ loop-channel-init c =
     record {
       bytes = refl;
       long = ap length c.new-half_prob.ensures;
-      coming = subst (λ half_prob. TimesToCome (number 1) c.args.channels old 0 (map bit_of half_prob) old) (sym c.new-half_prob.ensures) (times_start (number 1) c.args.channels old);
+      coming = subst (λ half_prob. TimesToCome (number 1) c.args.channels old 0 (map bit_of half_prob) old) (sym c.new-half_prob.ensures)
+          (times_start (number 1) c.args.channels old);
     }
 
 pub returns-in_err-bit-clause-fault : goal.returns-in_err-bit-clause-fault
@@ -23,7 +24,8 @@ returns-in_err-bit-clause-fault c =
     let fault = c.in_err-bit.field-0.0 in
     let old = c.args.reader.now in
     handed_on c.from_residual.result fault (IsAtFault (times c.args.channels (number 1)) old) c.from_residual.ensures.1
-    (times_fail (number 1) c.args.channels old l.reader l.channel (map bit_of l.half_prob.items) fault l.invariant.coming c.loop-channel-test.true c.in_err-bit.ensures.fault)
+    (times_fail (number 1) c.args.channels old l.reader l.channel
+    (map bit_of l.half_prob.items) fault l.invariant.coming c.loop-channel-test.true c.in_err-bit.ensures.fault)
 
 bit_again : (v : ℕ) → v < 2 → bit_of (v == 1) ≡ v
 bit_again zero h = refl
@@ -38,7 +40,8 @@ loop-channel-preserved c =
     let v = c.in_ok-bit.bit in
     let p = c.push in
     let numbers : map bit_of p.new.self.items ≡ map bit_of l.half_prob.items ++ v ∷ [] =
-    ap (map bit_of) p.ensures.items ∙ map-append bit_of l.half_prob.items ((v == 1) ∷ []) ∙ ap (λ b. map bit_of l.half_prob.items ++ b ∷ []) (bit_again v c.in_ok-bit.ensures.fits) in
+    ap (map bit_of) p.ensures.items ∙ map-append bit_of l.half_prob.items ((v == 1) ∷ [])
+    ∙ ap (λ b. map bit_of l.half_prob.items ++ b ∷ []) (bit_again v c.in_ok-bit.ensures.fits) in
     record {
       bytes = c.in_ok-bit.ensures.bytes ∙ l.invariant.bytes;
       long = p.ensures.len ∙ ap (λ n. n + 1) l.invariant.long;
@@ -49,4 +52,5 @@ loop-channel-preserved c =
 pub returns-clause-read : goal.returns-clause-read
 returns-clause-read c =
     let l = c.loop-channel in
-    times_end (number 1) c.args.channels c.args.reader.now l.reader l.channel (map bit_of l.half_prob.items) l.invariant.coming l.auto.channel-end c.loop-channel-test.false
+    times_end (number 1) c.args.channels c.args.reader.now l.reader l.channel
+    (map bit_of l.half_prob.items) l.invariant.coming l.auto.channel-end c.loop-channel-test.false

@@ -14,7 +14,8 @@ loop-read-init g c =
       bytes = refl;
       few = c.requires.few;
       long = ap length c.new-tables.ensures;
-      coming = subst (λ tables. TimesToCome m c.args.count old 0 (map g.K.TableKind.values tables) old) (sym c.new-tables.ensures) (times_start m c.args.count old);
+      coming = subst (λ tables. TimesToCome m c.args.count old 0 (map g.K.TableKind.values tables) old) (sym c.new-tables.ensures)
+          (times_start m c.args.count old);
     }
 
 pub returns-in_err-table-clause-fault : goal.returns-in_err-table-clause-fault
@@ -24,7 +25,8 @@ returns-in_err-table-clause-fault g c =
     let old = c.args.reader.now in
     let m = table_fields g.K.TableKind.kind in
     handed_on c.from_residual.result fault (IsAtFault (times c.args.count m) old) c.from_residual.ensures.1
-    (times_fail m c.args.count old l.reader l.read (map g.K.TableKind.values l.tables.items) fault l.invariant.coming c.loop-read-test.true c.in_err-table.ensures.fault)
+    (times_fail m c.args.count old l.reader l.read (map g.K.TableKind.values l.tables.items) fault l.invariant.coming c.loop-read-test.true
+    c.in_err-table.ensures.fault)
 
 pub loop-read-preserved : goal.loop-read-preserved
 loop-read-preserved g c =
@@ -50,4 +52,5 @@ loop-read-preserved g c =
 pub returns-clause-read : goal.returns-clause-read
 returns-clause-read g c =
     let l = c.loop-read in
-    times_end (table_fields g.K.TableKind.kind) c.args.count c.args.reader.now l.reader l.read (map g.K.TableKind.values l.tables.items) l.invariant.coming l.auto.read-end c.loop-read-test.false
+    times_end (table_fields g.K.TableKind.kind) c.args.count c.args.reader.now l.reader l.read
+    (map g.K.TableKind.values l.tables.items) l.invariant.coming l.auto.read-end c.loop-read-test.false

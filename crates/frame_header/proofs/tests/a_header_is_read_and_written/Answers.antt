@@ -7,4 +7,5 @@ pub read_header-requires-clause-coded : goal.read_header-requires-clause-coded
 read_header-requires-clause-coded g c =
     let r = c.new-reader.result in
     let a = c.in-Some-eq1 in
-    ap (λ x. get_or (bits x) 0 0) a.ensures.bytes ∙ sym (first_number (bits r.bytes)) ∙ ap (λ i. number_from (bits r.bytes) i 1) (sym c.new-reader.ensures.place) ∙ sym a.ensures.number ∙ a.field-0-test
+    ap (λ x. get_or (bits x) 0 0) a.ensures.bytes ∙ sym (first_number (bits r.bytes))
+    ∙ ap (λ i. number_from (bits r.bytes) i 1) (sym c.new-reader.ensures.place) ∙ sym a.ensures.number ∙ a.field-0-test

@@ -10,14 +10,16 @@ pub returns-in_err-reserved-clause-fault : goal.returns-in_err-reserved-clause-f
 returns-in_err-reserved-clause-fault c =
     let fault = c.in_err-reserved.field-0.0 in
     let a = c.args.reader.now in
-    handed_on c.from_residual.result fault (IsAtFault (plain_frame_fields c.args.channels) a) c.from_residual.ensures.1 (reserved_cut c.args.channels a fault c.in_err-reserved.ensures.fault)
+    handed_on c.from_residual.result fault (IsAtFault (plain_frame_fields c.args.channels) a) c.from_residual.ensures.1
+    (reserved_cut c.args.channels a fault c.in_err-reserved.ensures.fault)
 
 pub returns-in_err-read_stuffing-clause-fault : goal.returns-in_err-read_stuffing-clause-fault
 returns-in_err-read_stuffing-clause-fault c =
     let fault = c.in_err-read_stuffing.field-0.0 in
     let a = c.args.reader.now in
     let b = c.read_number.new.reader in
-    handed_on c.from_residual-in_err-read_stuffing.result fault (IsAtFault (plain_frame_fields c.args.channels) a) c.from_residual-in_err-read_stuffing.ensures.1
+    handed_on c.from_residual-in_err-read_stuffing.result fault
+    (IsAtFault (plain_frame_fields c.args.channels) a) c.from_residual-in_err-read_stuffing.ensures.1
     (stuffing_fails c.args.channels a b c.in_ok-reserved.reserved fault c.in_ok-reserved.ensures.read c.in_err-read_stuffing.ensures.fault)
 
 pub returns-then-frame-bytes-clause-fault : goal.returns-then-frame-bytes-clause-fault
@@ -31,7 +33,8 @@ returns-then-frame-bytes-clause-fault c =
     let size = c.sound_bytes-bytes.ensures in
     let some : 1 ≤ sound_bytes f = omega (arith, size.bytes, size.least) in
     let short : length c.args.frame.now < 1 + sound_bytes f = omega (arith, size.bytes, c.if-frame-bytes.true) in
-    rw c.place-bit.ensures.place (sound_cut f c.args.frame.now c.args.reader.now c.read_number.new.reader d r.reserved r.ensures.read s.ensures.read bytes place some short)
+    rw c.place-bit.ensures.place (sound_cut f c.args.frame.now c.args.reader.now c.read_number.new.reader d r.reserved r.ensures.read s.ensures.read bytes
+    place some short)
 
 pub returns-clause-whole : goal.returns-clause-whole
 returns-clause-whole c =

@@ -20,13 +20,15 @@ returns-in_err-coded-clause-fault c =
     let fault = c.in_err-coded.field-0.0 in
     let a = c.new-reader.result in
     let starts : Starts c.args.frame.now a = record { bytes = c.new-reader.ensures.bytes; place = c.new-reader.ensures.place } in
-    handed_on c.from_residual.result fault (Offends c.args.channels c.args.frame.now) c.from_residual.ensures.1 (first_cut c.args.channels c.args.frame.now a fault starts c.in_err-coded.ensures.fault)
+    handed_on c.from_residual.result fault (Offends c.args.channels c.args.frame.now) c.from_residual.ensures.1
+    (first_cut c.args.channels c.args.frame.now a fault starts c.in_err-coded.ensures.fault)
 
 pub returns-in_err-coded-clause-reason : goal.returns-in_err-coded-clause-reason
 returns-in_err-coded-clause-reason c =
     let fault = c.in_err-coded.field-0.0 in
     let a = c.new-reader.result in
-    handed_on c.from_residual.result fault Is8 c.from_residual.ensures.1 (early_reason (number 1) (left a) a.place fault (early_number 1) c.in_err-coded.ensures.fault)
+    handed_on c.from_residual.result fault Is8 c.from_residual.ensures.1
+    (early_reason (number 1) (left a) a.place fault (early_number 1) c.in_err-coded.ensures.fault)
 
 pub lend_sound-requires-clause-plain : goal.lend_sound-requires-clause-plain
 lend_sound-requires-clause-plain c =
@@ -42,7 +44,8 @@ returns-in_err-sound-clause-fault c =
     let b = c.read_number.new.reader in
     let starts : Starts c.args.frame.now a = record { bytes = c.new-reader.ensures.bytes; place = c.new-reader.ensures.place } in
     handed_on c.from_residual-in_err-sound.result fault (Offends c.args.channels c.args.frame.now) c.from_residual-in_err-sound.ensures.1
-    (plain_fails c.args.channels c.args.frame.now a b c.in_ok-coded.coded fault starts c.in_ok-coded.ensures.read c.if-coded-eq0.true c.in_err-sound.ensures.fault)
+    (plain_fails c.args.channels c.args.frame.now a b c.in_ok-coded.coded fault starts c.in_ok-coded.ensures.read c.if-coded-eq0.true
+    c.in_err-sound.ensures.fault)
 
 pub returns-in_err-sound-clause-reason : goal.returns-in_err-sound-clause-reason
 returns-in_err-sound-clause-reason c =
@@ -82,7 +85,8 @@ returns-in_err-header-clause-fault c =
     let b = c.read_number.new.reader in
     let starts : Starts c.args.frame.now a = record { bytes = c.new-reader.ensures.bytes; place = c.new-reader.ensures.place } in
     let place : b.place ≡ 1 = c.in_ok-coded.ensures.place ∙ ap (λ i. i + 1) c.new-reader.ensures.place in
-    let failed : IsAtFault (header_fields c.args.channels.channels) b fault = ap (λ i. read (header_fields c.args.channels.channels) (left b) i) place ∙ c.in_err-header.ensures.fault in
+    let failed : IsAtFault (header_fields c.args.channels.channels) b fault = ap (λ i. read (header_fields c.args.channels.channels) (left b) i) place
+    ∙ c.in_err-header.ensures.fault in
     handed_on c.from_residual-in_err-header.result fault (Offends c.args.channels c.args.frame.now) c.from_residual-in_err-header.ensures.1
     (header_fails c.args.channels c.args.frame.now a b c.in_ok-coded.coded fault starts c.in_ok-coded.ensures.read c.if-coded-eq0.false failed)
 
@@ -102,7 +106,8 @@ coded c =
     let starts : Starts c.args.frame.now a = record { bytes = c.new-reader.ensures.bytes; place = c.new-reader.ensures.place } in
     let place : b.place ≡ 1 = c.in_ok-coded.ensures.place ∙ ap (λ i. i + 1) c.new-reader.ensures.place in
     let gave : HasRead (header_fields c.args.channels.channels) b h.header.params d =
-    ap (λ i. read (header_fields c.args.channels.channels) (left b) i) place ∙ h.ensures.fields ∙ ap (λ i. Ok (h.header.params, left d, i)) (sym h.ensures.place) in
+    ap (λ i. read (header_fields c.args.channels.channels) (left b) i) place ∙ h.ensures.fields
+    ∙ ap (λ i. Ok (h.header.params, left d, i)) (sym h.ensures.place) in
     let bytes : d.bytes ≡ c.args.frame.now = h.ensures.bytes ∙ c.in_ok-coded.ensures.bytes ∙ c.new-reader.ensures.bytes in
     coded_from c.args.channels c.args.frame.now a b d c.in_ok-coded.coded h.header.params starts c.in_ok-coded.ensures.read c.if-coded-eq0.false gave bytes
 

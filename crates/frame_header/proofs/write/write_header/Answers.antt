@@ -18,7 +18,8 @@ returns-then-length-room-clause-written c =
     let long = parts_long P front fs ps parts in
     let filters : c.tables_length.result ≡ length (filters_spelling fs) = c.tables_length.ensures.length in
     let probs : c.tables_length-2.result ≡ length (probs_spelling ps) = c.tables_length-2.ensures.length in
-    let no : length (header_spelling P) ≤ c.args.writer.now.room → ⊥ = λ fits. omega (arith, long, c.length.ensures.length, filters, probs, c.from.ensures, c.if-length-room.true, c.room.ensures.room, fits) in
+    let no : length (header_spelling P) ≤ c.args.writer.now.room →
+    ⊥ = λ fits. omega (arith, long, c.length.ensures.length, filters, probs, c.from.ensures, c.if-length-room.true, c.room.ensures.room, fits) in
     (λ t. absurd cc, λ fits. absurd (no fits))
 
 whole : (c : goal.After-write_tables-2) → Wrote c.args.writer.now (header_spelling c.args.params.now) c.write_tables-2.new.writer
@@ -28,7 +29,8 @@ whole c =
       filters_are = c.as_slice-filters.ensures.value ∙ ap (λ Q. Q.filters) c.params.view_is;
       probs_are = c.as_slice-probs.ensures.value ∙ ap (λ Q. Q.probs) c.params.view_is;
     } in
-    wrote_header c.args.params.now c.of-front.result c.as_slice-filters.result.now c.as_slice-probs.result.now c.args.writer.now c.write.new.writer c.write_tables.new.writer c.write_tables-2.new.writer parts
+    wrote_header c.args.params.now c.of-front.result c.as_slice-filters.result.now c.as_slice-probs.result.now c.args.writer.now c.write.new.writer
+    c.write_tables.new.writer c.write_tables-2.new.writer parts
     c.write.ensures c.write_tables.ensures c.write_tables-2.ensures
 
 pub returns-clause-written : goal.returns-clause-written

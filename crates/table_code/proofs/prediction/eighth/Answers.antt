@@ -11,7 +11,8 @@ use Rattle.table_code.proofs.prediction.eighth.Goals as goal
 sum_most : (g : given.Over) (c : goal.After-term-sum g) → nat_abs c.loop-k.sum ≤ 28672
 sum_most g c =
     let K = g.K.TableKind.kind in
-    sum_is_small c.loop-k.sum (weighted (drop c.loop-k.k (K.weights c.args.method)) (drop c.loop-k.k (reverse c.args.values.now))) (weighted (K.weights c.args.method) (reverse c.args.values.now)) (rw c.loop-k.sum-is at c.loop-k.invariant)
+    sum_is_small c.loop-k.sum (weighted (drop c.loop-k.k (K.weights c.args.method)) (drop c.loop-k.k (reverse c.args.values.now)))
+    (weighted (K.weights c.args.method) (reverse c.args.values.now)) (rw c.loop-k.sum-is at c.loop-k.invariant)
     (rest_is_small K c.args.method c.loop-k.k c.args.values.now g.met.K.TableKind.small g.met.K.TableKind.weights c.requires.method c.requires.each)
     (rest_is_small K c.args.method 0 c.args.values.now g.met.K.TableKind.small g.met.K.TableKind.weights c.requires.method c.requires.each)
 
@@ -19,7 +20,8 @@ next_fits : (g : given.Over) (c : goal.After-term-sum g) → SFits w32 (c.loop-k
 next_fits g c =
     let p = abs_between c.loop-k.sum 28672 (sum_most g c) in
     let q = abs_between c.term-sum.result 14336 c.term-sum.ensures.small in
-    fits_signed_from_abs w32 (c.loop-k.sum +ℤ c.term-sum.result) (omega (arith, abs_most (c.loop-k.sum +ℤ c.term-sum.result) 43008 (omega (arith, ints, p.0, q.0)) (omega (arith, ints, p.1, q.1))))
+    fits_signed_from_abs w32 (c.loop-k.sum +ℤ c.term-sum.result)
+    (omega (arith, abs_most (c.loop-k.sum +ℤ c.term-sum.result) 43008 (omega (arith, ints, p.0, q.0)) (omega (arith, ints, p.1, q.1))))
 
 pub overflow_add-sum : goal.overflow_add-sum
 overflow_add-sum g c =
@@ -40,12 +42,14 @@ loop-k-preserved g c =
 whole_sum : (g : given.Over) (c : goal.After-loop-k g) → c.loop-k.sum ≡ weighted (g.K.TableKind.kind.weights c.args.method) (reverse c.args.values.now)
 whole_sum g c =
     let K = g.K.TableKind.kind in
-    let past = weighted_past (K.weights c.args.method) (drop c.loop-k.k (reverse c.args.values.now)) c.loop-k.k (omega (arith, (g.met.K.TableKind.weights c.args.method c.requires.method).0)) in
+    let past = weighted_past (K.weights c.args.method) (drop c.loop-k.k (reverse c.args.values.now)) c.loop-k.k
+    (omega (arith, (g.met.K.TableKind.weights c.args.method c.requires.method).0)) in
     omega (arith, ints, c.loop-k.invariant, past)
 
 whole_most : (g : given.Over) (c : goal.After-loop-k g) → nat_abs c.loop-k.sum ≤ 14336
 whole_most g c =
-    rw (whole_sum g c) (rest_is_small g.K.TableKind.kind c.args.method 0 c.args.values.now g.met.K.TableKind.small g.met.K.TableKind.weights c.requires.method c.requires.each)
+    rw (whole_sum g c) (rest_is_small g.K.TableKind.kind c.args.method 0 c.args.values.now g.met.K.TableKind.small g.met.K.TableKind.weights
+    c.requires.method c.requires.each)
 
 pub rounded-requires-clause-least : goal.rounded-requires-clause-least
 rounded-requires-clause-least g c =

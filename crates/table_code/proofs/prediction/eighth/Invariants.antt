@@ -4,4 +4,5 @@ use Rattle.table_code.proofs.prediction.eighth.Given as goal
 
 abbrev pub invariant-loop-k : goal.invariant-loop-k
 invariant-loop-k g l =
-    l.sum +ℤ weighted (drop l.k (g.K.TableKind.kind.weights l.method)) (drop l.k (reverse l.values)) ≡ weighted (g.K.TableKind.kind.weights l.method) (reverse l.values)
+    l.sum +ℤ weighted (drop l.k (g.K.TableKind.kind.weights l.method)) (drop l.k (reverse l.values)) ≡ weighted (g.K.TableKind.kind.weights l.method)
+    (reverse l.values)

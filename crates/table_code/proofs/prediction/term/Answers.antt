@@ -15,7 +15,8 @@ weight_most g c = rw (weight_is g c) (weight_is_small g.K.TableKind.kind c.args.
 
 value_most : (g : given.Over) (c : goal.After-from_last g) → nat_abs c.from_last.result ≤ 256
 value_most g c =
-    rw c.from_last.ensures (value_is_small g.K.TableKind.kind c.args.values.now (length c.args.values.now - 1 - c.args.k) (pos 0) g.met.K.TableKind.small c.requires.each (omega arith))
+    rw c.from_last.ensures (value_is_small g.K.TableKind.kind c.args.values.now (length c.args.values.now - 1 - c.args.k)
+    (pos 0) g.met.K.TableKind.small c.requires.each (omega arith))
 
 product_fits : (g : given.Over) (c : goal.After-from_last g) → SFits w32 (c.weight.result *ℤ c.from_last.result)
 product_fits g c = fits_signed_mul w32 c.weight.result c.from_last.result 56 256 (weight_most g c) (value_most g c) (omega arith)
@@ -38,4 +39,8 @@ returns-clause-small g c =
     let fits_w : SFits w32 c.weight.result = search rules in
     let fits_v : SFits w32 c.from_last.result = search rules in
     rw (to_z-of_z w32 c.weight.result fits_w, to_z-of_z w32 c.from_last.result fits_v, to_z-of_z w32 (c.weight.result *ℤ c.from_last.result) (product_fits g c))
-    (omega (arith, unsigned_abs-mul c.weight.result c.from_last.result, mul-le (nat_abs c.weight.result) (nat_abs c.from_last.result) 56 256 (weight_most g c) (value_most g c)))
+    (omega (
+      arith,
+      unsigned_abs-mul c.weight.result c.from_last.result,
+      mul-le (nat_abs c.weight.result) (nat_abs c.from_last.result) 56 256 (weight_most g c) (value_most g c),
+    ))

@@ -18,7 +18,8 @@ returns-in_err-value-clause-fault g c =
     let p = err_from_is_err_and c.from_residual.result c.from_residual.ensures.1 in
     let fault = rw c.as_slice.ensures.value at c.in_err-value.ensures.fault in
     rw (p.1, p.2)
-    (c.loop.invariant.rest ∙ later_stops K (K.weights c.args.method) c.args.m c.args.count c.loop.values.items (left c.loop.reader) c.loop.reader.place c.in_err-value.field-0.0 (omega (arith, c.loop.invariant.counted)) fault)
+    (c.loop.invariant.rest ∙ later_stops K (K.weights c.args.method) c.args.m c.args.count c.loop.values.items
+    (left c.loop.reader) c.loop.reader.place c.in_err-value.field-0.0 (omega (arith, c.loop.invariant.counted)) fault)
 
 pub loop-preserved : goal.loop-preserved
 loop-preserved g c =
@@ -35,11 +36,14 @@ loop-preserved g c =
       bytes = c.in_ok-value.ensures.bytes ∙ c.loop.invariant.bytes;
       fewer = omega (arith, c.in_ok-value.ensures.fewer, c.loop.invariant.fewer);
       rest = c.loop.invariant.rest
-          ∙ later_next K (K.weights c.args.method) c.args.m c.args.count vs v (left c.loop.reader) (left c.read_later_value.new.reader) c.loop.reader.place c.read_later_value.new.reader.place (omega (arith, c.loop.invariant.counted)) value
-          ∙ ap (λ ws. read (later_rest K (K.weights c.args.method) c.args.m c.args.count ws) (left c.read_later_value.new.reader) c.read_later_value.new.reader.place) (sym pushed);
+          ∙ later_next K (K.weights c.args.method) c.args.m c.args.count vs v (left c.loop.reader)
+          (left c.read_later_value.new.reader) c.loop.reader.place c.read_later_value.new.reader.place (omega (arith, c.loop.invariant.counted)) value
+          ∙ ap (λ ws. read (later_rest K (K.weights c.args.method) c.args.m c.args.count ws)
+          (left c.read_later_value.new.reader) c.read_later_value.new.reader.place) (sym pushed);
     }
 
 pub returns-clause-values : goal.returns-clause-values
 returns-clause-values g c =
     let K = g.K.TableKind.kind in
-    c.loop.invariant.rest ∙ later_ends K (K.weights c.args.method) c.args.m c.args.count c.loop.values.items (left c.loop.reader) c.loop.reader.place (omega (arith, c.loop.invariant.counted))
+    c.loop.invariant.rest ∙ later_ends K (K.weights c.args.method) c.args.m c.args.count c.loop.values.items (left c.loop.reader) c.loop.reader.place
+    (omega (arith, c.loop.invariant.counted))

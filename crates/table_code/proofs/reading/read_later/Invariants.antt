@@ -13,6 +13,7 @@ invariant-loop g l = record {
   each : AllByRecursion (InRange g.K.TableKind.kind) l.values.items;
   bytes : l.reader.bytes ≡ l.initial.reader.bytes;
   fewer : length (left l.reader) ≤ length (left l.initial.reader);
-  rest : read (later_rest g.K.TableKind.kind (g.K.TableKind.kind.weights l.method) l.m l.count l.initial.values.items) (left l.initial.reader) l.initial.reader.place
+  rest : read (later_rest g.K.TableKind.kind (g.K.TableKind.kind.weights l.method) l.m l.count l.initial.values.items)
+      (left l.initial.reader) l.initial.reader.place
       ≡ read (later_rest g.K.TableKind.kind (g.K.TableKind.kind.weights l.method) l.m l.count l.values.items) (left l.reader) l.reader.place;
 }

@@ -13,7 +13,8 @@ use Rattle.table_code.proofs.reading.read_later_value.Goals as goal
 pub returns-in_default-clause-fault : goal.returns-in_default-clause-fault
 returns-in_default-clause-fault g c =
     let K = g.K.TableKind.kind in
-    rw (c.fault.ensures, c.place-bit.ensures.place) (later_cut K (K.weights c.args.method) c.args.m (reverse c.args.earlier.now) (left c.args.reader.now) c.args.reader.now.place c.in_default.ensures.none)
+    rw (c.fault.ensures, c.place-bit.ensures.place) (later_cut K (K.weights c.args.method) c.args.m (reverse c.args.earlier.now)
+    (left c.args.reader.now) c.args.reader.now.place c.in_default.ensures.none)
 
 -- the value is the residual less the eighth
 pub returns-in-Some-within_range-clause-value : goal.returns-in-Some-within_range-clause-value
@@ -27,7 +28,8 @@ returns-in-Some-within_range-clause-value g c =
     omega (arith, ints, c.in-Some-within_range.ensures.value, c.from.ensures, c.from-2.ensures, c.eighth.ensures.eighth) in
     let keeps = ap (range_rule K) c.in-Some-within_range.ensures.value ∙ c.in-Some-within_range.ensures.met in
     rw (to_z-of_z w32 v fits, c.in-Some.ensures.rest, c.in-Some.ensures.place)
-    (later_given K (K.weights c.args.method) c.args.m (reverse c.args.earlier.now) (left c.args.reader.now) c.args.reader.now.place c.in-Some.residual v c.in-Some.ensures.enough c.in-Some.ensures.residual is keeps)
+    (later_given K (K.weights c.args.method) c.args.m (reverse c.args.earlier.now)
+    (left c.args.reader.now) c.args.reader.now.place c.in-Some.residual v c.in-Some.ensures.enough c.in-Some.ensures.residual is keeps)
 
 pub returns-in-Some-within_range-clause-range : goal.returns-in-Some-within_range-clause-range
 returns-in-Some-within_range-clause-range g c =
@@ -45,5 +47,6 @@ returns-in-None-clause-fault g c =
     let is : v ≡ c.in-Some.residual -ℤ eighth (K.weights c.args.method) (reverse c.args.earlier.now) =
     omega (arith, ints, c.from.ensures, c.from-2.ensures, c.eighth.ensures.eighth) in
     rw (c.fault-in-None.ensures, c.place-bit.ensures.place, c.range_reason.ensures)
-    (later_refused K (K.weights c.args.method) c.args.m (reverse c.args.earlier.now) (left c.args.reader.now) c.args.reader.now.place c.in-Some.residual v (if K.lone then ProbRange else CoefRange)
+    (later_refused K (K.weights c.args.method) c.args.m (reverse c.args.earlier.now) (left c.args.reader.now) c.args.reader.now.place c.in-Some.residual v
+    (if K.lone then ProbRange else CoefRange)
     c.in-Some.ensures.enough c.in-Some.ensures.residual is c.in-None.ensures.none)

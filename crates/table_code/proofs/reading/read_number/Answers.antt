@@ -5,7 +5,8 @@ use Rattle.table_code.proofs.reading.read_number.Goals as goal
 
 pub returns-in-Some-clause-number : goal.returns-in-Some-clause-number
 returns-in-Some-clause-number c =
-    rw (c.in-Some.ensures.rest, c.in-Some.ensures.place) (number_gives c.args.n (left c.args.reader.now) c.args.reader.now.place c.in-Some.number c.in-Some.ensures.enough c.in-Some.ensures.first)
+    rw (c.in-Some.ensures.rest, c.in-Some.ensures.place) (number_gives c.args.n
+    (left c.args.reader.now) c.args.reader.now.place c.in-Some.number c.in-Some.ensures.enough c.in-Some.ensures.first)
 
 pub returns-in-None-clause-fault : goal.returns-in-None-clause-fault
 returns-in-None-clause-fault c =

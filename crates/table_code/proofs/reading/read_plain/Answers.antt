@@ -16,7 +16,9 @@ pub returns-in_err-read_plain_value-clause-fault : goal.returns-in_err-read_plai
 returns-in_err-read_plain_value-clause-fault g c =
     let p = err_from_is_err_and c.from_residual.result c.from_residual.ensures.1 in
     rw (p.1, p.2)
-    (c.loop.invariant.rest ∙ plain_stops g.K.TableKind.kind c.args.count c.loop.values.items (left c.loop.reader) c.loop.reader.place c.in_err-read_plain_value.field-0.0 (omega (arith, c.loop.invariant.counted)) c.in_err-read_plain_value.ensures.fault)
+    (c.loop.invariant.rest ∙ plain_stops g.K.TableKind.kind c.args.count c.loop.values.items
+    (left c.loop.reader) c.loop.reader.place c.in_err-read_plain_value.field-0.0
+    (omega (arith, c.loop.invariant.counted)) c.in_err-read_plain_value.ensures.fault)
 
 pub loop-init : goal.loop-init
 loop-init g c =
@@ -26,7 +28,8 @@ loop-init g c =
       each = subst (AllByRecursion (InRange K)) (sym c.new-values.ensures) tt;
       bytes = refl;
       fewer = omega arith;
-      rest = sym (plain_begins K c.args.count (left c.args.reader.now) c.args.reader.now.place) ∙ ap (λ vs. read (plain_rest K c.args.count vs) (left c.args.reader.now) c.args.reader.now.place) (sym c.new-values.ensures);
+      rest = sym (plain_begins K c.args.count (left c.args.reader.now) c.args.reader.now.place)
+          ∙ ap (λ vs. read (plain_rest K c.args.count vs) (left c.args.reader.now) c.args.reader.now.place) (sym c.new-values.ensures);
     }
 
 pub loop-preserved : goal.loop-preserved
@@ -38,14 +41,17 @@ loop-preserved g c =
     let pushed : c.push.new.self.items ≡ vs ++ v ∷ [] = rw (to_z-of_z w32 v fits) at c.push.ensures.items in
     record {
       counted = omega (arith, ap length pushed, length-append vs (v ∷ []), c.loop.invariant.counted);
-      each = subst (AllByRecursion (InRange K)) (sym pushed) (all_append (InRange K) vs (v ∷ []) c.loop.invariant.each (c.in_ok-read_plain_value.ensures.range, tt));
+      each = subst (AllByRecursion (InRange K)) (sym pushed)
+          (all_append (InRange K) vs (v ∷ []) c.loop.invariant.each (c.in_ok-read_plain_value.ensures.range, tt));
       bytes = c.in_ok-read_plain_value.ensures.bytes ∙ c.loop.invariant.bytes;
       fewer = omega (arith, c.in_ok-read_plain_value.ensures.fewer, c.loop.invariant.fewer);
       rest = c.loop.invariant.rest
-          ∙ plain_next K c.args.count vs v (left c.loop.reader) (left c.read_plain_value.new.reader) c.loop.reader.place c.read_plain_value.new.reader.place (omega (arith, c.loop.invariant.counted)) c.in_ok-read_plain_value.ensures.value
+          ∙ plain_next K c.args.count vs v (left c.loop.reader) (left c.read_plain_value.new.reader) c.loop.reader.place c.read_plain_value.new.reader.place
+          (omega (arith, c.loop.invariant.counted)) c.in_ok-read_plain_value.ensures.value
           ∙ ap (λ ws. read (plain_rest K c.args.count ws) (left c.read_plain_value.new.reader) c.read_plain_value.new.reader.place) (sym pushed);
     }
 
 pub returns-clause-values : goal.returns-clause-values
 returns-clause-values g c =
-    c.loop.invariant.rest ∙ plain_ends g.K.TableKind.kind c.args.count c.loop.values.items (left c.loop.reader) c.loop.reader.place (omega (arith, c.loop.invariant.counted))
+    c.loop.invariant.rest ∙ plain_ends g.K.TableKind.kind c.args.count c.loop.values.items (left c.loop.reader) c.loop.reader.place
+    (omega (arith, c.loop.invariant.counted))

@@ -13,5 +13,6 @@ invariant-loop g l = record {
   each : AllByRecursion (InRange g.K.TableKind.kind) l.values.items;
   bytes : l.reader.bytes ≡ l.initial.reader.bytes;
   fewer : length (left l.reader) ≤ length (left l.initial.reader);
-  rest : read (times l.count (plain_fields g.K.TableKind.kind)) (left l.initial.reader) l.initial.reader.place ≡ read (plain_rest g.K.TableKind.kind l.count l.values.items) (left l.reader) l.reader.place;
+  rest : read (times l.count (plain_fields g.K.TableKind.kind)) (left l.initial.reader) l.initial.reader.place ≡ read
+      (plain_rest g.K.TableKind.kind l.count l.values.items) (left l.reader) l.reader.place;
 }

@@ -26,7 +26,8 @@ returns-clause-value g c =
     let number = rw width at c.in_ok-number.ensures.number in
     let fits : SFits w32 c.plain_value.result = search rules in
     rw (to_z-of_z w32 c.plain_value.result fits, c.plain_value.ensures)
-    (as_field K.value_bits any (λ x. gives (value_of K x)) (left c.args.reader.now) (left c.read_number.new.reader) c.args.reader.now.place c.read_number.new.reader.place c.in_ok-number.number number refl
+    (as_field K.value_bits any (λ x. gives (value_of K x)) (left c.args.reader.now)
+    (left c.read_number.new.reader) c.args.reader.now.place c.read_number.new.reader.place c.in_ok-number.number number refl
     ∙ read-gives (value_of K c.in_ok-number.number) (left c.read_number.new.reader) c.read_number.new.reader.place)
 
 pub returns-clause-range : goal.returns-clause-range

@@ -22,17 +22,21 @@ returns-then-is_alone-clause-values g c =
     let width : c.LENGTH_BITS.result ≡ K.length_bits = c.LENGTH_BITS.ensures ∙ g.met.K.TableKind.length_bits in
     let number = rw width at c.in_ok-longer.ensures.number in
     let fits : SFits w32 c.GREATEST.result = search rules in
-    let pushed : c.push.new.self.items ≡ [] ++ c.GREATEST.result ∷ [] = rw (to_z-of_z w32 c.GREATEST.result fits, c.new-values.ensures) at c.push.ensures.items in
+    let pushed : c.push.new.self.items ≡ [] ++ c.GREATEST.result ∷ [] =
+    rw (to_z-of_z w32 c.GREATEST.result fits, c.new-values.ensures) at c.push.ensures.items in
     let greatest : c.GREATEST.result ≡ K.greatest = c.GREATEST.ensures ∙ g.met.K.TableKind.greatest in
-    rw (pushed, greatest) (length_alone K c.in_ok-longer.longer (left c.args.reader.now) (left c.read_number.new.reader) c.args.reader.now.place c.read_number.new.reader.place number (sym c.is_alone.ensures ∙ c.if-is_alone.true))
+    rw (pushed, greatest) (length_alone K c.in_ok-longer.longer (left c.args.reader.now)
+    (left c.read_number.new.reader) c.args.reader.now.place c.read_number.new.reader.place number (sym c.is_alone.ensures ∙ c.if-is_alone.true))
 
 pub returns-clause-values : goal.returns-clause-values
 returns-clause-values g c =
     let K = g.K.TableKind.kind in
     let width : c.LENGTH_BITS.result ≡ K.length_bits = c.LENGTH_BITS.ensures ∙ g.met.K.TableKind.length_bits in
     let number = rw width at c.in_ok-longer.ensures.number in
-    let e = length_then K c.in_ok-longer.longer (left c.args.reader.now) (left c.read_number.new.reader) c.args.reader.now.place c.read_number.new.reader.place number (sym c.is_alone.ensures ∙ c.if-is_alone.false) in
-    IfOk-weaker c.read_body.result (λ v. HasRead (body_fields K (c.in_ok-longer.longer + 1)) c.read_number.new.reader v.items c.read_body.new.reader) (λ v. HasRead (table_fields K) c.args.reader.now v.items c.read_body.new.reader)
+    let e = length_then K c.in_ok-longer.longer (left c.args.reader.now)
+    (left c.read_number.new.reader) c.args.reader.now.place c.read_number.new.reader.place number (sym c.is_alone.ensures ∙ c.if-is_alone.false) in
+    IfOk-weaker c.read_body.result (λ v. HasRead (body_fields K (c.in_ok-longer.longer + 1)) c.read_number.new.reader v.items c.read_body.new.reader)
+    (λ v. HasRead (table_fields K) c.args.reader.now v.items c.read_body.new.reader)
     (λ v h. e ∙ h) c.read_body.ensures.values
 
 pub returns-clause-fault : goal.returns-clause-fault
@@ -40,5 +44,7 @@ returns-clause-fault g c =
     let K = g.K.TableKind.kind in
     let width : c.LENGTH_BITS.result ≡ K.length_bits = c.LENGTH_BITS.ensures ∙ g.met.K.TableKind.length_bits in
     let number = rw width at c.in_ok-longer.ensures.number in
-    let e = length_then K c.in_ok-longer.longer (left c.args.reader.now) (left c.read_number.new.reader) c.args.reader.now.place c.read_number.new.reader.place number (sym c.is_alone.ensures ∙ c.if-is_alone.false) in
-    IfErr-weaker c.read_body.result (IsAtFault (body_fields K (c.in_ok-longer.longer + 1)) c.read_number.new.reader) (IsAtFault (table_fields K) c.args.reader.now) (λ t h. e ∙ h) c.read_body.ensures.fault
+    let e = length_then K c.in_ok-longer.longer (left c.args.reader.now)
+    (left c.read_number.new.reader) c.args.reader.now.place c.read_number.new.reader.place number (sym c.is_alone.ensures ∙ c.if-is_alone.false) in
+    IfErr-weaker c.read_body.result (IsAtFault (body_fields K (c.in_ok-longer.longer + 1)) c.read_number.new.reader)
+    (IsAtFault (table_fields K) c.args.reader.now) (λ t h. e ∙ h) c.read_body.ensures.fault

@@ -8,18 +8,21 @@ pub returns-then-window-ne0-clause-zeros : goal.returns-then-window-ne0-clause-z
 returns-then-window-ne0-clause-zeros c =
     let same : left c.over.result ≡ left c.loop.reader = cc in
     let value = c.read_or_zero-window.ensures.first ∙ ap (λ xs. number_from xs 0 32) same in
-    (one_found (left c.args.reader.now) (left c.loop.reader) c.loop.passed c.read_or_zero-window.result c.left.ensures.bits c.loop.invariant.rest c.loop.invariant.run value c.if-window-ne0.true c.read_or_zero-window.ensures.fits).0
+    (one_found (left c.args.reader.now) (left c.loop.reader) c.loop.passed c.read_or_zero-window.result c.left.ensures.bits c.loop.invariant.rest
+    c.loop.invariant.run value c.if-window-ne0.true c.read_or_zero-window.ensures.fits).0
 
 pub returns-then-window-ne0-clause-one : goal.returns-then-window-ne0-clause-one
 returns-then-window-ne0-clause-one c =
     let same : left c.over.result ≡ left c.loop.reader = cc in
     let value = c.read_or_zero-window.ensures.first ∙ ap (λ xs. number_from xs 0 32) same in
-    (one_found (left c.args.reader.now) (left c.loop.reader) c.loop.passed c.read_or_zero-window.result c.left.ensures.bits c.loop.invariant.rest c.loop.invariant.run value c.if-window-ne0.true c.read_or_zero-window.ensures.fits).1
+    (one_found (left c.args.reader.now) (left c.loop.reader) c.loop.passed c.read_or_zero-window.result c.left.ensures.bits c.loop.invariant.rest
+    c.loop.invariant.run value c.if-window-ne0.true c.read_or_zero-window.ensures.fits).1
 
 pub loop-preserved : goal.loop-preserved
 loop-preserved c =
     let same : left c.over.result ≡ left c.loop.reader = cc in
-    let none : number_from (left c.loop.reader) 0 32 ≡ 0 = sym (c.read_or_zero-window.ensures.first ∙ ap (λ xs. number_from xs 0 32) same) ∙ c.if-window-ne0.false in
+    let none : number_from (left c.loop.reader) 0 32 ≡ 0 = sym (c.read_or_zero-window.ensures.first ∙ ap (λ xs. number_from xs 0 32) same)
+    ∙ c.if-window-ne0.false in
     let run = none_found (left c.args.reader.now) (left c.loop.reader) c.loop.passed c.loop.invariant.rest c.loop.invariant.run none in
     record {
       counted = search rules;

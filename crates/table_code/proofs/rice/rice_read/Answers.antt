@@ -18,17 +18,21 @@ returns-in_default-clause-no_code c =
 pub returns-in_default-read-clause-no_code : goal.returns-in_default-read-clause-no_code
 returns-in_default-read-clause-no_code c =
     no_residual (left c.args.reader.now) c.args.m
-    (no_low_bits (left c.args.reader.now) (left c.over-ahead.result) (left c.pass_zeros.new.reader) c.args.m c.in-Some.quotient (cc) c.in-Some.ensures.zeros c.in-Some.ensures.one c.in-Some.ensures.rest c.in_default-read.ensures.none)
+    (no_low_bits (left c.args.reader.now) (left c.over-ahead.result) (left c.pass_zeros.new.reader) c.args.m c.in-Some.quotient
+    (cc) c.in-Some.ensures.zeros c.in-Some.ensures.one c.in-Some.ensures.rest c.in_default-read.ensures.none)
 
 -- no bit for the sign
 cut_in_sign : (c : goal.In_default-read-2) → length (left c.args.reader.now) < residual_length c.args.m (left c.args.reader.now)
 cut_in_sign c =
-    let front = front_of (left c.args.reader.now) (left c.over-ahead.result) (left c.pass_zeros.new.reader) (left c.read.new.self) c.args.m c.in-Some.quotient c.in-Some-read.low
-    (cc) c.left.ensures.bits c.in-Some.ensures.zeros c.in-Some.ensures.one c.in-Some.ensures.rest c.in-Some-read.ensures.enough c.in-Some-read.ensures.first c.in-Some-read.ensures.rest in
+    let front = front_of (left c.args.reader.now) (left c.over-ahead.result) (left c.pass_zeros.new.reader)
+    (left c.read.new.self) c.args.m c.in-Some.quotient c.in-Some-read.low
+    (cc) c.left.ensures.bits c.in-Some.ensures.zeros c.in-Some.ensures.one c.in-Some.ensures.rest c.in-Some-read.ensures.enough c.in-Some-read.ensures.first
+    c.in-Some-read.ensures.rest in
     let shift = one_shl c.args.m 32 (omega arith) in
     let long : c.from.result ≡ sign_length (c.in-Some.quotient * 2 ^ c.args.m + c.in-Some-read.low) =
     c.from.ensures ∙ rw shift (sign_bit (c.in-Some.quotient * 2 ^ c.args.m + c.in-Some-read.low)) in
-    no_sign (left c.args.reader.now) c.args.m c.in-Some.quotient c.in-Some-read.low c.from.result (left c.read.new.self) front long c.in_default-read-2.ensures.none
+    no_sign (left c.args.reader.now) c.args.m c.in-Some.quotient c.in-Some-read.low c.from.result
+    (left c.read.new.self) front long c.in_default-read-2.ensures.none
 
 pub returns-in_default-read-2-clause-none : goal.returns-in_default-read-2-clause-none
 returns-in_default-read-2-clause-none c = cut_in_sign c
@@ -37,15 +41,20 @@ pub returns-in_default-read-2-clause-no_code : goal.returns-in_default-read-2-cl
 returns-in_default-read-2-clause-no_code c = no_residual (left c.args.reader.now) c.args.m (cut_in_sign c)
 
 -- the residual whole
-residual_is : (c : goal.After-signed) → IsResidual (left c.args.reader.now) c.args.m (c.in-Some.quotient + 1 + c.args.m + c.from.result) c.signed.result (left c.read-2.new.self)
+residual_is : (c : goal.After-signed) → IsResidual (left c.args.reader.now) c.args.m (c.in-Some.quotient + 1 + c.args.m + c.from.result) c.signed.result
+    (left c.read-2.new.self)
 residual_is c =
-    let front = front_of (left c.args.reader.now) (left c.over-ahead.result) (left c.pass_zeros.new.reader) (left c.read.new.self) c.args.m c.in-Some.quotient c.in-Some-read.low
-    (cc) c.left.ensures.bits c.in-Some.ensures.zeros c.in-Some.ensures.one c.in-Some.ensures.rest c.in-Some-read.ensures.enough c.in-Some-read.ensures.first c.in-Some-read.ensures.rest in
+    let front = front_of (left c.args.reader.now) (left c.over-ahead.result) (left c.pass_zeros.new.reader)
+    (left c.read.new.self) c.args.m c.in-Some.quotient c.in-Some-read.low
+    (cc) c.left.ensures.bits c.in-Some.ensures.zeros c.in-Some.ensures.one c.in-Some.ensures.rest c.in-Some-read.ensures.enough c.in-Some-read.ensures.first
+    c.in-Some-read.ensures.rest in
     let shift = one_shl c.args.m 32 (omega arith) in
     let long : c.from.result ≡ sign_length (c.in-Some.quotient * 2 ^ c.args.m + c.in-Some-read.low) =
     c.from.ensures ∙ rw shift (sign_bit (c.in-Some.quotient * 2 ^ c.args.m + c.in-Some-read.low)) in
     let signed = rw shift at c.signed.ensures in
-    signed_residual (left c.args.reader.now) c.args.m c.in-Some.quotient c.in-Some-read.low (c.in-Some.quotient * 2 ^ c.args.m + c.in-Some-read.low) c.in-Some-read-2.sign c.from.result (left c.read.new.self) (left c.read-2.new.self) c.signed.result front
+    signed_residual (left c.args.reader.now) c.args.m c.in-Some.quotient c.in-Some-read.low
+    (c.in-Some.quotient * 2 ^ c.args.m + c.in-Some-read.low) c.in-Some-read-2.sign c.from.result (left c.read.new.self)
+    (left c.read-2.new.self) c.signed.result front
     (omega arith) long c.in-Some-read-2.ensures.enough c.in-Some-read-2.ensures.first c.in-Some-read-2.ensures.rest signed
 
 pub returns-clause-enough : goal.returns-clause-enough

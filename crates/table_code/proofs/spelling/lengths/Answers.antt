@@ -25,6 +25,11 @@ overflow_add-sum c = record { fits = omega (arith, length_most c, c.loop-r.invar
 
 pub loop-r-preserved : goal.loop-r-preserved
 loop-r-preserved c = record {
-  summed = omega (arith, length_is c, c.loop-r.invariant.summed, sum_by_more (λ r. length (rice r c.args.m)) c.args.residuals.now c.loop-r.r-index (pos 0) (omega arith));
+  summed = omega (
+    arith,
+    length_is c,
+    c.loop-r.invariant.summed,
+    sum_by_more (λ r. length (rice r c.args.m)) c.args.residuals.now c.loop-r.r-index (pos 0) (omega arith),
+  );
   most = omega (arith, length_most c, c.loop-r.invariant.most);
 }

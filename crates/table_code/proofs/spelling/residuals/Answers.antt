@@ -1,4 +1,5 @@
-use Rattle.std.proofs.Common.{◌≡◌, ◌+◌, ℤ, pos, negsuc, ◌+ℤ◌, ◌≤ℤ◌, rules, [], ◌∷◌, ◌++◌, length, length-append, get_or, take, drop, reverse, ap, sym, subst, ◌∙◌, arith, append_assoc}
+use Rattle.std.proofs.Common.{◌≡◌, ◌+◌, ℤ, pos, negsuc, ◌+ℤ◌, ◌≤ℤ◌, rules, [], ◌∷◌, ◌++◌, length, length-append, get_or, take, drop, reverse, ap, sym}
+use Rattle.std.proofs.Common.{subst, ◌∙◌, arith, append_assoc}
 use Rattle.std.proofs.lemmas.Int.{ints, to_z-of_z, fits_signed_from_abs}
 use Rattle.std.specs.List.{AllByRecursion}
 use mir.Val.{SFits}
@@ -22,7 +23,8 @@ loop-j-preserved g c =
     let fits_v : SFits w32 v = search rules in
     let fits_e : SFits w32 c.eighth.result = search rules in
     let fits : SFits w32 r = fits_signed_from_abs w32 r (omega (arith, abs_most r 2048 (omega (arith, ints)) (omega (arith, ints)))) in
-    let pushed : c.push.new.self.items ≡ c.loop-j.residuals.items ++ r ∷ [] = rw (to_z-of_z w32 v fits_v, to_z-of_z w32 c.eighth.result fits_e, to_z-of_z w32 r fits) at c.push.ensures.items in
+    let pushed : c.push.new.self.items ≡ c.loop-j.residuals.items ++ r ∷ [] =
+    rw (to_z-of_z w32 v fits_v, to_z-of_z w32 c.eighth.result fits_e, to_z-of_z w32 r fits) at c.push.ensures.items in
     let ws = K.weights c.args.method in
     let is : r ≡ v +ℤ eighth ws (reverse (take c.loop-j.j c.args.values.now)) = ap (λ e. v +ℤ e) c.eighth.ensures.eighth in
     let next = residuals_next ws c.args.values.now c.loop-j.j r (omega arith) is in
@@ -30,5 +32,6 @@ loop-j-preserved g c =
     record {
       counted = omega (arith, ap length pushed, length-append c.loop-j.residuals.items (r ∷ []), c.loop-j.invariant.counted);
       each = subst (AllByRecursion IsResidual) (sym pushed) (all_append IsResidual c.loop-j.residuals.items (r ∷ []) c.loop-j.invariant.each ((low, high), tt));
-      rest = ap (λ xs. xs ++ behind) pushed ∙ append_assoc c.loop-j.residuals.items (r ∷ []) behind ∙ ap (λ xs. c.loop-j.residuals.items ++ xs) (sym next) ∙ c.loop-j.invariant.rest;
+      rest = ap (λ xs. xs ++ behind) pushed ∙ append_assoc c.loop-j.residuals.items (r ∷ []) behind ∙ ap (λ xs. c.loop-j.residuals.items ++ xs) (sym next)
+          ∙ c.loop-j.invariant.rest;
     }

@@ -26,10 +26,12 @@ loop-method-init g c =
 pub loop-method-preserved : goal.loop-method-preserved
 loop-method-preserved g c = record {
   choice = c.shortest_by_method-best.ensures.choice;
-  spelling = c.shortest_by_method-best.ensures.spelling ∙ by_methods-more g.K.TableKind.kind c.args.values.now c.loop-method.method plain (spelled c.loop-method.best.0) c.loop-method.invariant.spelling;
+  spelling = c.shortest_by_method-best.ensures.spelling ∙ by_methods-more g.K.TableKind.kind c.args.values.now c.loop-method.method plain
+      (spelled c.loop-method.best.0) c.loop-method.invariant.spelling;
 }
 
 pub returns-clause-spelling : goal.returns-clause-spelling
 returns-clause-spelling g c =
     let three : c.loop-method.method ≡ 3 = omega (arith, c.loop-method.auto.method-end) in
-    c.loop-method.invariant.spelling ∙ ap (λ n. fold (shorter g.K.TableKind.kind c.args.values.now) plain (by_methods n)) three ∙ all_methods g.K.TableKind.kind c.args.values.now
+    c.loop-method.invariant.spelling ∙ ap (λ n. fold (shorter g.K.TableKind.kind c.args.values.now) plain (by_methods n)) three
+    ∙ all_methods g.K.TableKind.kind c.args.values.now

@@ -19,9 +19,11 @@ loop-rice-preserved g c =
     let width : c.VALUE_BITS.result ≡ K.value_bits = c.VALUE_BITS.ensures ∙ g.met.K.TableKind.value_bits in
     let sum = rw (c.from-in-loop-rice.ensures, c.as_slice.ensures.value, c.residuals-residuals.ensures.residuals, c.from-2.ensures) at c.lengths.ensures.sum in
     let plains : (c.from-3.result + 1) * c.VALUE_BITS.result ≡ (c.args.method + 1) * K.value_bits = ap₂ (λ m n. (m + 1) * n) c.from-3.ensures width in
-    let long : c.LENGTH_BITS.result + 6 + (c.from-3.result + 1) * c.VALUE_BITS.result + c.lengths.result ≡ length (table_bits K vs (coded c.args.method c.loop-rice.rice)) =
+    let long : c.LENGTH_BITS.result + 6 + (c.from-3.result + 1) * c.VALUE_BITS.result + c.lengths.result ≡ length
+    (table_bits K vs (coded c.args.method c.loop-rice.rice)) =
     omega (arith, length-coded K vs c.args.method c.loop-rice.rice c.requires.together (omega (arith, c.from.ensures)), sum, plains, widths) in
-    let p = chosen K vs c.loop-rice.best c.shorter-best.result c.args.method c.loop-rice.rice (c.LENGTH_BITS.result + 6 + (c.from-3.result + 1) * c.VALUE_BITS.result + c.lengths.result)
+    let p = chosen K vs c.loop-rice.best c.shorter-best.result c.args.method c.loop-rice.rice
+    (c.LENGTH_BITS.result + 6 + (c.from-3.result + 1) * c.VALUE_BITS.result + c.lengths.result)
     c.requires.together c.requires.method (omega arith) (omega (arith, c.from.ensures)) c.loop-rice.invariant.choice long c.shorter-best.ensures in
     record {
       choice = p.0;

@@ -7,4 +7,5 @@ use Rattle.table_code.proofs.writing.append_plain.Goals as goal
 pub returns-clause-bits : goal.returns-clause-bits
 unfolding low_bits
 returns-clause-bits g c =
-    joined c.args.writer.now.bits c.append.new.writer.bits c.append_values.new.writer.bits (0 ∷ []) (plain_values g.K.TableKind.kind c.args.values.now) c.append.ensures.bits c.append_values.ensures.bits
+    joined c.args.writer.now.bits c.append.new.writer.bits c.append_values.new.writer.bits (0 ∷ [])
+    (plain_values g.K.TableKind.kind c.args.values.now) c.append.ensures.bits c.append_values.ensures.bits

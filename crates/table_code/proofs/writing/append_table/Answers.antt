@@ -24,14 +24,21 @@ returns-then-not-is_alone-clause-bits g c =
     let vs = c.args.values.now in
     let width : c.LENGTH_BITS.result ≡ K.length_bits = c.LENGTH_BITS.ensures ∙ g.met.K.TableKind.length_bits in
     let front = rw width at c.append.ensures.bits in
-    joined c.args.writer.now.bits c.append.new.writer.bits c.append_body.new.writer.bits (low_bits K.length_bits (length vs - 1)) (body K vs (spelled c.args.spelling)) front c.append_body.ensures.bits
+    joined c.args.writer.now.bits c.append.new.writer.bits c.append_body.new.writer.bits (low_bits K.length_bits (length vs - 1))
+    (body K vs (spelled c.args.spelling)) front c.append_body.ensures.bits
     ∙ ap (λ xs. c.args.writer.now.bits ++ xs) (sym (bits_together K vs (spelled c.args.spelling) (sym c.if-not-is_alone.ensures)))
 
 pub returns-then-not-is_alone-clause-room : goal.returns-then-not-is_alone-clause-room
 returns-then-not-is_alone-clause-room g c =
     let K = g.K.TableKind.kind in
     let width : c.LENGTH_BITS.result ≡ K.length_bits = c.LENGTH_BITS.ensures ∙ g.met.K.TableKind.length_bits in
-    omega (arith, width, length-table K c.args.values.now (spelled c.args.spelling) (sym c.if-not-is_alone.ensures), c.append.ensures.room, c.append_body.ensures.room)
+    omega (
+      arith,
+      width,
+      length-table K c.args.values.now (spelled c.args.spelling) (sym c.if-not-is_alone.ensures),
+      c.append.ensures.room,
+      c.append_body.ensures.room,
+    )
 
 pub returns-else-not-is_alone-clause-bits : goal.returns-else-not-is_alone-clause-bits
 returns-else-not-is_alone-clause-bits g c =

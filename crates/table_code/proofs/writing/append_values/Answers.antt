@@ -19,7 +19,8 @@ append-requires-clause-room g c =
     let whole : length (flat_map (plain_value K) vs) ≤ c.args.writer.now.room = rw (plain_values-flat_map K vs) c.requires.room in
     omega (
       arith,
-      still_room (plain_value K) vs c.loop-value.value-index (pos 0) c.args.writer.now.room c.loop-value.writer.room (omega arith) whole c.loop-value.invariant.room,
+      still_room (plain_value K) vs c.loop-value.value-index (pos 0) c.args.writer.now.room c.loop-value.writer.room
+          (omega arith) whole c.loop-value.invariant.room,
       length-plain_value K (get_or vs c.loop-value.value-index (pos 0)),
       width,
     )
@@ -35,13 +36,17 @@ loop-value-preserved g c =
     let number = rw (to_z-of_z w32 v fits) at c.plain_number.ensures.bits in
     let added : c.append.new.writer.bits ≡ c.loop-value.writer.bits ++ plain_value K v =
     c.append.ensures.bits ∙ ap (λ n. c.loop-value.writer.bits ++ low_bits n c.plain_number.result) width ∙ ap (λ xs. c.loop-value.writer.bits ++ xs) number in
-    let taken : c.append.new.writer.room + length (plain_value K v) ≡ c.loop-value.writer.room = omega (arith, c.append.ensures.room, length-plain_value K v, width) in
+    let taken : c.append.new.writer.room + length (plain_value K v) ≡ c.loop-value.writer.room =
+    omega (arith, c.append.ensures.room, length-plain_value K v, width) in
     record {
-      bits = next_bits (plain_value K) vs i (pos 0) c.args.writer.now.bits c.loop-value.writer.bits c.append.new.writer.bits (omega arith) c.loop-value.invariant.bits added;
-      room = next_room (plain_value K) vs i (pos 0) c.args.writer.now.room c.loop-value.writer.room c.append.new.writer.room (omega arith) c.loop-value.invariant.room taken;
+      bits = next_bits (plain_value K) vs i (pos 0) c.args.writer.now.bits c.loop-value.writer.bits c.append.new.writer.bits
+          (omega arith) c.loop-value.invariant.bits added;
+      room = next_room (plain_value K) vs i (pos 0) c.args.writer.now.room c.loop-value.writer.room c.append.new.writer.room
+          (omega arith) c.loop-value.invariant.room taken;
     }
 
-all_values : (g : given.Over) (c : goal.After-loop-value g) → flat_map (plain_value g.K.TableKind.kind) (take c.loop-value.value-index c.args.values.now) ≡ plain_values g.K.TableKind.kind c.args.values.now
+all_values : (g : given.Over) (c : goal.After-loop-value g) →
+    flat_map (plain_value g.K.TableKind.kind) (take c.loop-value.value-index c.args.values.now) ≡ plain_values g.K.TableKind.kind c.args.values.now
 all_values g c =
     let K = g.K.TableKind.kind in
     ap (flat_map (plain_value K)) (take_all c.loop-value.value-index c.args.values.now (omega arith)) ∙ plain_values-flat_map K c.args.values.now

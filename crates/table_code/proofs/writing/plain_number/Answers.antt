@@ -15,7 +15,9 @@ use Rattle.table_code.proofs.writing.plain_number.Goals as goal
 moved : (g : given.Over) (c : goal.After-VALUE_BITS g) → ℤ
 moved g c = to_z w32 (of_z w32 (to_z w32 (of_z w32 c.args.value) +ℤ to_z w32 (1 * 2 ^ c.VALUE_BITS.result % 4294967296)))
 
-moved_is : (g : given.Over) (c : goal.After-VALUE_BITS g) → (x : ℕ) × (x < 2 ^ g.K.TableKind.kind.value_bits) × (low_bits g.K.TableKind.kind.value_bits x ≡ plain_value g.K.TableKind.kind c.args.value) × (moved g c ≡ pos x)
+moved_is : (g : given.Over) (c : goal.After-VALUE_BITS g) →
+    (x : ℕ) × (x < 2 ^ g.K.TableKind.kind.value_bits) × (low_bits g.K.TableKind.kind.value_bits x ≡ plain_value g.K.TableKind.kind c.args.value)
+    × (moved g c ≡ pos x)
 unfolding moved
 moved_is g c =
     let K = g.K.TableKind.kind in
@@ -52,7 +54,9 @@ returns-else-value-ge0-clause-fits g c =
 lowered : (g : given.Over) (c : goal.After-LEAST-then-LEAST-ge0 g) → ℤ
 lowered g c = to_z w32 (of_z w32 (to_z w32 (of_z w32 c.args.value) -ℤ to_z w32 (of_z w32 c.LEAST-then-LEAST-ge0.result)))
 
-lowered_is : (g : given.Over) (c : goal.After-LEAST-then-LEAST-ge0 g) → (x : ℕ) × (x < 2 ^ g.K.TableKind.kind.value_bits) × (low_bits g.K.TableKind.kind.value_bits x ≡ plain_value g.K.TableKind.kind c.args.value) × (lowered g c ≡ pos x)
+lowered_is : (g : given.Over) (c : goal.After-LEAST-then-LEAST-ge0 g) →
+    (x : ℕ) × (x < 2 ^ g.K.TableKind.kind.value_bits) × (low_bits g.K.TableKind.kind.value_bits x ≡ plain_value g.K.TableKind.kind c.args.value)
+    × (lowered g c ≡ pos x)
 unfolding lowered
 lowered_is g c =
     let K = g.K.TableKind.kind in
@@ -60,8 +64,13 @@ lowered_is g c =
     let least_is : c.LEAST-then-LEAST-ge0.result ≡ K.least = c.LEAST-then-LEAST-ge0.ensures ∙ g.met.K.TableKind.least in
     let least : pos 0 ≤ℤ K.least = omega (arith, ints, c.LEAST.ensures, g.met.K.TableKind.least, c.if-LEAST-ge0.true) in
     let p = number_from_least K c.args.value g.met.K.TableKind.plain_values c.requires least in
-    let fits : SFits w32 c.LEAST-then-LEAST-ge0.result = search rules in
-    (p.0, p.1.below, p.1.spelled, moved_down c.args.value c.LEAST-then-LEAST-ge0.result p.0 c.ranges.value fits (omega (arith, p.1.below)) (ap (λ l. c.args.value -ℤ l) least_is ∙ p.2))
+    let fits : SFits w32 c.LEAST-then-LEAST-ge0.result = search rules in (
+      p.0,
+      p.1.below,
+      p.1.spelled,
+      moved_down c.args.value c.LEAST-then-LEAST-ge0.result p.0 c.ranges.value fits (omega (arith, p.1.below))
+          (ap (λ l. c.args.value -ℤ l) least_is ∙ p.2),
+    )
 
 pub returns-then-LEAST-ge0-clause-bits : goal.returns-then-LEAST-ge0-clause-bits
 unfolding lowered

@@ -38,18 +38,22 @@ record IsFilled (i j : Inside) (gap : ℕ) : Type 0 where
 
 -- the value of the doubled registers
 holds_doubled : (i : Inside) → AreHeld i →
-    IsValue (bits i.bytes.now) (i.first + used_of i) i.place (value_below (range_of i) (due i.range i.gap) / 2 ^ 52) (value_below (range_of i) (due i.range i.gap))
+    IsValue (bits i.bytes.now) (i.first + used_of i) i.place (value_below (range_of i) (due i.range i.gap) / 2 ^ 52)
+    (value_below (range_of i) (due i.range i.gap))
 holds_doubled i k = rw (value_below-due i.range i.gap) k.registers.holds
 
 abbrev Refills : Inside → ℕ → ℕ → Type 0
-Refills i gap more = (range start : ℕ) → range ≤ 4095 → gap ≤ range * 2 ^ 52 → IsValue (bits i.bytes.now) start i.place (value_below range gap / 2 ^ 52) (value_below range gap)
+Refills i gap more = (range start : ℕ) → range ≤ 4095 → gap ≤ range * 2 ^ 52 →
+    IsValue (bits i.bytes.now) start i.place (value_below range gap / 2 ^ 52) (value_below range gap)
     → (more ≤ range * 2 ^ 52) × IsValue (bits i.bytes.now) start (i.place + 32) (value_below range gap / 2 ^ 52) (value_below range more)
 
-filled_up : (i j : Inside) (gap doubled more : ℕ) → AreHeld i → doubled ≡ due i.range i.gap → Refills i doubled more → gap ≡ more → j ≡ record i { place = i.place + 32 } → IsFilled i j gap
+filled_up : (i j : Inside) (gap doubled more : ℕ) → AreHeld i → doubled ≡ due i.range i.gap → Refills i doubled more → gap ≡ more →
+    j ≡ record i { place = i.place + 32 } → IsFilled i j gap
 filled_up i j gap doubled more k same refills gap_is is =
     let here : Refills i (due i.range i.gap) more = subst (λ x. Refills i x more) same refills in
     let all = here (range_of i) (i.first + used_of i) k.registers.in_range.most (within-due i.range i.gap k.within) (holds_doubled i k) in
-    let v : IsValue (bits i.bytes.now) (i.first + used_of i) (i.place + 32) (value_of i / 2 ^ 52) (value_below (range_of i) more) = rw (value_below-due i.range i.gap) at all.1 in
+    let v : IsValue (bits i.bytes.now) (i.first + used_of i) (i.place + 32) (value_of i / 2 ^ 52) (value_below (range_of i) more) =
+    rw (value_below-due i.range i.gap) at all.1 in
     let ready = ready_refilled i.bytes.now i.first (used_of i) i.place (value_of i) (range_of i) (value_below (range_of i) more) k.registers v in
     rw (is, gap_is) (record {
       bytes = refl;
@@ -65,13 +69,15 @@ filled_before i j gap k some same is =
     let within = within-due i.range i.gap k.within in
     let v = holds_doubled i k in
     let value = value_below-due i.range i.gap in
-    let not_low : value_of i % 4294967296 ≡ 0 → ⊥ = λ e. some (ap (λ x. x % 4294967296) same ∙ low_gap (range_of i) (due i.range i.gap) within (ap (λ x. x % 4294967296) value ∙ e)) in
+    let not_low : value_of i % 4294967296 ≡ 0 → ⊥ = λ e. some (ap (λ x. x % 4294967296) same
+    ∙ low_gap (range_of i) (due i.range i.gap) within (ap (λ x. x % 4294967296) value ∙ e)) in
     let ready = ready_as_it_is i.bytes.now i.first (used_of i) i.place (value_of i) (range_of i) k.registers not_low in
     rw (is, same) (record {
       bytes = refl;
       first = refl;
       within = within;
-      some = some_low (bits i.bytes.now) (i.first + used_of i) i.place (range_of i) (value_below (range_of i) (due i.range i.gap) / 2 ^ 52) (due i.range i.gap) (AreBits-bits i.bytes.now) within v;
+      some = some_low (bits i.bytes.now) (i.first + used_of i) i.place (range_of i) (value_below (range_of i) (due i.range i.gap) / 2 ^ 52)
+          (due i.range i.gap) (AreBits-bits i.bytes.now) within v;
       offset = ap (λ x. x / 2 ^ 52) value;
       ready = rw value ready;
     })
@@ -93,7 +99,8 @@ made : (i j : Inside) (filled p : ℕ) (symbol : Bool) (gap range : ℕ) → Are
 made i j filled p symbol gap range k f small s =
     let r = k.registers in
     let value = value_below (range_of i) filled in
-    let b = behind i.bytes.now i.first (used_of i) j.place value (range_of i) p symbol (due range (value_below range gap)) (due range range) r.short r.early r.some small
+    let b = behind i.bytes.now i.first (used_of i) j.place value (range_of i) p symbol (due range (value_below range gap))
+    (due range range) r.short r.early r.some small
     (step_fits p value (range_of i) symbol (due range (value_below range gap)) (due range range) s) r.in_range f.ready s in
     let few = b.few in
     let is = b.used_is in
@@ -112,6 +119,37 @@ cut_at range p q row are same r part factor part_is factor_is =
       factor_is = are.factor;
     })
 
+-- ---- at the points of the body
+held : (c : goal.Joined-gap-eq0) → AreHeld c.self.inside
+held c = record { registers = c.self.invariant.registers; within = c.self.invariant.within }
+
+filled : (c : goal.Joined-gap-eq0) → IsFilled c.self.inside c.if-gap-eq0.self-inside c.if-gap-eq0.gap
+filled c =
+    let i = c.self.inside in
+    let j = c.if-gap-eq0.self-inside in
+    elim c.if-gap-eq0.branch [
+      | then-gap-eq0 w ↦ filled_up i j _ c.doubled-gap.result.0 w.refilled-gap.result (held c) c.doubled-gap.ensures.gap w.refilled-gap.ensures
+          w.gap-is w.self-inside-is
+      | else-gap-eq0 w ↦ filled_before i j _ (held c) (rw w.gap-is w.if-gap-eq0.false) (w.gap-is ∙ c.doubled-gap.ensures.gap) w.self-inside-is
+    ]
+
+cut : (c : goal.Joined-gap-eq0) → IsCut c.args.p (range_of c.self.inside) c.from-part.result c.from-factor.result
+cut c =
+    cut_at c.self.inside.range c.args.p c.value.result c.row-row.result.now c.row-row.ensures c.value.ensures.value c.self.invariant.registers.in_range
+    c.from-part.result c.from-factor.result c.from-part.ensures c.from-factor.ensures
+
+-- where the ways join again, in front of the step
+abbrev joined : goal.After-self-3-1 → goal.Joined-gap-eq0
+joined c = c.before.before.before
+
+behind_step : (c : goal.After-self-3-1) →
+    Made c.self.inside c.if-gap-eq0.self-inside c.args.p c.step-gap.result.2 c.step-gap.result.0 c.step-gap.result.1
+behind_step c =
+    let small = rw (← c.self.view_is) at c.requires.early in
+    let s = c.step-gap.ensures.step c.args.p c.value.ensures.least c.value.ensures.most (rw c.doubled-gap.ensures.range (cut (joined c))) in
+    made c.self.inside c.if-gap-eq0.self-inside c.if-gap-eq0.gap c.args.p c.step-gap.result.2 c.step-gap.result.0 c.step-gap.result.1
+    (held (joined c)) (filled (joined c)) small (rw c.doubled-gap.ensures.range at s)
+
 pub refilled-gap-requires-clause-held : goal.refilled-gap-requires-clause-held
 refilled-gap-requires-clause-held c =
     let i = c.self.inside in
@@ -120,86 +158,19 @@ refilled-gap-requires-clause-held c =
     rw c.doubled-gap.ensures.gap (range_of i, i.first + used_of i, r.in_range.most, within-due i.range i.gap k.within, holds_doubled i k)
 
 pub step-gap-requires-clause-within : goal.step-gap-requires-clause-within
-step-gap-requires-clause-within c =
-    let i = c.self.inside in
-    let j = c.if-gap-eq0.self-inside in
-    let r = c.self.invariant.registers in
-    let k : AreHeld i = record { registers = r; within = c.self.invariant.within } in
-    let f : IsFilled i j c.if-gap-eq0.gap = elim c.if-gap-eq0.branch [
-      | then-gap-eq0 w ↦ filled_up i j _ c.doubled-gap.result.0 w.refilled-gap.result k c.doubled-gap.ensures.gap w.refilled-gap.ensures w.gap-is w.self-inside-is
-      | else-gap-eq0 w ↦ filled_before i j _ k (rw w.gap-is w.if-gap-eq0.false) (w.gap-is ∙ c.doubled-gap.ensures.gap) w.self-inside-is
-    ] in
-    rw c.doubled-gap.ensures.range f.within
+step-gap-requires-clause-within c = rw c.doubled-gap.ensures.range (filled c).within
 
 pub step-gap-requires-clause-some : goal.step-gap-requires-clause-some
-step-gap-requires-clause-some c =
-    let i = c.self.inside in
-    let j = c.if-gap-eq0.self-inside in
-    let r = c.self.invariant.registers in
-    let k : AreHeld i = record { registers = r; within = c.self.invariant.within } in
-    let f : IsFilled i j c.if-gap-eq0.gap = elim c.if-gap-eq0.branch [
-      | then-gap-eq0 w ↦ filled_up i j _ c.doubled-gap.result.0 w.refilled-gap.result k c.doubled-gap.ensures.gap w.refilled-gap.ensures w.gap-is w.self-inside-is
-      | else-gap-eq0 w ↦ filled_before i j _ k (rw w.gap-is w.if-gap-eq0.false) (w.gap-is ∙ c.doubled-gap.ensures.gap) w.self-inside-is
-    ] in
-    f.some
+step-gap-requires-clause-some c = (filled c).some
 
 pub step-gap-requires-clause-cut : goal.step-gap-requires-clause-cut
-step-gap-requires-clause-cut c =
-    let i = c.self.inside in
-    let j = c.if-gap-eq0.self-inside in
-    let r = c.self.invariant.registers in
-    let k : AreHeld i = record { registers = r; within = c.self.invariant.within } in
-    let f : IsFilled i j c.if-gap-eq0.gap = elim c.if-gap-eq0.branch [
-      | then-gap-eq0 w ↦ filled_up i j _ c.doubled-gap.result.0 w.refilled-gap.result k c.doubled-gap.ensures.gap w.refilled-gap.ensures w.gap-is w.self-inside-is
-      | else-gap-eq0 w ↦ filled_before i j _ k (rw w.gap-is w.if-gap-eq0.false) (w.gap-is ∙ c.doubled-gap.ensures.gap) w.self-inside-is
-    ] in
-    let cut = cut_at i.range c.args.p c.value.result c.row-row.result.now c.row-row.ensures c.value.ensures.value r.in_range c.from-part.result c.from-factor.result c.from-part.ensures c.from-factor.ensures in
-    (c.args.p, c.value.ensures.least, c.value.ensures.most, rw c.doubled-gap.ensures.range cut)
+step-gap-requires-clause-cut c = (c.args.p, c.value.ensures.least, c.value.ensures.most, rw c.doubled-gap.ensures.range (cut c))
 
 pub invariant_of-self : goal.invariant_of-self
-invariant_of-self c =
-    let i = c.self.inside in
-    let j = c.if-gap-eq0.self-inside in
-    let r = c.self.invariant.registers in
-    let k : AreHeld i = record { registers = r; within = c.self.invariant.within } in
-    let f : IsFilled i j c.if-gap-eq0.gap = elim c.if-gap-eq0.branch [
-      | then-gap-eq0 w ↦ filled_up i j _ c.doubled-gap.result.0 w.refilled-gap.result k c.doubled-gap.ensures.gap w.refilled-gap.ensures w.gap-is w.self-inside-is
-      | else-gap-eq0 w ↦ filled_before i j _ k (rw w.gap-is w.if-gap-eq0.false) (w.gap-is ∙ c.doubled-gap.ensures.gap) w.self-inside-is
-    ] in
-    let cut = cut_at i.range c.args.p c.value.result c.row-row.result.now c.row-row.ensures c.value.ensures.value r.in_range c.from-part.result c.from-factor.result c.from-part.ensures c.from-factor.ensures in
-    let small = rw (← c.self.view_is) at c.requires.early in
-    let s = c.step-gap.ensures.step c.args.p c.value.ensures.least c.value.ensures.most (rw c.doubled-gap.ensures.range cut) in
-    let m = made i j c.if-gap-eq0.gap c.args.p c.step-gap.result.2 c.step-gap.result.0 c.step-gap.result.1 k f small (rw c.doubled-gap.ensures.range at s) in
-    record { registers = m.registers; within = c.step-gap.ensures.within }
+invariant_of-self c = record { registers = (behind_step c).registers; within = c.step-gap.ensures.within }
 
 pub returns-clause-stands : goal.returns-clause-stands
-returns-clause-stands c =
-    let i = c.self.inside in
-    let j = c.if-gap-eq0.self-inside in
-    let r = c.self.invariant.registers in
-    let k : AreHeld i = record { registers = r; within = c.self.invariant.within } in
-    let f : IsFilled i j c.if-gap-eq0.gap = elim c.if-gap-eq0.branch [
-      | then-gap-eq0 w ↦ filled_up i j _ c.doubled-gap.result.0 w.refilled-gap.result k c.doubled-gap.ensures.gap w.refilled-gap.ensures w.gap-is w.self-inside-is
-      | else-gap-eq0 w ↦ filled_before i j _ k (rw w.gap-is w.if-gap-eq0.false) (w.gap-is ∙ c.doubled-gap.ensures.gap) w.self-inside-is
-    ] in
-    let cut = cut_at i.range c.args.p c.value.result c.row-row.result.now c.row-row.ensures c.value.ensures.value r.in_range c.from-part.result c.from-factor.result c.from-part.ensures c.from-factor.ensures in
-    let small = rw (← c.self.view_is) at c.requires.early in
-    let s = c.step-gap.ensures.step c.args.p c.value.ensures.least c.value.ensures.most (rw c.doubled-gap.ensures.range cut) in
-    let m = made i j c.if-gap-eq0.gap c.args.p c.step-gap.result.2 c.step-gap.result.0 c.step-gap.result.1 k f small (rw c.doubled-gap.ensures.range at s) in
-    rw (← c.self.view_is) m.stands
+returns-clause-stands c = rw (← c.self.view_is) (behind_step c).stands
 
 pub returns-clause-used : goal.returns-clause-used
-returns-clause-used c =
-    let i = c.self.inside in
-    let j = c.if-gap-eq0.self-inside in
-    let r = c.self.invariant.registers in
-    let k : AreHeld i = record { registers = r; within = c.self.invariant.within } in
-    let f : IsFilled i j c.if-gap-eq0.gap = elim c.if-gap-eq0.branch [
-      | then-gap-eq0 w ↦ filled_up i j _ c.doubled-gap.result.0 w.refilled-gap.result k c.doubled-gap.ensures.gap w.refilled-gap.ensures w.gap-is w.self-inside-is
-      | else-gap-eq0 w ↦ filled_before i j _ k (rw w.gap-is w.if-gap-eq0.false) (w.gap-is ∙ c.doubled-gap.ensures.gap) w.self-inside-is
-    ] in
-    let cut = cut_at i.range c.args.p c.value.result c.row-row.result.now c.row-row.ensures c.value.ensures.value r.in_range c.from-part.result c.from-factor.result c.from-part.ensures c.from-factor.ensures in
-    let small = rw (← c.self.view_is) at c.requires.early in
-    let s = c.step-gap.ensures.step c.args.p c.value.ensures.least c.value.ensures.most (rw c.doubled-gap.ensures.range cut) in
-    let m = made i j c.if-gap-eq0.gap c.args.p c.step-gap.result.2 c.step-gap.result.0 c.step-gap.result.1 k f small (rw c.doubled-gap.ensures.range at s) in
-    rw (← c.self.view_is) m.used
+returns-clause-used c = rw (← c.self.view_is) (behind_step c).used

@@ -18,15 +18,27 @@ returns-then-read_or_zero-eq1-clause-offends c =
 pub returns-then-offset-eq4095-clause-fault : goal.returns-then-offset-eq4095-clause-fault
 returns-then-offset-eq4095-clause-fault c =
     let number = rw (c.over-reader.ensures.bytes, c.over-reader.ensures.place) at c.read_or_zero.ensures.number in
-    let offset = rw (c.read_or_zero.ensures.bytes, c.read_or_zero.ensures.place, c.over-reader.ensures.bytes, c.over-reader.ensures.place) at c.read_or_zero-2.ensures.number in
-    let first = first_is_zero (bits c.args.code.bytes.now) c.args.code.first c.read_or_zero.result (AreBits-bits c.args.code.bytes.now) number c.if-read_or_zero-eq1.false in
+    let offset = rw (
+      c.read_or_zero.ensures.bytes,
+      c.read_or_zero.ensures.place,
+      c.over-reader.ensures.bytes,
+      c.over-reader.ensures.place,
+    ) at c.read_or_zero-2.ensures.number in
+    let first = first_is_zero (bits c.args.code.bytes.now) c.args.code.first c.read_or_zero.result
+    (AreBits-bits c.args.code.bytes.now) number c.if-read_or_zero-eq1.false in
     inr (first, sym offset ∙ sym c.from-offset.ensures ∙ c.if-offset-eq4095.true, refl)
 
 pub returns-then-offset-eq4095-clause-offends : goal.returns-then-offset-eq4095-clause-offends
 returns-then-offset-eq4095-clause-offends c =
     let number = rw (c.over-reader.ensures.bytes, c.over-reader.ensures.place) at c.read_or_zero.ensures.number in
-    let offset = rw (c.read_or_zero.ensures.bytes, c.read_or_zero.ensures.place, c.over-reader.ensures.bytes, c.over-reader.ensures.place) at c.read_or_zero-2.ensures.number in
-    let first = first_is_zero (bits c.args.code.bytes.now) c.args.code.first c.read_or_zero.result (AreBits-bits c.args.code.bytes.now) number c.if-read_or_zero-eq1.false in
+    let offset = rw (
+      c.read_or_zero.ensures.bytes,
+      c.read_or_zero.ensures.place,
+      c.over-reader.ensures.bytes,
+      c.over-reader.ensures.place,
+    ) at c.read_or_zero-2.ensures.number in
+    let first = first_is_zero (bits c.args.code.bytes.now) c.args.code.first c.read_or_zero.result
+    (AreBits-bits c.args.code.bytes.now) number c.if-read_or_zero-eq1.false in
     range_fault (bits c.args.code.bytes.now) c.args.code.first first (sym offset ∙ sym c.from-offset.ensures ∙ c.if-offset-eq4095.true)
 
 pub returns-clause-first_bit : goal.returns-clause-first_bit
@@ -37,35 +49,87 @@ returns-clause-first_bit c =
 pub overflow_sub-result : goal.overflow_sub-result
 overflow_sub-result c =
     let code = c.args.code in
-    let offset = c.from-offset.ensures ∙ rw (c.read_or_zero.ensures.bytes, c.read_or_zero.ensures.place, c.over-reader.ensures.bytes, c.over-reader.ensures.place) at c.read_or_zero-2.ensures.number in
-    let next = c.from-next.ensures ∙ rw (c.read_or_zero-2.ensures.bytes, c.read_or_zero-2.ensures.place, c.read_or_zero.ensures.bytes, c.read_or_zero.ensures.place, c.over-reader.ensures.bytes, c.over-reader.ensures.place) at c.read_or_zero-3.ensures.number in
+    let offset = c.from-offset.ensures ∙ rw (
+      c.read_or_zero.ensures.bytes,
+      c.read_or_zero.ensures.place,
+      c.over-reader.ensures.bytes,
+      c.over-reader.ensures.place,
+    ) at c.read_or_zero-2.ensures.number in
+    let next = c.from-next.ensures ∙ rw (
+      c.read_or_zero-2.ensures.bytes,
+      c.read_or_zero-2.ensures.place,
+      c.read_or_zero.ensures.bytes,
+      c.read_or_zero.ensures.place,
+      c.over-reader.ensures.bytes,
+      c.over-reader.ensures.place,
+    ) at c.read_or_zero-3.ensures.number in
     let place : code.first + 1 + 12 ≡ code.first + 13 = omega arith in
-    let b = begun code.bytes.now code.first c.from-offset.result c.from-next.result c.requires.short c.requires.early offset c.if-offset-eq4095.false (next ∙ ap (λ k. number_from (bits code.bytes.now) k 32) place) in
+    let b = begun code.bytes.now code.first c.from-offset.result c.from-next.result c.requires.short c.requires.early offset c.if-offset-eq4095.false (next
+    ∙ ap (λ k. number_from (bits code.bytes.now) k 32) place) in
     b.below
 
 pub invariant_of-result : goal.invariant_of-result
 invariant_of-result c =
     let code = c.args.code in
-    let offset = c.from-offset.ensures ∙ rw (c.read_or_zero.ensures.bytes, c.read_or_zero.ensures.place, c.over-reader.ensures.bytes, c.over-reader.ensures.place) at c.read_or_zero-2.ensures.number in
-    let next = c.from-next.ensures ∙ rw (c.read_or_zero-2.ensures.bytes, c.read_or_zero-2.ensures.place, c.read_or_zero.ensures.bytes, c.read_or_zero.ensures.place, c.over-reader.ensures.bytes, c.over-reader.ensures.place) at c.read_or_zero-3.ensures.number in
+    let offset = c.from-offset.ensures ∙ rw (
+      c.read_or_zero.ensures.bytes,
+      c.read_or_zero.ensures.place,
+      c.over-reader.ensures.bytes,
+      c.over-reader.ensures.place,
+    ) at c.read_or_zero-2.ensures.number in
+    let next = c.from-next.ensures ∙ rw (
+      c.read_or_zero-2.ensures.bytes,
+      c.read_or_zero-2.ensures.place,
+      c.read_or_zero.ensures.bytes,
+      c.read_or_zero.ensures.place,
+      c.over-reader.ensures.bytes,
+      c.over-reader.ensures.place,
+    ) at c.read_or_zero-3.ensures.number in
     let place : code.first + 1 + 12 ≡ code.first + 13 = omega arith in
-    let b = begun code.bytes.now code.first c.from-offset.result c.from-next.result c.requires.short c.requires.early offset c.if-offset-eq4095.false (next ∙ ap (λ k. number_from (bits code.bytes.now) k 32) place) in
+    let b = begun code.bytes.now code.first c.from-offset.result c.from-next.result c.requires.short c.requires.early offset c.if-offset-eq4095.false (next
+    ∙ ap (λ k. number_from (bits code.bytes.now) k 32) place) in
     record { registers = rw (first_gap (first_value c.from-offset.result c.from-next.result) b.below) b.registers; within = omega arith }
 
 pub returns-clause-used : goal.returns-clause-used
 returns-clause-used c =
     let code = c.args.code in
-    let offset = c.from-offset.ensures ∙ rw (c.read_or_zero.ensures.bytes, c.read_or_zero.ensures.place, c.over-reader.ensures.bytes, c.over-reader.ensures.place) at c.read_or_zero-2.ensures.number in
-    let next = c.from-next.ensures ∙ rw (c.read_or_zero-2.ensures.bytes, c.read_or_zero-2.ensures.place, c.read_or_zero.ensures.bytes, c.read_or_zero.ensures.place, c.over-reader.ensures.bytes, c.over-reader.ensures.place) at c.read_or_zero-3.ensures.number in
+    let offset = c.from-offset.ensures ∙ rw (
+      c.read_or_zero.ensures.bytes,
+      c.read_or_zero.ensures.place,
+      c.over-reader.ensures.bytes,
+      c.over-reader.ensures.place,
+    ) at c.read_or_zero-2.ensures.number in
+    let next = c.from-next.ensures ∙ rw (
+      c.read_or_zero-2.ensures.bytes,
+      c.read_or_zero-2.ensures.place,
+      c.read_or_zero.ensures.bytes,
+      c.read_or_zero.ensures.place,
+      c.over-reader.ensures.bytes,
+      c.over-reader.ensures.place,
+    ) at c.read_or_zero-3.ensures.number in
     let place : code.first + 1 + 12 ≡ code.first + 13 = omega arith in
-    let b = begun code.bytes.now code.first c.from-offset.result c.from-next.result c.requires.short c.requires.early offset c.if-offset-eq4095.false (next ∙ ap (λ k. number_from (bits code.bytes.now) k 32) place) in
+    let b = begun code.bytes.now code.first c.from-offset.result c.from-next.result c.requires.short c.requires.early offset c.if-offset-eq4095.false (next
+    ∙ ap (λ k. number_from (bits code.bytes.now) k 32) place) in
     rw (first_gap (first_value c.from-offset.result c.from-next.result) b.below) b.used_is
 
 pub returns-clause-stands : goal.returns-clause-stands
 returns-clause-stands c =
     let code = c.args.code in
-    let offset = c.from-offset.ensures ∙ rw (c.read_or_zero.ensures.bytes, c.read_or_zero.ensures.place, c.over-reader.ensures.bytes, c.over-reader.ensures.place) at c.read_or_zero-2.ensures.number in
-    let next = c.from-next.ensures ∙ rw (c.read_or_zero-2.ensures.bytes, c.read_or_zero-2.ensures.place, c.read_or_zero.ensures.bytes, c.read_or_zero.ensures.place, c.over-reader.ensures.bytes, c.over-reader.ensures.place) at c.read_or_zero-3.ensures.number in
+    let offset = c.from-offset.ensures ∙ rw (
+      c.read_or_zero.ensures.bytes,
+      c.read_or_zero.ensures.place,
+      c.over-reader.ensures.bytes,
+      c.over-reader.ensures.place,
+    ) at c.read_or_zero-2.ensures.number in
+    let next = c.from-next.ensures ∙ rw (
+      c.read_or_zero-2.ensures.bytes,
+      c.read_or_zero-2.ensures.place,
+      c.read_or_zero.ensures.bytes,
+      c.read_or_zero.ensures.place,
+      c.over-reader.ensures.bytes,
+      c.over-reader.ensures.place,
+    ) at c.read_or_zero-3.ensures.number in
     let place : code.first + 1 + 12 ≡ code.first + 13 = omega arith in
-    let b = begun code.bytes.now code.first c.from-offset.result c.from-next.result c.requires.short c.requires.early offset c.if-offset-eq4095.false (next ∙ ap (λ k. number_from (bits code.bytes.now) k 32) place) in
+    let b = begun code.bytes.now code.first c.from-offset.result c.from-next.result c.requires.short c.requires.early offset c.if-offset-eq4095.false (next
+    ∙ ap (λ k. number_from (bits code.bytes.now) k 32) place) in
     rw (first_gap (first_value c.from-offset.result c.from-next.result) b.below) b.stands

@@ -5,10 +5,13 @@ use Rattle.arith_decoder.specs.Registers.{AreRegisters, due, value_below}
 use Rattle.arith_decoder.proofs.Gaps.{zeros_alike}
 use Rattle.arith_decoder.proofs.decoder.ArithDecoder.used.Goals as goal
 
-zeros_of_fields : (bytes : List ℕ) (first place range gap : ℕ) → AreRegisters bytes first (place + trailing_zeros w64 (due range (value_below range gap)) - 51 - first) place (due range (value_below range gap)) (due range range) →
+zeros_of_fields : (bytes : List ℕ) (first place range gap : ℕ) →
+    AreRegisters bytes first (place + trailing_zeros w64 (due range (value_below range gap)) - 51 - first) place (due range (value_below range gap))
+    (due range range) →
     gap ≤ range * 2 ^ 52 → trailing_zeros w64 (due range gap) ≡ trailing_zeros w64 (due range (value_below range gap))
 zeros_of_fields bytes first place range gap r within =
-    zeros_alike (bits bytes) (first + (place + trailing_zeros w64 (due range (value_below range gap)) - 51 - first)) place range (due range (value_below range gap) / 2 ^ 52) gap r.in_range.most within r.holds
+    zeros_alike (bits bytes) (first + (place + trailing_zeros w64 (due range (value_below range gap)) - 51 - first)) place range
+    (due range (value_below range gap) / 2 ^ 52) gap r.in_range.most within r.holds
 
 pub overflow_sub-result : goal.overflow_sub-result
 overflow_sub-result c =

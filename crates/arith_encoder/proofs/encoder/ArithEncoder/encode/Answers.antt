@@ -6,7 +6,7 @@ use Rattle.arith_encoder.specs.Encoding.{Encoding}
 use Rattle.arith_encoder.specs.Leaving.{Leaving}
 use Rattle.arith_encoder.specs.Registers.{AreRegisters}
 use Rattle.arith_encoder.specs.declared.encoder.ArithEncoder.TheInside.{Inside}
-use Rattle.arith_encoder.proofs.Moving.{reached_of, leaves_below, left_by, taken}
+use Rattle.arith_encoder.proofs.Moving.{IsTaken, reached_of, leaves_below, left_by, taken}
 use Rattle.arith_encoder.proofs.Narrowing.{IsNarrowed}
 use Rattle.arith_encoder.proofs.encoder.ArithEncoder.encode.Goals as goal
 use Rattle.arith_encoder.proofs.encoder.ArithEncoder.encode.Goals.{then-self-ge32, else-self-ge32}
@@ -26,7 +26,8 @@ record IsSame (i j : Inside) : Type 0 where
   registers : RegistersOf j
   few : j.count < 32
 
-some_left : (i j : Inside) (g : Leaving) → RegistersOf i → 32 ≤ i.count → g.number ≡ i.held.number * 2 ^ 32 + i.low / 2 ^ (i.count - 20) → g.count ≡ i.held.count + 32 →
+some_left : (i j : Inside) (g : Leaving) → RegistersOf i → 32 ≤ i.count → g.number ≡ i.held.number * 2 ^ 32 + i.low / 2 ^ (i.count - 20) →
+    g.count ≡ i.held.count + 32 →
     g.before ≡ i.held.before → g.room ≡ i.held.room →
     j ≡ record i { held = g; low = i.low % (1 * 2 ^ (i.count - 20) % 18446744073709551616); count = i.count - 32; left = i.left - 32 } → IsSame i j
 some_left i j g r many number count before room is =
@@ -53,89 +54,76 @@ push-requires-clause-carry c =
     let i = c.self.inside in
     leaves_below i.held i.low i.count i.range i.left c.self.invariant (omega arith)
 
-pub invariant_of-self : goal.invariant_of-self
-invariant_of-self c =
+-- ---- at the points of the body
+-- with or without a block that leaves
+moved : (c : goal.After-struct_known-2-1) → IsSame c.self.inside c.if-self-ge32.self-inside
+moved c =
     let i = c.self.inside in
     let j = c.if-self-ge32.self-inside in
-    let r = c.self.invariant in
-    let m : IsSame i j = elim c.if-self-ge32.branch [
-      | then-self-ge32 w ↦ some_left i j w.push.new.self r w.if-self-ge32.true w.push.ensures.number w.push.ensures.count w.push.ensures.before w.push.ensures.room w.self-inside-is
-      | else-self-ge32 w ↦ none_left i j r w.if-self-ge32.false w.self-inside-is
-    ] in
-    m.registers
+    elim c.if-self-ge32.branch [
+      | then-self-ge32 w ↦ some_left i j w.push.new.self c.self.invariant w.if-self-ge32.true w.push.ensures.number w.push.ensures.count
+          w.push.ensures.before w.push.ensures.room w.self-inside-is
+      | else-self-ge32 w ↦ none_left i j c.self.invariant w.if-self-ge32.false w.self-inside-is
+    ]
+
+abbrev joined : goal.After-self-4-1 → goal.After-struct_known-2-1
+joined c = c.before.before.before.before
+
+-- the symbol's part in the registers
+abbrev TakenAt : goal.After-struct_known-2-1 → Type 0
+TakenAt c =
+    let j = c.if-self-ge32.self-inside in
+    let part = c.narrow-part.result in
+    IsTaken j.held j.low j.count j.range j.left c.args.p c.args.symbol part.start part.range part.doublings
+
+took : (c : goal.After-struct_known-2-1) → TakenAt c
+took c =
+    let j = c.if-self-ge32.self-inside in
+    let m = moved c in
+    let part = c.narrow-part.result in
+    let n = with_prob j.range c.args.p c.from.result c.args.symbol part.start part.range part.doublings (c.from.ensures ∙ c.value-2.ensures.value)
+    (record {
+      narrowed_is = c.narrow-part.ensures.narrowed;
+      in_range = c.narrow-part.ensures.range;
+      few = c.narrow-part.ensures.few;
+      within = c.narrow-part.ensures.within;
+    }) in
+    taken j.held j.low j.count j.range j.left c.args.p c.args.symbol part.start part.range part.doublings
+    c.value-2.ensures.least c.value-2.ensures.most m.registers m.few n
+
+moved_in_vain : (c : goal.Then-count-self) → IsSame c.self.inside c.if-self-ge32.self-inside
+moved_in_vain c =
+    let i = c.self.inside in
+    let j = c.if-self-ge32.self-inside in
+    elim c.if-self-ge32.branch [
+      | then-self-ge32 w ↦ some_left i j w.push.new.self c.self.invariant w.if-self-ge32.true w.push.ensures.number w.push.ensures.count
+          w.push.ensures.before w.push.ensures.room w.self-inside-is
+      | else-self-ge32 w ↦ none_left i j c.self.invariant w.if-self-ge32.false w.self-inside-is
+    ]
+
+pub invariant_of-self : goal.invariant_of-self
+invariant_of-self c = (moved_in_vain c).registers
 
 pub returns-then-count-self-clause-unchanged : goal.returns-then-count-self-clause-unchanged
 returns-then-count-self-clause-unchanged c unchanged =
     let i = c.self.inside in
     let j = c.if-self-ge32.self-inside in
-    let r = c.self.invariant in
-    let m : IsSame i j = elim c.if-self-ge32.branch [
-      | then-self-ge32 w ↦ some_left i j w.push.new.self r w.if-self-ge32.true w.push.ensures.number w.push.ensures.count w.push.ensures.before w.push.ensures.room w.self-inside-is
-      | else-self-ge32 w ↦ none_left i j r w.if-self-ge32.false w.self-inside-is
-    ] in
+    let m = moved_in_vain c in
     same_encoding j.held.before i.held.before j.held.room i.held.room (ReachedOf j) (ReachedOf i) m.before m.room m.reached ∙ c.self.view_is
 
 pub overflow_add-self : goal.overflow_add-self
-overflow_add-self c =
-    let i = c.self.inside in
-    let j = c.if-self-ge32.self-inside in
-    let r = c.self.invariant in
-    let m : IsSame i j = elim c.if-self-ge32.branch [
-      | then-self-ge32 w ↦ some_left i j w.push.new.self r w.if-self-ge32.true w.push.ensures.number w.push.ensures.count w.push.ensures.before w.push.ensures.room w.self-inside-is
-      | else-self-ge32 w ↦ none_left i j r w.if-self-ge32.false w.self-inside-is
-    ] in
-    let part = c.narrow-part.result in
-    let prob = c.from.ensures ∙ c.value-2.ensures.value in
-    let n = with_prob j.range c.args.p c.from.result c.args.symbol part.start part.range part.doublings prob
-    (record { narrowed_is = c.narrow-part.ensures.narrowed; in_range = c.narrow-part.ensures.range; few = c.narrow-part.ensures.few; within = c.narrow-part.ensures.within }) in
-    let t = taken j.held j.low j.count j.range j.left c.args.p c.args.symbol part.start part.range part.doublings c.value-2.ensures.least c.value-2.ensures.most m.registers m.few n in
-    omega (arith, t.sum_fits)
+overflow_add-self c = omega (arith, (took c).sum_fits)
 
 pub invariant_of-self-2 : goal.invariant_of-self-2
-invariant_of-self-2 c =
-    let i = c.self.inside in
-    let j = c.if-self-ge32.self-inside in
-    let r = c.self.invariant in
-    let m : IsSame i j = elim c.if-self-ge32.branch [
-      | then-self-ge32 w ↦ some_left i j w.push.new.self r w.if-self-ge32.true w.push.ensures.number w.push.ensures.count w.push.ensures.before w.push.ensures.room w.self-inside-is
-      | else-self-ge32 w ↦ none_left i j r w.if-self-ge32.false w.self-inside-is
-    ] in
-    let part = c.narrow-part.result in
-    let prob = c.from.ensures ∙ c.value-2.ensures.value in
-    let n = with_prob j.range c.args.p c.from.result c.args.symbol part.start part.range part.doublings prob
-    (record { narrowed_is = c.narrow-part.ensures.narrowed; in_range = c.narrow-part.ensures.range; few = c.narrow-part.ensures.few; within = c.narrow-part.ensures.within }) in
-    let t = taken j.held j.low j.count j.range j.left c.args.p c.args.symbol part.start part.range part.doublings c.value-2.ensures.least c.value-2.ensures.most m.registers m.few n in
-    rw t.low_is (t.registers (omega (arith, c.if-count-self.false)))
+invariant_of-self-2 c = let t = took (joined c) in rw t.low_is (t.registers (omega (arith, c.if-count-self.false)))
 
 pub returns-clause-reached : goal.returns-clause-reached
 returns-clause-reached c done =
-    let i = c.self.inside in
-    let j = c.if-self-ge32.self-inside in
-    let r = c.self.invariant in
-    let m : IsSame i j = elim c.if-self-ge32.branch [
-      | then-self-ge32 w ↦ some_left i j w.push.new.self r w.if-self-ge32.true w.push.ensures.number w.push.ensures.count w.push.ensures.before w.push.ensures.room w.self-inside-is
-      | else-self-ge32 w ↦ none_left i j r w.if-self-ge32.false w.self-inside-is
-    ] in
-    let part = c.narrow-part.result in
-    let prob = c.from.ensures ∙ c.value-2.ensures.value in
-    let n = with_prob j.range c.args.p c.from.result c.args.symbol part.start part.range part.doublings prob
-    (record { narrowed_is = c.narrow-part.ensures.narrowed; in_range = c.narrow-part.ensures.range; few = c.narrow-part.ensures.few; within = c.narrow-part.ensures.within }) in
-    let t = taken j.held j.low j.count j.range j.left c.args.p c.args.symbol part.start part.range part.doublings c.value-2.ensures.least c.value-2.ensures.most m.registers m.few n in
-    rw (← c.self.view_is, t.low_is, ← m.reached) (sym t.reached)
+    let t = took (joined c) in
+    rw (← c.self.view_is, t.low_is, ← (moved (joined c)).reached) (sym t.reached)
 
 pub returns-clause-stands : goal.returns-clause-stands
 returns-clause-stands c done pairs stands =
-    let i = c.self.inside in
-    let j = c.if-self-ge32.self-inside in
-    let r = c.self.invariant in
-    let m : IsSame i j = elim c.if-self-ge32.branch [
-      | then-self-ge32 w ↦ some_left i j w.push.new.self r w.if-self-ge32.true w.push.ensures.number w.push.ensures.count w.push.ensures.before w.push.ensures.room w.self-inside-is
-      | else-self-ge32 w ↦ none_left i j r w.if-self-ge32.false w.self-inside-is
-    ] in
-    let part = c.narrow-part.result in
-    let prob = c.from.ensures ∙ c.value-2.ensures.value in
-    let n = with_prob j.range c.args.p c.from.result c.args.symbol part.start part.range part.doublings prob
-    (record { narrowed_is = c.narrow-part.ensures.narrowed; in_range = c.narrow-part.ensures.range; few = c.narrow-part.ensures.few; within = c.narrow-part.ensures.within }) in
-    let t = taken j.held j.low j.count j.range j.left c.args.p c.args.symbol part.start part.range part.doublings c.value-2.ensures.least c.value-2.ensures.most m.registers m.few n in
+    let t = took (joined c) in
     let now = rw (← c.self.view_is) at stands in
-    rw (t.low_is, ← t.reached, m.reached, now) (sym (interval-push pairs c.args.symbol c.args.p))
+    rw (t.low_is, ← t.reached, (moved (joined c)).reached, now) (sym (interval-push pairs c.args.symbol c.args.p))

@@ -22,8 +22,10 @@ record IsLast (i : Inside) (h : Leaving) (low count : ℕ) : Type 0 where
   rest : ℕ
   registers : AreRegisters h low count i.range rest
 
-some_left : (i : Inside) (h g : Leaving) (low count : ℕ) → RegistersOf i → 32 ≤ i.count → g.number ≡ i.held.number * 2 ^ 32 + i.low / 2 ^ (i.count - 20) → g.count ≡ i.held.count + 32 →
-    g.before ≡ i.held.before → g.room ≡ i.held.room → h ≡ g → low ≡ i.low % (1 * 2 ^ (i.count - 20) % 18446744073709551616) → count ≡ i.count - 32 → IsLast i h low count
+some_left : (i : Inside) (h g : Leaving) (low count : ℕ) → RegistersOf i → 32 ≤ i.count → g.number ≡ i.held.number * 2 ^ 32 + i.low / 2 ^ (i.count - 20) →
+    g.count ≡ i.held.count + 32 →
+    g.before ≡ i.held.before → g.room ≡ i.held.room → h ≡ g → low ≡ i.low % (1 * 2 ^ (i.count - 20) % 18446744073709551616) → count ≡ i.count - 32 →
+    IsLast i h low count
 some_left i h g low count r many number more before room h_is low_is count_is =
     let few = r.few in
     let one = one_shl (i.count - 20) 64 (omega arith) in
@@ -42,7 +44,8 @@ carry_fits h low count range left r =
     omega arith
 
 -- all bits of the code
-whole : (before : List ℕ) (h : Leaving) (low count range left : ℕ) (pairs : List (Bool × ℕ)) → AreRegisters h low count range left → reached_of h low count range ≡ interval pairs →
+whole : (before : List ℕ) (h : Leaving) (low count range left : ℕ) (pairs : List (Bool × ℕ)) → AreRegisters h low count range left →
+    reached_of h low count range ≡ interval pairs →
     h.before ≡ before → h.before ++ low_bits (h.count + (12 + count)) (h.number * 2 ^ (12 + count) + low) ≡ before ++ code_spelling pairs
 whole before h low count range left pairs r is front =
     let low_is : h.number * 2 ^ (12 + count) + low ≡ (interval pairs).low = ap low_of is in
@@ -53,7 +56,8 @@ whole before h low count range left pairs r is front =
     let power = pow-add 2 12 (h.count + count - 1) in
     let long : h.count + (12 + count) ≡ suc (12 + (interval pairs).doublings) = omega arith in
     let below : h.number * 2 ^ (12 + count) + low < 2 ^ (12 + (h.count + count - 1)) = omega arith in
-    ap₂ (λ a b. a ++ low_bits (h.count + (12 + count)) b) front low_is ∙ ap (λ b. before ++ b) (spelled pairs (h.count + (12 + count)) (rw (← low_is, ← count_is) below) long)
+    ap₂ (λ a b. a ++ low_bits (h.count + (12 + count)) b) front low_is
+    ∙ ap (λ b. before ++ b) (spelled pairs (h.count + (12 + count)) (rw (← low_is, ← count_is) below) long)
   where
     low_of : Interval → ℕ
     low_of i = i.low
@@ -71,7 +75,8 @@ finish-writer-requires-clause-carry c =
     let i = c.self.inside in
     let r = c.self.invariant in
     let l : IsLast i c.if-count-ge32.held c.if-count-ge32.low c.if-count-ge32.count = elim c.if-count-ge32.branch [
-      | then-count-ge32 w ↦ some_left i c.if-count-ge32.held w.push.new.self c.if-count-ge32.low c.if-count-ge32.count r w.if-count-ge32.true w.push.ensures.number w.push.ensures.count w.push.ensures.before w.push.ensures.room w.held-is w.low-is w.count-is
+      | then-count-ge32 w ↦ some_left i c.if-count-ge32.held w.push.new.self c.if-count-ge32.low c.if-count-ge32.count r w.if-count-ge32.true
+          w.push.ensures.number w.push.ensures.count w.push.ensures.before w.push.ensures.room w.held-is w.low-is w.count-is
       | else-count-ge32 w ↦ none_left i c.if-count-ge32.held c.if-count-ge32.low c.if-count-ge32.count r w.held-is w.low-is w.count-is
     ] in
     carry_fits c.if-count-ge32.held c.if-count-ge32.low c.if-count-ge32.count i.range l.rest l.registers
@@ -81,9 +86,11 @@ returns-clause-bits c pairs stands =
     let i = c.self.inside in
     let r = c.self.invariant in
     let l : IsLast i c.if-count-ge32.held c.if-count-ge32.low c.if-count-ge32.count = elim c.if-count-ge32.branch [
-      | then-count-ge32 w ↦ some_left i c.if-count-ge32.held w.push.new.self c.if-count-ge32.low c.if-count-ge32.count r w.if-count-ge32.true w.push.ensures.number w.push.ensures.count w.push.ensures.before w.push.ensures.room w.held-is w.low-is w.count-is
+      | then-count-ge32 w ↦ some_left i c.if-count-ge32.held w.push.new.self c.if-count-ge32.low c.if-count-ge32.count r w.if-count-ge32.true
+          w.push.ensures.number w.push.ensures.count w.push.ensures.before w.push.ensures.room w.held-is w.low-is w.count-is
       | else-count-ge32 w ↦ none_left i c.if-count-ge32.held c.if-count-ge32.low c.if-count-ge32.count r w.held-is w.low-is w.count-is
     ] in
     let now = rw (← c.self.view_is) at stands in
-    let all = c.finish-writer.ensures.bits ∙ whole i.held.before c.if-count-ge32.held c.if-count-ge32.low c.if-count-ge32.count i.range l.rest pairs l.registers (l.reached ∙ now) l.before in
+    let all = c.finish-writer.ensures.bits ∙ whole i.held.before c.if-count-ge32.held c.if-count-ge32.low c.if-count-ge32.count i.range l.rest pairs
+    l.registers (l.reached ∙ now) l.before in
     rw (← c.self.view_is) (c.finish.ensures.zeros ∙ ap (λ xs. xs ++ replicate (to_byte_end (length xs)) 0) all)

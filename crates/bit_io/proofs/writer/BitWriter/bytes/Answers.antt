@@ -11,4 +11,5 @@ returns-clause-bits c =
 
 pub returns-clause-bytes : goal.returns-clause-bytes
 returns-clause-bytes c =
-    c.as_octets.ensures.same ∙ sym c.as_octets.ensures.bytes ∙ ap (λ bytes. octets (bits bytes)) (sym c.as_octets.ensures.same) ∙ ap octets (returns-clause-bits c)
+    c.as_octets.ensures.same ∙ sym c.as_octets.ensures.bytes ∙ ap (λ bytes. octets (bits bytes)) (sym c.as_octets.ensures.same)
+    ∙ ap octets (returns-clause-bits c)

@@ -12,4 +12,5 @@ returns-clause-bits c written =
     let number : bit_or (c.from-2.result * 2 ^ c.args.n % 18446744073709551616) c.from-3.result ≡ f.pending * 2 ^ c.args.n + c.args.value =
     rw (shifted, c.from-3.ensures) (or_shifted f.pending c.args.n c.args.value c.requires.fits) in
     let one : 1 * 2 ^ rest % 18446744073709551616 ≡ 2 ^ rest = one_shl rest 64 (omega (arith, c.push_bytes-self-inside.ensures.rest)) in
-    rw (← c.self.view_is, one) (bits_put f.bytes.items c.push_bytes-self-inside.new.bytes.items f.count f.pending c.args.n c.args.value _ rest c.requires.fits number c.push_bytes-self-inside.ensures.bits)
+    rw (← c.self.view_is, one) (bits_put f.bytes.items c.push_bytes-self-inside.new.bytes.items f.count f.pending c.args.n c.args.value _ rest
+    c.requires.fits number c.push_bytes-self-inside.ensures.bits)

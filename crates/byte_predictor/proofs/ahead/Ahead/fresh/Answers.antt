@@ -12,12 +12,16 @@ loop-turn-init c = (refl, λ lane h. no_sums-at 136 lane ∙ nothing-ahead (drop
 pub loop-turn-preserved : goal.loop-turn-preserved
 loop-turn-preserved c =
     let coefs = c.args.rows.now in
-    let rule : HasRows coefs c.rows.inside.rows c.rows.inside.near c.rows.inside.size = subst (λ t. HasRows t c.rows.inside.rows c.rows.inside.near c.rows.inside.size) c.rows.view_is c.rows.invariant in
+    let rule : HasRows coefs c.rows.inside.rows c.rows.inside.near c.rows.inside.size =
+    subst (λ t. HasRows t c.rows.inside.rows c.rows.inside.near c.rows.inside.size) c.rows.view_is c.rows.invariant in
     let turn = c.loop-turn.turn in
     let again = byte-again 170 turn in
-    let before : (lane : ℕ) → lane < 136 → get_or c.loop-turn.lanes lane 0 ≡ upward_sum (drop lane (far coefs)) (drop 8 (samples_of (replicate (turn + 1) 170))) = λ lane h. c.loop-turn.invariant.1 lane h ∙ ap (upward_sum (drop lane (far coefs))) (sym again.1) in (
+    let before : (lane : ℕ) → lane < 136 → get_or c.loop-turn.lanes lane 0 ≡ upward_sum (drop lane (far coefs))
+    (drop 8 (samples_of (replicate (turn + 1) 170))) = λ lane h. c.loop-turn.invariant.1 lane h ∙ ap (upward_sum (drop lane (far coefs))) (sym again.1) in (
       c.add_row.ensures.long,
-      taken-lane coefs (samples_of (replicate (turn + 1) 170)) c.loop-turn.lanes (get_or c.rows.inside.rows 170 []) c.add_row.new.lanes 170 rule.table.each rule.table.most again.0 before (λ lane h. rule.added 170 lane (omega arith) h) c.add_row.ensures.added c.add_row.ensures.last,
+      taken-lane coefs (samples_of (replicate (turn + 1) 170)) c.loop-turn.lanes
+          (get_or c.rows.inside.rows 170 []) c.add_row.new.lanes 170 rule.table.each rule.table.most again.0 before
+          (λ lane h. rule.added 170 lane (omega arith) h) c.add_row.ensures.added c.add_row.ensures.last,
     )
 
 pub returns : goal.returns

@@ -16,7 +16,8 @@ invariant_of-self c =
     let table : IsTable filter_kind coefs = subst (IsTable filter_kind) (sym c.coefs-coefs.ensures.coefs) c.coefs-coefs.ensures.table in
     let rule : HasRows coefs c.fill_rows.new.rows c.fill_near.new.near c.size_of_all-self-inside.result = record {
       table = table;
-      added = λ byte lane h i. c.fill_rows.ensures byte lane h i ∙ same-lanes c.far_coefs-later.result coefs lane (rising_bits 8 byte) c.far_coefs-later.ensures.places;
+      added = λ byte lane h i. c.fill_rows.ensures byte lane h i
+          ∙ same-lanes c.far_coefs-later.result coefs lane (rising_bits 8 byte) c.far_coefs-later.ensures.places;
       newest = c.fill_near.ensures;
       sizes = c.size_of_all-self-inside.ensures;
     } in

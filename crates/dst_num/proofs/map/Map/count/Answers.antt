@@ -9,6 +9,7 @@ returns-clause-most c =
     let xs = c.as_slice-elements.result.now in
     let items = c.self.inside.elements.items in
     let count : c.loop-element.count ≡ element_count items =
-    c.loop-element.invariant ∙ ap element_count (take_all c.loop-element.element-index xs (search rules)) ∙ ap element_count c.as_slice-elements.ensures.value in
+    c.loop-element.invariant ∙ ap element_count (take_all c.loop-element.element-index xs (search rules))
+    ∙ ap element_count c.as_slice-elements.ensures.value in
     let most = count_most items c.self.invariant.2.1 in
     rw (← c.self.view_is) (omega (arith, count, most))

@@ -21,4 +21,7 @@ returns c =
     let maps : c.put_maps.new.self ≡ (1 ∷ 1 ∷ 1 ∷ 1 ∷ []) ++ both_maps_spelling m.filter_map m.prob_map =
     c.put_maps.ensures.bits ∙ ap (λ xs. xs ++ both_maps_spelling c.elements.result.now c.elements-2.result.now) four_ones
     ∙ ap₂ (λ a b. (1 ∷ 1 ∷ 1 ∷ 1 ∷ []) ++ both_maps_spelling a b) c.elements.ensures.elements c.elements-2.ensures.elements in
-    record { bits = c.put_half_bits.ensures ∙ ap₂ (λ xs half_prob. xs ++ map bit_of half_prob) maps c.as_slice.ensures.value ∙ ap front_spelling c.params.view_is }
+    record {
+      bits = c.put_half_bits.ensures ∙ ap₂ (λ xs half_prob. xs ++ map bit_of half_prob) maps c.as_slice.ensures.value
+          ∙ ap front_spelling c.params.view_is;
+    }

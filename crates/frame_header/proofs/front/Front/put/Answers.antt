@@ -12,7 +12,8 @@ room c =
     let long : f.count ≡ length c.args.self.now = sym (length-low_bits f.count f.number) ∙ ap length c.self.view_is in
     omega (arith, long, c.requires.room)
 
-joined : (c : goal.After-self-2-1) → bit_or (c.self.inside.number * 2 ^ c.args.n % 18446744073709551616) c.from.result ≡ c.self.inside.number * 2 ^ c.args.n + c.args.value
+joined : (c : goal.After-self-2-1) → bit_or (c.self.inside.number * 2 ^ c.args.n % 18446744073709551616) c.from.result
+    ≡ c.self.inside.number * 2 ^ c.args.n + c.args.value
 joined c =
     let f = c.self.inside in
     let most : f.count + c.args.n ≤ 64 = omega (arith, room c) in
@@ -26,7 +27,8 @@ invariant_of-self c =
 pub returns-clause-bits : goal.returns-clause-bits
 returns-clause-bits c =
     let f = c.self.inside in
-    ap (low_bits (f.count + c.args.n)) (joined c) ∙ low_bits-join f.count c.args.n f.number c.args.value c.requires.fits ∙ ap (λ xs. xs ++ low_bits c.args.n c.args.value) c.self.view_is
+    ap (low_bits (f.count + c.args.n)) (joined c) ∙ low_bits-join f.count c.args.n f.number c.args.value c.requires.fits
+    ∙ ap (λ xs. xs ++ low_bits c.args.n c.args.value) c.self.view_is
 
 pub returns-clause-length : goal.returns-clause-length
 returns-clause-length c =

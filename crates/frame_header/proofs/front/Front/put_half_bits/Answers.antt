@@ -16,6 +16,7 @@ loop-bit-preserved c =
     let b = get_or half_prob l.bit-index false in
     let bit : c.from.result ≡ bit_of b = c.from.ensures ∙ byte b in
     record {
-      whole = half_step c.args.self.now l.self c.put.new.self half_prob l.bit-index b c.loop-bit-test.true refl (c.put.ensures.bits ∙ ap (λ v. l.self ++ low_bits 1 v) bit) l.invariant.whole;
+      whole = half_step c.args.self.now l.self c.put.new.self half_prob l.bit-index b c.loop-bit-test.true refl (c.put.ensures.bits
+          ∙ ap (λ v. l.self ++ low_bits 1 v) bit) l.invariant.whole;
       long = c.put.ensures.length ∙ omega (arith, l.invariant.long);
     }

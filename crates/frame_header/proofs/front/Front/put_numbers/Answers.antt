@@ -21,7 +21,8 @@ loop-element-preserved c =
     let e = get_or es l.element-index 0 in
     let at = numbers_on es l.element-index l.count c.loop-element-test.true l.invariant.numbers in
     let next : c.max-count.result ≡ max l.count (e + 1) = grind (arith, c.max-count.ensures, c.from-in-loop-element.ensures) in
-    let put : c.put.new.self ≡ l.self ++ low_bits (map_bits l.count) e = c.put.ensures.bits ∙ ap₂ (λ n v. l.self ++ low_bits n v) c.map_bits.ensures.bits c.from.ensures in
+    let put : c.put.new.self ≡ l.self ++ low_bits (map_bits l.count) e = c.put.ensures.bits
+    ∙ ap₂ (λ n v. l.self ++ low_bits n v) c.map_bits.ensures.bits c.from.ensures in
     let first : e ≤ l.count = at.0 in
     rw next (record {
       numbers = at.1;

@@ -29,10 +29,12 @@ returns c =
     let left = a.room first in
     let second = b.written.1 (omega (arith, long, left, c.requires)) in
     let one : 1 * 2 ^ low % 2 ^ 64 ≡ 2 ^ low = one_shl low 64 small in
-    let rest : low_bits low (f.number % (1 * 2 ^ low % 2 ^ 64)) ≡ low_bits low f.number = ap (λ k. low_bits low (f.number % k)) one ∙ low_bits-mod low f.number in
+    let rest : low_bits low (f.number % (1 * 2 ^ low % 2 ^ 64)) ≡ low_bits low f.number = ap (λ k. low_bits low (f.number % k)) one
+    ∙ low_bits-mod low f.number in
     let whole : low_bits high (f.number / 2 ^ low) ++ low_bits low f.number ≡ c.args.self.now =
     sym (low_bits-split high low f.number) ∙ ap (λ n. low_bits n f.number) sum ∙ c.self.view_is in
     record {
-      bits = b.bits second ∙ ap₂ (λ xs ys. xs ++ ys) (a.bits first) rest ∙ append_assoc w.bits (low_bits high (f.number / 2 ^ low)) (low_bits low f.number) ∙ ap (λ xs. w.bits ++ xs) whole;
+      bits = b.bits second ∙ ap₂ (λ xs ys. xs ++ ys) (a.bits first) rest ∙ append_assoc w.bits (low_bits high (f.number / 2 ^ low)) (low_bits low f.number)
+          ∙ ap (λ xs. w.bits ++ xs) whole;
       room = omega (arith, long, left, b.room second);
     }
