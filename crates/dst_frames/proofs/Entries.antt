@@ -1,5 +1,6 @@
 -- Entries of probabilities and guesses.
-use Rattle.std.proofs.Common.{◌≡◌, ◌≢◌, ◌⊎◌, inl, inr, ℕ, ◌+◌, ◌%◌, ◌<◌, ◌≤◌, ℤ, pos, List, length, map, get_or, sym, subst, ◌∙◌, arith, true, false, le-ltb, lt-ltb, ne_eqb, refl, ap}
+use Rattle.std.proofs.Common.{◌≡◌, ◌≢◌, ◌⊎◌, inl, inr, ℕ, ◌+◌, ◌%◌, ◌<◌, ◌≤◌, ℤ, pos, List, length, map, get_or, sym, subst, ◌∙◌, arith, true, false}
+use Rattle.std.proofs.Common.{le-ltb, lt-ltb, ne_eqb, refl, ap}
 use Rattle.std.proofs.lemmas.Bool.{cases_lt}
 use Rattle.std.proofs.lemmas.Int.{ints}
 use Rattle.std.proofs.lemmas.List.{length-map, get_or-map}

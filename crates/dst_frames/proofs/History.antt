@@ -1,5 +1,6 @@
 -- The samples of a channel before a sample, and the symbols before it.
-use Rattle.std.proofs.Common.{◌≡◌, ℕ, zero, suc, ◌+◌, ◌≤◌, ◌==◌, ◌&&◌, nat_lt, ℤ, pos, Bool, true, false, not, if◌then◌else◌, List, [], ◌∷◌, ◌++◌, length, flat_map, replicate, get_or, refl, ap, ap₂, sym, subst, ◌∙◌, arith, add-one}
+use Rattle.std.proofs.Common.{◌≡◌, ℕ, zero, suc, ◌+◌, ◌≤◌, ◌==◌, ◌&&◌, nat_lt, ℤ, pos, Bool, true, false, not, if◌then◌else◌, List, [], ◌∷◌, ◌++◌}
+use Rattle.std.proofs.Common.{length, flat_map, replicate, get_or, refl, ap, ap₂, sym, subst, ◌∙◌, arith, add-one}
 use Rattle.std.proofs.lemmas.List.{append-nil}
 use Rattle.std.proofs.lemmas.Grind.{flat_map-append}
 use Rattle.std.proofs.lemmas.List.FromFn.{map-range_with_len_more}
@@ -16,8 +17,10 @@ use Rattle.dst_frames.specs.Underway.{earlier, symbols_at, symbols_before}
 -- what is known of samples before a place and of predictions
 pub record Predicts : Type 0 where
   pub frame : (f : Shape) (sound : List ℕ) (c : ℕ) → IsBefore f sound c 0 (samples_of (replicate 16 170))
-  pub next : (f : Shape) (sound : List ℕ) (c t : ℕ) (samples : List ℕ) → IsBefore f sound c t samples → IsBefore f sound c (t + 1) (sample f sound c (pos t) ∷ samples)
-  pub predicts : (f : Shape) (sound : List ℕ) (c t : ℕ) (samples : List ℕ) (coefs : List ℤ) → length coefs ≤ 128 → IsBefore f sound c t samples → signed_sum coefs samples ≡ sum_before f sound c coefs (pos t)
+  pub next : (f : Shape) (sound : List ℕ) (c t : ℕ) (samples : List ℕ) → IsBefore f sound c t samples →
+      IsBefore f sound c (t + 1) (sample f sound c (pos t) ∷ samples)
+  pub predicts : (f : Shape) (sound : List ℕ) (c t : ℕ) (samples : List ℕ) (coefs : List ℤ) → length coefs ≤ 128 → IsBefore f sound c t samples →
+      signed_sum coefs samples ≡ sum_before f sound c coefs (pos t)
 
 pub earlier-suc : (f : Shape) (sound : List ℕ) (c t : ℕ) → earlier f sound c (t + 1) ≡ sample f sound c (pos t) ∷ earlier f sound c t
 unfolding earlier
@@ -27,14 +30,16 @@ earlier_before : Predicts → (f : Shape) (sound : List ℕ) (c t : ℕ) → IsB
 unfolding earlier
 earlier_before law f sound c zero = law.frame f sound c
 earlier_before law f sound c (suc t) =
-    subst (λ n. IsBefore f sound c n (sample f sound c (pos t) ∷ earlier f sound c t)) (add-one t) (law.next f sound c t (earlier f sound c t) (earlier_before law f sound c t))
+    subst (λ n. IsBefore f sound c n (sample f sound c (pos t) ∷ earlier f sound c t)) (add-one t)
+    (law.next f sound c t (earlier f sound c t) (earlier_before law f sound c t))
 
 bit_back : (s : Bool) → (bit_of s == 1) ≡ s
 bit_back true = refl
 bit_back false = refl
 
 -- the symbol of a sample of a sound
-pub pair_is : Predicts → (f : Shape) (P : Params) (sound : List ℕ) (c t : ℕ) (early s : Bool) (samples : List ℕ) → earlier f sound c t ≡ samples → sample f sound c (pos t) ≡ bit_of s →
+pub pair_is : Predicts → (f : Shape) (P : Params) (sound : List ℕ) (c t : ℕ) (early s : Bool) (samples : List ℕ) → earlier f sound c t ≡ samples →
+    sample f sound c (pos t) ≡ bit_of s →
     early ≡ (get_or P.half_prob c false && nat_lt t (length (filter_of P c))) → length (filter_of P c) ≤ 128 →
     symbol_after (filter_of P c) (probs_of P c) early samples s ≡ (as_guessed f P sound c t, probability f P sound c t)
 pair_is law f P sound c t early s samples before bit given short =
@@ -44,7 +49,8 @@ pair_is law f P sound c t early s samples before bit given short =
     ap₂ (λ x y. (x, y)) (ap₂ (λ n o. if is_negative n then not o else o) z one) (ap₂ (λ b n. if b then 128 else prob_at (probs_of P c) n) given z)
 
 -- one more channel
-pub symbols_at-more : (f : Shape) (P : Params) (sound : List ℕ) (t n : ℕ) → symbols_at f P sound t (n + 1) ≡ symbols_at f P sound t n ++ (as_guessed f P sound n t, probability f P sound n t) ∷ []
+pub symbols_at-more : (f : Shape) (P : Params) (sound : List ℕ) (t n : ℕ) →
+    symbols_at f P sound t (n + 1) ≡ symbols_at f P sound t n ++ (as_guessed f P sound n t, probability f P sound n t) ∷ []
 symbols_at-more f P sound t n = map-range_with_len_more (λ c. (as_guessed f P sound c t, probability f P sound c t)) 0 n n (omega arith)
 
 -- one more place
@@ -57,10 +63,12 @@ range-more a (suc n) =
     let e : a + 1 + n ≡ a + suc n = omega arith in
     ap (range_with_len a) next ∙ ap (λ xs. a ∷ xs) (range-more (a + 1) n ∙ ap (λ k. range_with_len (a + 1) n ++ k ∷ []) e)
 
-pub symbols_before-more : (f : Shape) (P : Params) (sound : List ℕ) (reserved : Bool) (t : ℕ) → symbols_before f P sound reserved (t + 1) ≡ symbols_before f P sound reserved t ++ symbols_at f P sound t f.channels
+pub symbols_before-more : (f : Shape) (P : Params) (sound : List ℕ) (reserved : Bool) (t : ℕ) →
+    symbols_before f P sound reserved (t + 1) ≡ symbols_before f P sound reserved t ++ symbols_at f P sound t f.channels
 unfolding symbols_before
 symbols_before-more f P sound reserved t =
     let g = λ (u : ℕ). symbols_at f P sound u f.channels in
     let here : 0 + t ≡ t = omega arith in
     ap (λ xs. (reserved, reserved_probability P) ∷ xs)
-    (ap (flat_map g) (range-more 0 t) ∙ flat_map-append g (range_with_len 0 t) ((0 + t) ∷ []) ∙ ap (λ xs. flat_map g (range_with_len 0 t) ++ xs) (append-nil (g (0 + t)) ∙ ap g here))
+    (ap (flat_map g) (range-more 0 t) ∙ flat_map-append g (range_with_len 0 t) ((0 + t) ∷ [])
+    ∙ ap (λ xs. flat_map g (range_with_len 0 t) ++ xs) (append-nil (g (0 + t)) ∙ ap g here))

@@ -7,3 +7,4 @@ pub mod Early
 pub mod Bytes
 pub mod Whole
 pub mod Frames
+pub mod Further

@@ -1,5 +1,6 @@
 -- The tables that a map numbers.
-use Rattle.std.proofs.Common.{◌≡◌, ℕ, zero, suc, ◌+◌, ◌*◌, ◌/◌, ◌%◌, ◌^◌, ◌<◌, ◌≤◌, List, [], length, get_or, reverse, refl, ap, ap₂, add-one, ◌∙◌, ℤ, pos, arith}
+use Rattle.std.proofs.Common.{◌≡◌, ℕ, zero, suc, ◌+◌, ◌*◌, ◌/◌, ◌%◌, ◌^◌, ◌<◌, ◌≤◌, List, [], length, get_or, reverse, refl, ap, ap₂, add-one, ◌∙◌, ℤ}
+use Rattle.std.proofs.Common.{pos, arith}
 use Rattle.std.proofs.lemmas.List.{get_or_default}
 use Rattle.std.proofs.Math.Nat.{pow-suc, pow-le-pow_right}
 use Rattle.dst_spec.specs.Bits.{low_bits, signed_bits, number_from}
@@ -16,7 +17,8 @@ pub turned-number : (x : ℕ) → number_from (reverse (low_bits 9 x)) 0 7 ≡ t
 unfolding number_from low_bits turned
 turned-number x = refl
 
-pub first-turned : (P : Params) (coef : ℤ) (x : ℕ) → get_or (get_or P.filters 0 []) 0 (pos 0) ≡ coef → signed_bits 9 coef ≡ low_bits 9 x → turned 7 x + 1 ≡ reserved_probability P
+pub first-turned : (P : Params) (coef : ℤ) (x : ℕ) → get_or (get_or P.filters 0 []) 0 (pos 0) ≡ coef → signed_bits 9 coef ≡ low_bits 9 x →
+    turned 7 x + 1 ≡ reserved_probability P
 unfolding reserved_probability
 first-turned P coef x at bits =
     let number = ap (λ xs. number_from (reverse xs) 0 7) (ap (signed_bits 9) at ∙ bits) ∙ turned-number x in
@@ -37,11 +39,13 @@ turned-small n x h =
     omega (arith, turned-below n x, most)
 
 -- what a map chooses for a channel
-pub chosen-inside : {A : Type 0} (map seen : List ℕ) (tables shown : List A) (halves c : ℕ) → seen ≡ map → shown ≡ tables → length map ≡ halves → length tables ≡ element_count map → c < halves → get_or seen c 0 < length shown
+pub chosen-inside : {A : Type 0} (map seen : List ℕ) (tables shown : List A) (halves c : ℕ) → seen ≡ map → shown ≡ tables → length map ≡ halves →
+    length tables ≡ element_count map → c < halves → get_or seen c 0 < length shown
 chosen-inside map seen tables shown halves c a b long count h =
     let below = element-below map c (omega arith) in
     omega (arith, below, ap (λ xs. get_or xs c 0) a, ap length b, count)
 
-pub chosen-is : {A : Type 0} (map seen : List ℕ) (tables shown : List A) (c : ℕ) (item d : A) → seen ≡ map → shown ≡ tables → item ≡ get_or shown (get_or seen c 0) item → get_or seen c 0 < length shown → item ≡ get_or tables (get_or map c 0) d
+pub chosen-is : {A : Type 0} (map seen : List ℕ) (tables shown : List A) (c : ℕ) (item d : A) → seen ≡ map → shown ≡ tables →
+    item ≡ get_or shown (get_or seen c 0) item → get_or seen c 0 < length shown → item ≡ get_or tables (get_or map c 0) d
 chosen-is map seen tables shown c item d a b is h =
     is ∙ get_or_default shown (get_or seen c 0) item d h ∙ ap₂ (λ xs ms. get_or xs (get_or ms c 0) d) b a

@@ -1,5 +1,6 @@
 -- The symbol of a sample, from the entry of its prediction.
-use Rattle.std.proofs.Common.{◌≡◌, ℕ, ◌%◌, ◌≤◌, ℤ, Bool, true, false, not, if◌then◌else◌, nat_lt, List, ◌∷◌, length, get_or, subst₂, refl, ap, ap₂, sym, ◌∙◌, arith}
+use Rattle.std.proofs.Common.{◌≡◌, ℕ, ◌%◌, ◌≤◌, ℤ, Bool, true, false, not, if◌then◌else◌, nat_lt, List, ◌∷◌, length, get_or, subst₂, refl, ap, ap₂}
+use Rattle.std.proofs.Common.{sym, ◌∙◌, arith}
 use Rattle.std.proofs.lemmas.Bool.Decides.{nat_tests}
 use Rattle.std.specs.Int.{is_negative}
 use lib.Dec.{leb}
@@ -23,17 +24,21 @@ prob_of_entry : (early : Bool) (e low prob : ℕ) → low ≡ (if early then 0 e
 prob_of_entry true e low prob is as_entered = ap prob_in is
 prob_of_entry false e low prob is as_entered = ap prob_in is ∙ as_entered
 
-pub symbol_is : (filter : List ℤ) (probs samples : List ℕ) (early s : Bool) (e low p : ℕ) → IsEntry (signed_sum filter samples) probs e → low ≡ (if early then 0 else e % 128) → p ≡ prob_in low →
+pub symbol_is : (filter : List ℤ) (probs samples : List ℕ) (early s : Bool) (e low p : ℕ) → IsEntry (signed_sum filter samples) probs e →
+    low ≡ (if early then 0 else e % 128) → p ≡ prob_in low →
     ◌≡◌ {A = Bool × ℕ} (s, p) (symbol_after filter probs early samples (beq s (leb 128 e)))
 symbol_is filter probs samples early s e low p entry low_is p_is =
     let negative = is_negative (signed_sum filter samples) in
     let high : leb 128 e ≡ not negative = high_is e ∙ ap not entry.guess in
-    let as_entered : p ≡ (if early then 128 else prob_at probs (signed_sum filter samples)) = p_is ∙ prob_of_entry early e low (prob_at probs (signed_sum filter samples)) low_is entry.prob in
+    let as_entered : p ≡ (if early then 128 else prob_at probs (signed_sum filter samples)) = p_is
+    ∙ prob_of_entry early e low (prob_at probs (signed_sum filter samples)) low_is entry.prob in
     ap₂ (λ x y. (x, y)) (turned_back s negative ∙ ap (λ h. if negative then not (beq s h) else beq s h) (sym high)) as_entered
 
 -- an entry that was looked up for one value of the sample before it
-pub entry_behind : (filter : List ℤ) (probs samples : List ℕ) (half_prob b s : Bool) (tables : ChannelTables) (upward next : ℕ) → IsBuilt filter probs half_prob tables → 128 ≤ length samples →
-    upward ≡ upward_sum tables.filter (bit_of b ∷ samples) → next ≡ get_or tables.entries upward 0 → s ≡ b → IsEntry (signed_sum filter (bit_of s ∷ samples)) probs next
+pub entry_behind : (filter : List ℤ) (probs samples : List ℕ) (half_prob b s : Bool) (tables : ChannelTables) (upward next : ℕ) →
+    IsBuilt filter probs half_prob tables → 128 ≤ length samples →
+    upward ≡ upward_sum tables.filter (bit_of b ∷ samples) → next ≡ get_or tables.entries upward 0 → s ≡ b →
+    IsEntry (signed_sum filter (bit_of s ∷ samples)) probs next
 entry_behind filter probs samples half_prob b s tables upward next built long sum is same =
     let whole = sum ∙ ap (λ coefs. upward_sum coefs (bit_of b ∷ samples)) built.filter_is in
     let entry = built.entries (bit_of b ∷ samples) (omega arith) in

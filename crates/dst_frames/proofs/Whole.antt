@@ -22,14 +22,17 @@ all_symbols : (f : Shape) (P : Params) (sound : List ℕ) (reserved : Bool) → 
 unfolding symbols_before symbols
 all_symbols f P sound reserved = refl
 
-pub frame_begins : (f : Shape) (P : Params) (reserved : Bool) (p : ℕ) (out : List ℕ) (decoder : Decoding) (states : List ChannelState) → p ≡ reserved_probability P → StandsFor decoder ((reserved, p) ∷ []) →
-    ((c : ℕ) (other : ChannelState) → c < f.channels → IsReady (filter_of P c) (probs_of P c) 0 (samples_of (replicate 16 170)) (get_or states c other)) → IsDecodedTo f P reserved 0 out decoder states
+pub frame_begins : (f : Shape) (P : Params) (reserved : Bool) (p : ℕ) (out : List ℕ) (decoder : Decoding) (states : List ChannelState) →
+    p ≡ reserved_probability P → StandsFor decoder ((reserved, p) ∷ []) →
+    ((c : ℕ) (other : ChannelState) → c < f.channels → IsReady (filter_of P c) (probs_of P c) 0 (samples_of (replicate 16 170)) (get_or states c other)) →
+    IsDecodedTo f P reserved 0 out decoder states
 frame_begins f P reserved p out decoder states prob stands fresh = record {
   ready = λ c other h. subst (λ xs. IsReady (filter_of P c) (probs_of P c) 0 xs (get_or states c other)) (sym (no_samples f out c)) (fresh c other h);
   code = λ sound same. subst (StandsFor decoder) (ap (λ q. (reserved, q) ∷ []) prob ∙ sym (no_symbols f P sound reserved)) stands;
 }
 
-pub frame_ends : (f : Shape) (P : Params) (reserved : Bool) (octets : ℕ) (out : List ℕ) (decoder : Decoding) (states : List ChannelState) → f.octets ≡ octets → IsDecodedTo f P reserved octets out decoder states →
+pub frame_ends : (f : Shape) (P : Params) (reserved : Bool) (octets : ℕ) (out : List ℕ) (decoder : Decoding) (states : List ChannelState) →
+    f.octets ≡ octets → IsDecodedTo f P reserved octets out decoder states →
     StandsFor decoder (symbols f P out reserved)
 frame_ends f P reserved octets out decoder states all u =
     subst (StandsFor decoder) (ap (λ n. symbols_before f P out reserved (8 * n)) (sym all) ∙ all_symbols f P out reserved) (u.code out (λ c h. refl))

@@ -1,13 +1,15 @@
--- A frame whose code is being decoded.
-use Rattle.std.specs.Prelude.{◌≡◌, ℕ, zero, suc, ◌*◌, ◌<◌, pos, Bool, List, ◌∷◌, map, flat_map, replicate, get_or}
+-- A frame whose code is being decoded, and what one sample, one byte and all bytes of each channel add to it.
+use Rattle.std.specs.Prelude.{◌≡◌, ℕ, zero, suc, ◌+◌, ◌*◌, ◌<◌, ◌≤◌, ℤ, pos, Bool, List, [], ◌∷◌, ◌++◌, length, map, flat_map, replicate, get_or}
 use Rattle.std.specs.List.{range_with_len}
 use Rattle.dst_spec.specs.Sample.{Shape, sample}
-use Rattle.dst_spec.specs.Header.{Params}
+use Rattle.dst_spec.specs.Header.{Params, bit_of}
 use Rattle.dst_spec.specs.Guess.{filter_of, probs_of, probability, as_guessed}
 use Rattle.dst_spec.specs.Symbols.{reserved_probability}
 use Rattle.byte_predictor.specs.Samples.{samples_of}
 use Rattle.arith_decoder.specs.Decoding.{Decoding, StandsFor}
+use Rattle.dst_frames.specs.Tables.{IsBuilt, AreBuilt, symbol_after}
 use Rattle.dst_frames.specs.Ready.{IsReady}
+use Rattle.dst_frames.specs.declared.tables.ChannelTables.{ChannelTables}
 use Rattle.dst_frames.specs.declared.state.ChannelState.{ChannelState}
 
 -- the samples of a channel before sample t, the newest first, with 128 of those before the frame behind them
@@ -26,10 +28,37 @@ symbols_before f P sound reserved t =
 
 -- These are the samples of each channel before sample t: each channel has come so far, and the decoder stands for the symbols
 -- of every sound that has them.
-pub record IsUnderway (f : Shape) (P : Params) (reserved : Bool) (t place : ℕ) (samples : ℕ → List ℕ) (decoder : Decoding) (states : List ChannelState) : Type 0 where
+pub record IsUnderway (f : Shape) (P : Params) (reserved : Bool) (t place : ℕ) (samples : ℕ →
+    List ℕ) (decoder : Decoding) (states : List ChannelState) : Type 0 where
   pub ready : (c : ℕ) (other : ChannelState) → c < f.channels → IsReady (filter_of P c) (probs_of P c) place (samples c) (get_or states c other)
   pub code : (sound : List ℕ) → ((c : ℕ) → c < f.channels → earlier f sound c t ≡ samples c) → StandsFor decoder (symbols_before f P sound reserved t)
 
 -- The samples before byte m of each channel are those of this sound.
 abbrev pub IsDecodedTo : Shape → Params → Bool → ℕ → List ℕ → Decoding → List ChannelState → Type 0
 IsDecodedTo f P reserved m sound decoder states = IsUnderway f P reserved (8 * m) 0 (λ c. earlier f sound c (8 * m)) decoder states
+
+-- a decoder of the same code that has used at most so many bits more
+pub record IsFurther (old new : Decoding) (most : ℕ) : Type 0 where
+  pub bytes : new.bytes ≡ old.bytes
+  pub first : new.first ≡ old.first
+  pub used : new.used ≤ old.used + most
+
+-- The sample behind others of a channel is decoded: the channel has come one sample further, and the decoder stands for one symbol more.
+pub record IsNext (tables : ChannelTables) (place : ℕ) (early : Bool) (old new : Decoding) (before after : ChannelState) (sample : Bool) : Type 0 where
+  pub ready : (filter : List ℤ) (probs samples : List ℕ) (half_prob : Bool) → IsBuilt filter probs half_prob tables →
+      IsReady filter probs place samples before → IsReady filter probs (place + 1) (bit_of sample ∷ samples) after
+  pub symbol : (filter : List ℤ) (probs samples : List ℕ) (pairs : List (Bool × ℕ)) → IsReady filter probs place samples before →
+      StandsFor old pairs → StandsFor new (pairs ++ symbol_after filter probs early samples sample ∷ [])
+
+-- One byte more of each channel is decoded: every sound that was decoded up to it, and has these bytes then, is decoded behind it.
+abbrev pub IsNextByte : List ChannelTables → ℕ → List ℕ → Decoding → Decoding → List ChannelState → List ChannelState → Type 0
+IsNextByte tables m bytes old new before after =
+    (f : Shape) (P : Params) (reserved : Bool) (sound later : List ℕ) → f.channels ≡ length tables → AreBuilt f P tables →
+    IsDecodedTo f P reserved m sound old before → ((k : ℕ) → k < m * f.channels → get_or later k 0 ≡ get_or sound k 0) →
+    ((c : ℕ) → c < f.channels → get_or later (m * f.channels + c) 0 ≡ get_or bytes c 0) → IsDecodedTo f P reserved (m + 1) later new after
+
+-- So many bytes of each channel are decoded, of which none was before.
+abbrev pub AreAllDecoded : List ChannelTables → ℕ → List ℕ → List ℕ → Decoding → Decoding → List ChannelState → List ChannelState → Type 0
+AreAllDecoded tables octets out sound old new before after =
+    (f : Shape) (P : Params) (reserved : Bool) → f.channels ≡ length tables → AreBuilt f P tables →
+    IsDecodedTo f P reserved 0 out old before → IsDecodedTo f P reserved octets sound new after

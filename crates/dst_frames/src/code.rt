@@ -10,7 +10,7 @@ ghost use Rattle.dst_frames.specs.Ready.{IsReady};
 ghost use Rattle.dst_frames.specs.Coded.{IsCodeOfSound};
 
 use crate::reserved::reserved_probability;
-use crate::sound::decode_all;
+use crate::samples::decode_samples;
 use crate::state::ChannelState;
 use crate::tables::ChannelTables;
 use arith_decoder::ArithDecoder;
@@ -33,7 +33,6 @@ pub(crate) fn decode_code(
     requires states { length states.old ≡ length tables.old }
     requires some { 0 < length tables.old }
     requires few { length tables.old ≤ 6 }
-    requires least { 16 ≤ octets }
     requires most { octets < 2 ^ 20 }
     requires out { length out.old ≡ octets * length tables.old }
     ensures sound { IfOk result (λ used. (f : Shape) → f.channels ≡ length tables.old → f.octets ≡ octets
@@ -48,7 +47,10 @@ pub(crate) fn decode_code(
     };
     build_all(tables, states, params);
     decoder.decode(reserved_probability(params));
-    decode_all(&mut decoder, tables, states, out, octets);
+    match tables.len() {
+        1 => decode_samples(&mut decoder, tables, states, 1, out, octets),
+        channels => decode_samples(&mut decoder, tables, states, channels, out, octets),
+    }
     decoded_code();
     Ok(decoder.used())
 }

@@ -11,7 +11,6 @@ mod frame;
 mod reserved;
 mod samples;
 mod scratch;
-mod sound;
 mod state;
 mod tables;
 #[cfg(test)]

@@ -1,7 +1,8 @@
 // What changes of a channel from sample to sample.
-ghost use Rattle.std.specs.Prelude.{ℕ, ℤ, Bool, List, replicate};
-ghost use Rattle.byte_predictor.specs.Samples.{samples_of};
-ghost use Rattle.dst_frames.specs.Tables.{IsBuilt};
+ghost use Rattle.std.specs.Prelude.{ℕ, ◌+◌, ◌<◌, ℤ, Bool, true, false, List, ◌∷◌, replicate, IfSome};
+ghost use Rattle.dst_spec.specs.Header.{bit_of};
+ghost use Rattle.byte_predictor.specs.Samples.{samples_of, signed_sum};
+ghost use Rattle.dst_frames.specs.Tables.{IsBuilt, IsEntry};
 ghost use Rattle.dst_frames.specs.Ready.{IsReady};
 
 use crate::tables::ChannelTables;
@@ -27,5 +28,38 @@ impl ChannelState {
             next: tables.entries[upward as usize],
             ahead,
         }
+    }
+
+    /// The entry of the sample behind the next one, which may still be unknown.
+    #[inline(always)]
+    pub(crate) fn entry_behind(&self, tables: &ChannelTables, place: usize, sample: bool) -> u8
+        requires { place < 8 }
+        ensures { (filter : List ℤ) (probs samples : List ℕ) (half_prob : Bool) → IsBuilt filter probs half_prob tables.now
+            → IsReady filter probs place samples self.now → IsEntry (signed_sum filter (bit_of sample ∷ samples)) probs result }
+    {
+        let behind = self.ahead.upward_after(&tables.filter, place, sample);
+        tables.entries[behind as usize]
+    }
+
+    /// Both these entries, where the channel is alone: it needs the next one at once. Among others it doesn't, since their samples
+    /// come in between, and one look-up of the value that is known is enough.
+    #[inline(always)]
+    pub(crate) fn look_ahead(
+        &self,
+        tables: &ChannelTables,
+        place: usize,
+        alone: bool,
+    ) -> Option<(u8, u8)>
+        requires { place < 8 }
+        ensures { IfSome result (λ both. (filter : List ℤ) (probs samples : List ℕ) (half_prob : Bool) → IsBuilt filter probs half_prob tables.now
+            → IsReady filter probs place samples self.now
+            → IsEntry (signed_sum filter (bit_of false ∷ samples)) probs both.0 × IsEntry (signed_sum filter (bit_of true ∷ samples)) probs both.1) }
+    {
+        if !alone {
+            return None;
+        }
+        let next_0 = self.entry_behind(tables, place, false);
+        let next_1 = self.entry_behind(tables, place, true);
+        Some((next_0, next_1))
     }
 }

@@ -18,11 +18,13 @@ loop-c-preserved c =
     let lt_tables : i < length tables = omega arith in
     let lt_states : i < length states = omega arith in
     let begin = samples_of (replicate 16 170) in
-    let B : ℕ → Type 0 = λ j. (other : ChannelTables) → IsBuilt (filter_of P j) (probs_of P j) (get_or P.half_prob j false) (get_or (set tables i new_table) j other) in
+    let B : ℕ → Type 0 = λ j. (other : ChannelTables) → IsBuilt (filter_of P j) (probs_of P j) (get_or P.half_prob j false)
+    (get_or (set tables i new_table) j other) in
     let F : ℕ → Type 0 = λ j. (other : ChannelState) → IsReady (filter_of P j) (probs_of P j) 0 begin (get_or (set states i new_state) j other) in
     let b_below : (j : ℕ) → j < i → B j = λ j h other.
     let ne : j ≢ i = omega arith in
-    subst (IsBuilt (filter_of P j) (probs_of P j) (get_or P.half_prob j false)) (sym (get_or-set_other tables i j new_table other ne)) (c.loop-c.invariant.built j other h) in
+    subst (IsBuilt (filter_of P j) (probs_of P j) (get_or P.half_prob j false)) (sym (get_or-set_other tables i j new_table other ne))
+    (c.loop-c.invariant.built j other h) in
     let b_here : B i = λ other.
     subst (IsBuilt (filter_of P i) (probs_of P i) (get_or P.half_prob i false)) (sym (get_or-set_same tables i new_table other lt_tables)) c.build.ensures in
     let f_below : (j : ℕ) → j < i → F j = λ j h other.

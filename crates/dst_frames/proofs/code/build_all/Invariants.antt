@@ -9,6 +9,8 @@ use Rattle.dst_frames.proofs.code.build_all.Given as goal
 
 abbrev pub invariant-loop-c : goal.invariant-loop-c
 invariant-loop-c l = record {
-  built : (c : ℕ) (other : ChannelTables) → c < l.c → IsBuilt (filter_of l.params c) (probs_of l.params c) (get_or l.params.half_prob c false) (get_or l.tables c other);
-  fresh : (c : ℕ) (other : ChannelState) → c < l.c → IsReady (filter_of l.params c) (probs_of l.params c) 0 (samples_of (replicate 16 170)) (get_or l.states c other);
+  built : (c : ℕ) (other : ChannelTables) → c < l.c → IsBuilt (filter_of l.params c) (probs_of l.params c) (get_or l.params.half_prob c false)
+      (get_or l.tables c other);
+  fresh : (c : ℕ) (other : ChannelState) → c < l.c → IsReady (filter_of l.params c) (probs_of l.params c) 0 (samples_of (replicate 16 170))
+      (get_or l.states c other);
 }

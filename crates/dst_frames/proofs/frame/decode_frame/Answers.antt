@@ -21,7 +21,8 @@ returns-in-Ok-Plain-clause-sound c =
     let out = c.copy_from_slice.new.self in
     let plain = rw c.in-Ok-Plain.field-0-is at c.in-Ok-Plain.ensures.plain in
     let s = is_sound f out (c.copy_from_slice.ensures.len ∙ c.requires.out) c.type_inv.out in
-    plain_means f c.args.frame.now c.in-Ok-Plain.sound.now out (length c.args.frame.now - 1 - length c.in-Ok-Plain.sound.now) plain c.copy_from_slice.ensures.after s refl
+    plain_means f c.args.frame.now c.in-Ok-Plain.sound.now out
+    (length c.args.frame.now - 1 - length c.in-Ok-Plain.sound.now) plain c.copy_from_slice.ensures.after s refl
 
 -- what a coded frame decodes to
 result_means : (c : Joined-decode_code) → IfOk c.match-decode_code.result (MeansWithTail c.args.channels c.args.frame.now c.decode_code.new.out)
@@ -40,9 +41,11 @@ result_means c =
     elim c.match-decode_code.branch [
       | in-Err-decode_code w ↦ subst (λ r. IfOk r (MeansWithTail f frame out)) (sym w.result-is) tt
       | in-Ok w ↦
-          let code = subst (λ bs. IsCodeOfSound f P (bits bs) place out w.in-Ok.used) bytes (w.in-Ok.ensures.sound f channels c.multiple-octets.ensures.multiple) in
+          let code = subst (λ bs. IsCodeOfSound f P (bits bs) place out w.in-Ok.used) bytes
+          (w.in-Ok.ensures.sound f channels c.multiple-octets.ensures.multiple) in
           let first : get_or (bits frame) place 0 ≡ 0 = subst (λ bs. get_or (bits bs) place 0 ≡ 0) bytes w.in-Ok.ensures.first_bit in
-          subst (λ r. IfOk r (MeansWithTail f frame out)) (sym w.result-is) (coded_means f P frame out place w.in-Ok.used w.unread.result inside header first s code w.unread.ensures)
+          subst (λ r. IfOk r (MeansWithTail f frame out)) (sym w.result-is)
+          (coded_means f P frame out place w.in-Ok.used w.unread.result inside header first s code w.unread.ensures)
     ]
 
 result_offends : (c : Joined-decode_code) → IfErr c.match-decode_code.result (Offends c.args.channels c.args.frame.now)
@@ -67,7 +70,9 @@ pub returns-after-decode_code-clause-fault : goal.returns-after-decode_code-clau
 returns-after-decode_code-clause-fault c = result_offends c
 
 pub returns-after-decode_code-clause-whole : goal.returns-after-decode_code-clause-whole
-returns-after-decode_code-clause-whole c = no_fault_beside c.args.channels c.args.frame.now c.decode_code.new.out c.match-decode_code.result c.multiple-octets.ensures.shape (result_means c)
+returns-after-decode_code-clause-whole c = no_fault_beside c.args.channels c.args.frame.now c.decode_code.new.out c.match-decode_code.result
+    c.multiple-octets.ensures.shape (result_means c)
 
 pub returns-after-decode_code-clause-no_sound : goal.returns-after-decode_code-clause-no_sound
-returns-after-decode_code-clause-no_sound c = no_sound_beside c.args.channels c.args.frame.now c.match-decode_code.result c.multiple-octets.ensures.shape (result_offends c)
+returns-after-decode_code-clause-no_sound c = no_sound_beside c.args.channels c.args.frame.now c.match-decode_code.result c.multiple-octets.ensures.shape
+    (result_offends c)

@@ -9,4 +9,5 @@ returns c =
     let coef = c.first_coef.result in
     let fits : SFits w16 coef = search rules in
     let bits = ap (signed_bits 9) (sym (to_z-of_z w16 coef fits)) ∙ c.nine_bits.ensures.bits in
-    c.in-Some.ensures.value ∙ ap (λ n. n + 1) (c.from.ensures ∙ c.turned_round-low.ensures.value) ∙ first-turned c.args.params.now coef c.nine_bits.result (sym c.first_coef.ensures.value) bits
+    c.in-Some.ensures.value ∙ ap (λ n. n + 1) (c.from.ensures ∙ c.turned_round-low.ensures.value)
+    ∙ first-turned c.args.params.now coef c.nine_bits.result (sym c.first_coef.ensures.value) bits

@@ -9,10 +9,12 @@ pub returns-then-prediction-lt0 : goal.returns-then-prediction-lt0
 returns-then-prediction-lt0 c =
     let read_back = to_z-of_z w32 c.args.prediction c.ranges.prediction in
     let p = c.prob_of-low.ensures in
-    low_entry c.args.prediction c.args.probs.now c.prob_of-low.result (p.value ∙ ap (prob_at c.args.probs.now) read_back) p.least p.most (ap (λ z. is_negative z) (sym read_back) ∙ c.if-prediction-lt0.true)
+    low_entry c.args.prediction c.args.probs.now c.prob_of-low.result (p.value
+    ∙ ap (prob_at c.args.probs.now) read_back) p.least p.most (ap (λ z. is_negative z) (sym read_back) ∙ c.if-prediction-lt0.true)
 
 pub returns-else-prediction-lt0 : goal.returns-else-prediction-lt0
 returns-else-prediction-lt0 c =
     let read_back = to_z-of_z w32 c.args.prediction c.ranges.prediction in
     let p = c.prob_of-low.ensures in
-    high_entry c.args.prediction c.args.probs.now c.prob_of-low.result (p.value ∙ ap (prob_at c.args.probs.now) read_back) p.least p.most (ap (λ z. is_negative z) (sym read_back) ∙ c.if-prediction-lt0.false)
+    high_entry c.args.prediction c.args.probs.now c.prob_of-low.result (p.value
+    ∙ ap (prob_at c.args.probs.now) read_back) p.least p.most (ap (λ z. is_negative z) (sym read_back) ∙ c.if-prediction-lt0.false)

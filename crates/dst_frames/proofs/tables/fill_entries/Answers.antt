@@ -1,4 +1,5 @@
-use Rattle.std.proofs.Common.{◌≢◌, ◌*◌, ◌<◌, pos, ◌-ℤ◌, length, get_or, below_more, get_or-set_same, get_or-set_other, sym, subst, ◌∙◌, w32, SFits, rules, arith, length-set}
+use Rattle.std.proofs.Common.{◌≢◌, ◌*◌, ◌<◌, pos, ◌-ℤ◌, length, get_or, below_more, get_or-set_same, get_or-set_other, sym, subst, ◌∙◌, w32, SFits}
+use Rattle.std.proofs.Common.{rules, arith, length-set}
 use Rattle.std.proofs.lemmas.Int.{to_z-of_z}
 use Rattle.byte_predictor.specs.Upward.{upward_sum, size_sum}
 use Rattle.dst_frames.specs.Tables.{IsEntry}
@@ -12,7 +13,8 @@ loop-upward-preserved c =
     let lt : u < length c.loop-upward.entries = omega (arith, c.loop-upward.invariant.long) in
     let fits : SFits w32 c.prediction.result = search rules in
     let here : IsEntry (pos (2 * u) -ℤ pos size) c.args.probs.now c.entry_of-entry.result =
-    subst (λ z. IsEntry z c.args.probs.now c.entry_of-entry.result) (to_z-of_z w32 c.prediction.result fits ∙ c.prediction.ensures.less) c.entry_of-entry.ensures in
+    subst (λ z. IsEntry z c.args.probs.now c.entry_of-entry.result) (to_z-of_z w32 c.prediction.result fits
+    ∙ c.prediction.ensures.less) c.entry_of-entry.ensures in
     record {
       long = simp length-set c.loop-upward.invariant.long;
       below = below_more _ _

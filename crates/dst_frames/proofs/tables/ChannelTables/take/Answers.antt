@@ -9,7 +9,8 @@ pub returns : goal.returns
 returns c =
     let filter = c.args.filter.now in
     let probs = c.args.probs.now in
-    let P : List ℤ → List ℕ → Type 0 = λ coefs table. (samples : List ℕ) → 128 ≤ length samples → IsEntry (signed_sum coefs samples) table (get_or c.fill_entries.new.entries (upward_sum coefs samples) 0) in
+    let P : List ℤ → List ℕ → Type 0 = λ coefs table. (samples : List ℕ) → 128 ≤ length samples →
+    IsEntry (signed_sum coefs samples) table (get_or c.fill_entries.new.entries (upward_sum coefs samples) 0) in
     let coefs_are = c.coefs-length.ensures.coefs in
     let early : c.if-half_prob.self ≡ (if c.args.half_prob then length filter else 0) =
     elim c.if-half_prob.branch [
