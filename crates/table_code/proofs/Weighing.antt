@@ -9,7 +9,7 @@ use mathlib.Core.List.{reverse-cons}
 use Rattle.std.specs.Int.{int_div_euclid}
 use Rattle.std.specs.List.{AllByRecursion, sum_by}
 use Rattle.dst_spec.specs.Table.{Kind, InRange, weighted}
-use Rattle.dst_spec.proofs.Lists.{all_append, get_all}
+use Rattle.dst_spec.proofs.Lists.{all_append, get_all, all_drop}
 use Rattle.table_code.specs.Kinds.{IsSmall, HasWeights}
 
 -- sizes of signed numbers
@@ -40,11 +40,6 @@ small_values K (v ∷ vs) s h = (small_value K v s h.0, small_values K vs s h.1)
 all_reverse : {A : Type 0} (P : A → Type 0) (xs : List A) → AllByRecursion P xs → AllByRecursion P (reverse xs)
 all_reverse P [] h = tt
 all_reverse P (x ∷ xs) h = subst (AllByRecursion P) (sym (reverse-cons x xs)) (all_append P (reverse xs) (x ∷ []) (all_reverse P xs h.1) (h.0, tt))
-
-all_drop : {A : Type 0} (P : A → Type 0) (n : ℕ) (xs : List A) → AllByRecursion P xs → AllByRecursion P (drop n xs)
-all_drop P zero xs h = h
-all_drop P (suc n) [] h = tt
-all_drop P (suc n) (x ∷ xs) h = all_drop P n xs h.1
 
 -- a weighted sum is at most 256 times the sizes of its weights
 weighted_most : (ws vs : List ℤ) → AllByRecursion IsByte vs → nat_abs (weighted ws vs) ≤ sum_by nat_abs ws * 256

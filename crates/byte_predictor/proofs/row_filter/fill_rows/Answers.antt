@@ -7,41 +7,32 @@ use Rattle.byte_predictor.proofs.Sums.{half-below}
 use Rattle.byte_predictor.proofs.Lanes.{raised-lane, rows-more}
 use Rattle.byte_predictor.proofs.row_filter.fill_rows.Goals as goal
 
-pub raise_row-requires-clause-least : goal.raise_row-requires-clause-least
-raise_row-requires-clause-least c = λ lane h.
+-- what one coefficient more makes of the sum of a byte, in a lane
+raised : (c : goal.After-low-in-loop-byte-1) (lane : ℕ) → lane < 128 →
+    let upward = upward_sum (drop lane c.args.later.now) (rising_bits 8 (c.loop-i.half + c.loop-byte.byte)) in
+    (pos (get_or (get_or c.loop-byte.rows c.loop-byte.byte []) lane 0) +ℤ get_or c.args.later.now (lane + c.loop-i.i) (pos 0) ≡ pos upward) × (upward ≤ 2048)
+raised c lane h =
     let low = get_or (get_or c.loop-byte.rows c.loop-byte.byte []) lane 0 in
     let here : low ≡ upward_sum (drop lane c.args.later.now) (rising_bits 8 c.loop-byte.byte) = c.loop-byte.invariant.0 c.loop-byte.byte lane (omega arith) h in
-    let step = raised-lane c.args.later.now lane c.loop-i.i c.loop-i.half c.loop-byte.byte low c.requires (omega arith) c.loop-i.invariant.0
-    (omega arith) here in
-    let sum : pos low +ℤ get_or c.args.later.now (lane + c.loop-i.i) (pos 0) ≡ pos
-    (upward_sum (drop lane c.args.later.now) (rising_bits 8 (c.loop-i.half + c.loop-byte.byte))) = step.0 in
-    let most : upward_sum (drop lane c.args.later.now) (rising_bits 8 (c.loop-i.half + c.loop-byte.byte)) ≤ 2048 = step.1 in
-    omega (arith, ints)
+    raised-lane c.args.later.now lane c.loop-i.i c.loop-i.half c.loop-byte.byte low c.requires (omega arith) c.loop-i.invariant.0 (omega arith) here
+
+pub raise_row-requires-clause-least : goal.raise_row-requires-clause-least
+raise_row-requires-clause-least c = λ lane h.
+    let r = raised c lane h in
+    omega (arith, ints, r.0, r.1)
 
 pub raise_row-requires-clause-most : goal.raise_row-requires-clause-most
 raise_row-requires-clause-most c = λ lane h.
-    let low = get_or (get_or c.loop-byte.rows c.loop-byte.byte []) lane 0 in
-    let here : low ≡ upward_sum (drop lane c.args.later.now) (rising_bits 8 c.loop-byte.byte) = c.loop-byte.invariant.0 c.loop-byte.byte lane (omega arith) h in
-    let step = raised-lane c.args.later.now lane c.loop-i.i c.loop-i.half c.loop-byte.byte low c.requires (omega arith) c.loop-i.invariant.0
-    (omega arith) here in
-    let sum : pos low +ℤ get_or c.args.later.now (lane + c.loop-i.i) (pos 0) ≡ pos
-    (upward_sum (drop lane c.args.later.now) (rising_bits 8 (c.loop-i.half + c.loop-byte.byte))) = step.0 in
-    let most : upward_sum (drop lane c.args.later.now) (rising_bits 8 (c.loop-i.half + c.loop-byte.byte)) ≤ 2048 = step.1 in
-    omega (arith, ints)
+    let r = raised c lane h in
+    omega (arith, ints, r.0, r.1)
 
 pub loop-byte-preserved : goal.loop-byte-preserved
 loop-byte-preserved c =
     let place = c.loop-i.half + c.loop-byte.byte in
     let stored_is : (lane : ℕ) → lane < 128 → get_or c.raise_row.new.high lane 0 ≡ upward_sum (drop lane c.args.later.now)
     (rising_bits 8 (c.loop-i.half + c.loop-byte.byte)) = λ lane h.
-    let low = get_or (get_or c.loop-byte.rows c.loop-byte.byte []) lane 0 in
-    let here : low ≡ upward_sum (drop lane c.args.later.now) (rising_bits 8 c.loop-byte.byte) = c.loop-byte.invariant.0 c.loop-byte.byte lane (omega arith) h in
-    let step = raised-lane c.args.later.now lane c.loop-i.i c.loop-i.half c.loop-byte.byte low c.requires (omega arith) c.loop-i.invariant.0
-    (omega arith) here in
-    let sum : pos low +ℤ get_or c.args.later.now (lane + c.loop-i.i) (pos 0) ≡ pos
-    (upward_sum (drop lane c.args.later.now) (rising_bits 8 (c.loop-i.half + c.loop-byte.byte))) = step.0 in
-    let most : upward_sum (drop lane c.args.later.now) (rising_bits 8 (c.loop-i.half + c.loop-byte.byte)) ≤ 2048 = step.1 in
-    omega (arith, ints, c.raise_row.ensures lane h) in
+    let r = raised c.before lane h in
+    omega (arith, ints, r.0, r.1, c.raise_row.ensures lane h) in
     let eighth : 2 * 2 ^ c.loop-i.i ≤ 256 = half-below c.loop-i.i (omega arith) in
     let power : c.loop-i.half ≡ 2 ^ c.loop-i.i = c.loop-i.invariant.0 in
     let inside : place < length c.loop-byte.rows = omega arith in (

@@ -34,8 +34,9 @@ returns-in_err-half_prob-clause-fault c =
     handed_on c.from_residual-in_err-half_prob.result fault (IsAtFault (header_fields c.args.channels) a) c.from_residual-in_err-half_prob.ensures.1
     (half_fails c.args.channels a b d (m.filter_map, m.prob_map) fault c.in_ok-read_both_segments.ensures.read m.ensures.read c.in_err-half_prob.ensures.fault)
 
-pub read_tables-requires : goal.read_tables-requires
-read_tables-requires c =
+-- the bits behind the half bits are no more than there were
+few_left : (c : goal.After-count) → length (left c.read_half_bits.new.reader) ≤ 2000000
+few_left c =
     let a = c.args.reader.now in
     let b = c.read_both_segments.new.reader in
     let d = c.read_both_maps.new.reader in
@@ -44,14 +45,14 @@ read_tables-requires c =
     let s = c.in_ok-read_both_segments.ensures.read in
     let first = shorter (both_segments c.args.channels) (left a) a.place (s.0, left b, b.place) s.1 in
     let second = shorter (both_maps c.args.channels) (left b) b.place ((m.filter_map, m.prob_map), left d, d.place) m.ensures.read in
-    let third = shorter (times c.args.channels (number 1)) (left d) d.place (
-      map bit_of c.in_ok-half_prob.half_prob.items,
-      left e,
-      e.place,
-    ) c.in_ok-half_prob.ensures.read in
-    let few : length (left e) ≤ 2000000 = omega (arith, first, second, third, c.requires.few) in
+    let bits = map bit_of c.in_ok-half_prob.half_prob.items in
+    let third = shorter (times c.args.channels (number 1)) (left d) d.place (bits, left e, e.place) c.in_ok-half_prob.ensures.read in
+    omega (arith, first, second, third, c.requires.few)
+
+pub read_tables-requires : goal.read_tables-requires
+read_tables-requires c =
     let count : c.count.result ≤ 6 = omega (arith, c.count.ensures.most, c.count.ensures.map.1) in
-    (lit< tt, (count, few))
+    (lit< tt, (count, few_left c))
 
 pub returns-in_err-filters-clause-fault : goal.returns-in_err-filters-clause-fault
 returns-in_err-filters-clause-fault c =
@@ -66,28 +67,17 @@ returns-in_err-filters-clause-fault c =
     (filters_fail c.args.channels a b d e (m.filter_map, m.prob_map)
     (map bit_of c.in_ok-half_prob.half_prob.items) fault c.in_ok-read_both_segments.ensures.read m.ensures.read c.in_ok-half_prob.ensures.read failed)
 
+-- the point in front of the filters, seen from that in front of the probabilities
+abbrev at_count : goal.After-count-2 → goal.After-count
+at_count c = c.before.before.before.before.before.before
+
 pub read_tables-requires-2 : goal.read_tables-requires-2
 read_tables-requires-2 c =
-    let a = c.args.reader.now in
-    let b = c.read_both_segments.new.reader in
-    let d = c.read_both_maps.new.reader in
     let e = c.read_half_bits.new.reader in
     let f = c.read_tables.new.reader in
-    let m = c.in_ok-filter_map in
-    let s = c.in_ok-read_both_segments.ensures.read in
-    let first = shorter (both_segments c.args.channels) (left a) a.place (s.0, left b, b.place) s.1 in
-    let second = shorter (both_maps c.args.channels) (left b) b.place ((m.filter_map, m.prob_map), left d, d.place) m.ensures.read in
-    let third = shorter (times c.args.channels (number 1)) (left d) d.place (
-      map bit_of c.in_ok-half_prob.half_prob.items,
-      left e,
-      e.place,
-    ) c.in_ok-half_prob.ensures.read in
-    let fourth = shorter (times c.count.result (table_fields filter_kind)) (left e) e.place (
-      map (λ t. t) c.in_ok-filters.filters.items,
-      left f,
-      f.place,
-    ) c.in_ok-filters.ensures.read in
-    let few : length (left f) ≤ 2000000 = omega (arith, first, second, third, fourth, c.requires.few) in
+    let filters = map (λ t. t) c.in_ok-filters.filters.items in
+    let fourth = shorter (times c.count.result (table_fields filter_kind)) (left e) e.place (filters, left f, f.place) c.in_ok-filters.ensures.read in
+    let few : length (left f) ≤ 2000000 = omega (arith, fourth, few_left (at_count c)) in
     let count : c.count-2.result ≤ 6 = omega (arith, c.count-2.ensures.most, c.count-2.ensures.map.1) in
     (lit< tt, (count, few))
 

@@ -1,7 +1,7 @@
 use Rattle.std.proofs.Common.{◌≡◌, ◌+◌, refl, ap, sym, ◌∙◌, arith, inl, inr}
 use Rattle.dst_spec.specs.Bits.{bits, number_from}
 use Rattle.dst_spec.proofs.Numbers.{AreBits-bits}
-use Rattle.arith_decoder.proofs.Begun.{begun, first_value, first_gap}
+use Rattle.arith_decoder.proofs.Begun.{IsBegun, begun, first_value, first_gap}
 use Rattle.arith_decoder.proofs.Faults.{one_bit, first_is_zero, first_fault, range_fault}
 use Rattle.arith_decoder.proofs.decoder.ArithDecoder.new.Goals as goal
 
@@ -46,8 +46,9 @@ returns-clause-first_bit c =
     let number = rw (c.over-reader.ensures.bytes, c.over-reader.ensures.place) at c.read_or_zero.ensures.number in
     first_is_zero (bits c.args.code.bytes.now) c.args.code.first c.read_or_zero.result (AreBits-bits c.args.code.bytes.now) number c.if-read_or_zero-eq1.false
 
-pub overflow_sub-result : goal.overflow_sub-result
-overflow_sub-result c =
+-- the registers at the beginning, in front of the struct
+begun_at : (c : goal.After-result-1) → IsBegun c.args.code.bytes.now c.args.code.first (first_value c.from-offset.result c.from-next.result)
+begun_at c =
     let code = c.args.code in
     let offset = c.from-offset.ensures ∙ rw (
       c.read_or_zero.ensures.bytes,
@@ -64,72 +65,23 @@ overflow_sub-result c =
       c.over-reader.ensures.place,
     ) at c.read_or_zero-3.ensures.number in
     let place : code.first + 1 + 12 ≡ code.first + 13 = omega arith in
-    let b = begun code.bytes.now code.first c.from-offset.result c.from-next.result c.requires.short c.requires.early offset c.if-offset-eq4095.false (next
-    ∙ ap (λ k. number_from (bits code.bytes.now) k 32) place) in
-    b.below
+    begun code.bytes.now code.first c.from-offset.result c.from-next.result c.requires.short c.requires.early offset c.if-offset-eq4095.false
+    (next ∙ ap (λ k. number_from (bits code.bytes.now) k 32) place)
+
+pub overflow_sub-result : goal.overflow_sub-result
+overflow_sub-result c = (begun_at c).below
 
 pub invariant_of-result : goal.invariant_of-result
 invariant_of-result c =
-    let code = c.args.code in
-    let offset = c.from-offset.ensures ∙ rw (
-      c.read_or_zero.ensures.bytes,
-      c.read_or_zero.ensures.place,
-      c.over-reader.ensures.bytes,
-      c.over-reader.ensures.place,
-    ) at c.read_or_zero-2.ensures.number in
-    let next = c.from-next.ensures ∙ rw (
-      c.read_or_zero-2.ensures.bytes,
-      c.read_or_zero-2.ensures.place,
-      c.read_or_zero.ensures.bytes,
-      c.read_or_zero.ensures.place,
-      c.over-reader.ensures.bytes,
-      c.over-reader.ensures.place,
-    ) at c.read_or_zero-3.ensures.number in
-    let place : code.first + 1 + 12 ≡ code.first + 13 = omega arith in
-    let b = begun code.bytes.now code.first c.from-offset.result c.from-next.result c.requires.short c.requires.early offset c.if-offset-eq4095.false (next
-    ∙ ap (λ k. number_from (bits code.bytes.now) k 32) place) in
+    let b = begun_at c in
     record { registers = rw (first_gap (first_value c.from-offset.result c.from-next.result) b.below) b.registers; within = omega arith }
 
 pub returns-clause-used : goal.returns-clause-used
 returns-clause-used c =
-    let code = c.args.code in
-    let offset = c.from-offset.ensures ∙ rw (
-      c.read_or_zero.ensures.bytes,
-      c.read_or_zero.ensures.place,
-      c.over-reader.ensures.bytes,
-      c.over-reader.ensures.place,
-    ) at c.read_or_zero-2.ensures.number in
-    let next = c.from-next.ensures ∙ rw (
-      c.read_or_zero-2.ensures.bytes,
-      c.read_or_zero-2.ensures.place,
-      c.read_or_zero.ensures.bytes,
-      c.read_or_zero.ensures.place,
-      c.over-reader.ensures.bytes,
-      c.over-reader.ensures.place,
-    ) at c.read_or_zero-3.ensures.number in
-    let place : code.first + 1 + 12 ≡ code.first + 13 = omega arith in
-    let b = begun code.bytes.now code.first c.from-offset.result c.from-next.result c.requires.short c.requires.early offset c.if-offset-eq4095.false (next
-    ∙ ap (λ k. number_from (bits code.bytes.now) k 32) place) in
+    let b = begun_at c in
     rw (first_gap (first_value c.from-offset.result c.from-next.result) b.below) b.used_is
 
 pub returns-clause-stands : goal.returns-clause-stands
 returns-clause-stands c =
-    let code = c.args.code in
-    let offset = c.from-offset.ensures ∙ rw (
-      c.read_or_zero.ensures.bytes,
-      c.read_or_zero.ensures.place,
-      c.over-reader.ensures.bytes,
-      c.over-reader.ensures.place,
-    ) at c.read_or_zero-2.ensures.number in
-    let next = c.from-next.ensures ∙ rw (
-      c.read_or_zero-2.ensures.bytes,
-      c.read_or_zero-2.ensures.place,
-      c.read_or_zero.ensures.bytes,
-      c.read_or_zero.ensures.place,
-      c.over-reader.ensures.bytes,
-      c.over-reader.ensures.place,
-    ) at c.read_or_zero-3.ensures.number in
-    let place : code.first + 1 + 12 ≡ code.first + 13 = omega arith in
-    let b = begun code.bytes.now code.first c.from-offset.result c.from-next.result c.requires.short c.requires.early offset c.if-offset-eq4095.false (next
-    ∙ ap (λ k. number_from (bits code.bytes.now) k 32) place) in
+    let b = begun_at c in
     rw (first_gap (first_value c.from-offset.result c.from-next.result) b.below) b.stands
