@@ -6,6 +6,7 @@ use borrow.Rule.Slice.PartMut.{put_mid, post_of}
 use Rattle.dst_spec.specs.Sample.{Shape, sample}
 use Rattle.dst_spec.specs.Header.{Params}
 use Rattle.dst_spec.specs.Guess.{filter_of, probs_of}
+use Rattle.dst_spec.proofs.SymbolsBefore.{byte_sample}
 use Rattle.arith_decoder.specs.Decoding.{Decoding}
 use Rattle.dst_frames.specs.Ready.{IsReady}
 use Rattle.dst_frames.specs.declared.state.ChannelState.{ChannelState}
@@ -31,13 +32,6 @@ pub same_earlier : (f : Shape) (a b : List ℕ) (m c : ℕ) → c < f.channels �
 same_earlier f a b m c h same = same_up_to f a b m c h same (8 * m) (omega arith)
 
 -- a byte's samples, the newest first, and behind them what came before
-byte_sample : (f : Shape) (sound : List ℕ) (m c i j byte : ℕ) → i + j ≡ 7 → get_or sound (m * f.channels + c) 0 ≡ byte →
-    sample f sound c (pos (8 * m + i)) ≡ byte / 2 ^ j % 2
-byte_sample f sound m c i j byte whole at =
-    let down : (8 * m + i) / 8 ≡ m = omega arith in
-    let left : 7 - (8 * m + i) % 8 ≡ j = omega arith in
-    ap (λ q. get_or sound (q * f.channels + c) 0 / 2 ^ (7 - (8 * m + i) % 8) % 2) down ∙ ap₂ (λ x n. x / 2 ^ n % 2) at left
-
 pub byte_samples : (f : Shape) (sound samples : List ℕ) (m c byte : ℕ) → get_or sound (m * f.channels + c) 0 ≡ byte → 8 ≤ length samples →
     ((k : ℕ) → k < 8 → byte / 2 ^ k % 2 ≡ get_or samples k 0) → earlier f sound c (8 * m) ≡ drop 8 samples → (i j : ℕ) → i + j ≡ 8 →
     earlier f sound c (8 * m + i) ≡ drop j samples

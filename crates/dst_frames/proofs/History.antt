@@ -1,18 +1,13 @@
--- The samples of a channel before a sample, and the symbols before it.
-use Rattle.std.proofs.Common.{◌≡◌, ℕ, zero, suc, ◌+◌, ◌≤◌, ◌==◌, ◌&&◌, nat_lt, ℤ, pos, Bool, true, false, not, if◌then◌else◌, List, [], ◌∷◌, ◌++◌}
-use Rattle.std.proofs.Common.{length, flat_map, replicate, get_or, refl, ap, ap₂, sym, subst, ◌∙◌, arith, add-one}
-use Rattle.std.proofs.lemmas.List.{append-nil}
-use Rattle.std.proofs.lemmas.Grind.{flat_map-append}
-use Rattle.std.proofs.lemmas.List.FromFn.{map-range_with_len_more}
-use Rattle.std.specs.List.{range_with_len}
+-- The samples of a channel before a sample, and its symbol.
+use Rattle.std.proofs.Common.{◌≡◌, ℕ, zero, suc, ◌+◌, ◌≤◌, ◌==◌, ◌&&◌, nat_lt, ℤ, pos, Bool, true, false, not, if◌then◌else◌, List, ◌∷◌}
+use Rattle.std.proofs.Common.{length, replicate, get_or, refl, ap, ap₂, sym, subst, ◌∙◌, add-one}
 use Rattle.std.specs.Int.{is_negative}
 use Rattle.dst_spec.specs.Sample.{Shape, sample}
 use Rattle.dst_spec.specs.Header.{Params, bit_of}
 use Rattle.dst_spec.specs.Guess.{sum_before, filter_of, probs_of, prediction, probability, as_guessed}
-use Rattle.dst_spec.specs.Symbols.{reserved_probability}
 use Rattle.byte_predictor.specs.Samples.{IsBefore, samples_of, signed_sum}
 use Rattle.dst_frames.specs.Tables.{prob_at, symbol_after}
-use Rattle.dst_frames.specs.Underway.{earlier, symbols_at, symbols_before}
+use Rattle.dst_frames.specs.Underway.{earlier}
 
 -- what is known of samples before a place and of predictions
 pub record Predicts : Type 0 where
@@ -47,28 +42,3 @@ pair_is law f P sound c t early s samples before bit given short =
     ap (signed_sum (filter_of P c)) (sym before) ∙ law.predicts f sound c t (earlier f sound c t) (filter_of P c) short (earlier_before law f sound c t) in
     let one : s ≡ (sample f sound c (pos t) == 1) = sym (bit_back s) ∙ ap (λ b. b == 1) (sym bit) in
     ap₂ (λ x y. (x, y)) (ap₂ (λ n o. if is_negative n then not o else o) z one) (ap₂ (λ b n. if b then 128 else prob_at (probs_of P c) n) given z)
-
--- one more channel
-pub symbols_at-more : (f : Shape) (P : Params) (sound : List ℕ) (t n : ℕ) →
-    symbols_at f P sound t (n + 1) ≡ symbols_at f P sound t n ++ (as_guessed f P sound n t, probability f P sound n t) ∷ []
-symbols_at-more f P sound t n = map-range_with_len_more (λ c. (as_guessed f P sound c t, probability f P sound c t)) 0 n n (omega arith)
-
--- one more place
-range-more : (a n : ℕ) → range_with_len a (n + 1) ≡ range_with_len a n ++ (a + n) ∷ []
-range-more a zero =
-    let e : a + zero ≡ a = omega arith in
-    rw e refl
-range-more a (suc n) =
-    let next : suc n + 1 ≡ suc (n + 1) = omega arith in
-    let e : a + 1 + n ≡ a + suc n = omega arith in
-    ap (range_with_len a) next ∙ ap (λ xs. a ∷ xs) (range-more (a + 1) n ∙ ap (λ k. range_with_len (a + 1) n ++ k ∷ []) e)
-
-pub symbols_before-more : (f : Shape) (P : Params) (sound : List ℕ) (reserved : Bool) (t : ℕ) →
-    symbols_before f P sound reserved (t + 1) ≡ symbols_before f P sound reserved t ++ symbols_at f P sound t f.channels
-unfolding symbols_before
-symbols_before-more f P sound reserved t =
-    let g = λ (u : ℕ). symbols_at f P sound u f.channels in
-    let here : 0 + t ≡ t = omega arith in
-    ap (λ xs. (reserved, reserved_probability P) ∷ xs)
-    (ap (flat_map g) (range-more 0 t) ∙ flat_map-append g (range_with_len 0 t) ((0 + t) ∷ [])
-    ∙ ap (λ xs. flat_map g (range_with_len 0 t) ++ xs) (append-nil (g (0 + t)) ∙ ap g here))

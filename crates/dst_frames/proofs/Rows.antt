@@ -6,12 +6,14 @@ use Rattle.std.proofs.Math.Seq.{get_or-append_seam}
 use Rattle.dst_spec.specs.Sample.{Shape, sample}
 use Rattle.dst_spec.specs.Header.{Params, bit_of}
 use Rattle.dst_spec.specs.Guess.{filter_of, probs_of, probability, as_guessed}
+use Rattle.dst_spec.specs.Symbols.{symbols_at, symbols_before}
+use Rattle.dst_spec.proofs.SymbolsBefore.{symbols_at-more, symbols_before-more}
 use Rattle.arith_decoder.specs.Decoding.{Decoding, StandsFor}
 use Rattle.dst_frames.specs.Tables.{symbol_after}
 use Rattle.dst_frames.specs.Ready.{IsReady}
 use Rattle.dst_frames.specs.declared.state.ChannelState.{ChannelState}
-use Rattle.dst_frames.specs.Underway.{earlier, symbols_at, symbols_before, IsUnderway}
-use Rattle.dst_frames.proofs.History.{Predicts, earlier-suc, pair_is, symbols_at-more, symbols_before-more}
+use Rattle.dst_frames.specs.Underway.{earlier, IsUnderway}
+use Rattle.dst_frames.proofs.History.{Predicts, earlier-suc, pair_is}
 
 -- the next samples of the first channels are taken, those of the others not
 pub record IsRow (f : Shape) (P : Params) (reserved : Bool) (t place : ℕ) (samples : ℕ →

@@ -3,24 +3,17 @@ use Rattle.std.proofs.Common.{◌≡◌, ℕ, ◌*◌, ◌<◌, Bool, List, [], 
 use Rattle.dst_spec.specs.Sample.{Shape}
 use Rattle.dst_spec.specs.Header.{Params}
 use Rattle.dst_spec.specs.Guess.{filter_of, probs_of}
-use Rattle.dst_spec.specs.Symbols.{reserved_probability, symbols}
+use Rattle.dst_spec.specs.Symbols.{reserved_probability, symbols_before, symbols}
+use Rattle.dst_spec.proofs.SymbolsBefore.{no_symbols, all_symbols}
 use Rattle.byte_predictor.specs.Samples.{samples_of}
 use Rattle.arith_decoder.specs.Decoding.{Decoding, StandsFor}
 use Rattle.dst_frames.specs.Ready.{IsReady}
 use Rattle.dst_frames.specs.declared.state.ChannelState.{ChannelState}
-use Rattle.dst_frames.specs.Underway.{earlier, symbols_before, IsDecodedTo}
-
-no_symbols : (f : Shape) (P : Params) (sound : List ℕ) (reserved : Bool) → symbols_before f P sound reserved 0 ≡ (reserved, reserved_probability P) ∷ []
-unfolding symbols_before
-no_symbols f P sound reserved = refl
+use Rattle.dst_frames.specs.Underway.{earlier, IsDecodedTo}
 
 no_samples : (f : Shape) (sound : List ℕ) (c : ℕ) → earlier f sound c 0 ≡ samples_of (replicate 16 170)
 unfolding earlier
 no_samples f sound c = refl
-
-all_symbols : (f : Shape) (P : Params) (sound : List ℕ) (reserved : Bool) → symbols_before f P sound reserved (8 * f.octets) ≡ symbols f P sound reserved
-unfolding symbols_before symbols
-all_symbols f P sound reserved = refl
 
 pub frame_begins : (f : Shape) (P : Params) (reserved : Bool) (p : ℕ) (out : List ℕ) (decoder : Decoding) (states : List ChannelState) →
     p ≡ reserved_probability P → StandsFor decoder ((reserved, p) ∷ []) →

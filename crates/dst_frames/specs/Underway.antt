@@ -1,10 +1,9 @@
 -- A frame whose code is being decoded, and what one sample, one byte and all bytes of each channel add to it.
-use Rattle.std.specs.Prelude.{◌≡◌, ℕ, zero, suc, ◌+◌, ◌*◌, ◌<◌, ◌≤◌, ℤ, pos, Bool, List, [], ◌∷◌, ◌++◌, length, map, flat_map, replicate, get_or}
-use Rattle.std.specs.List.{range_with_len}
+use Rattle.std.specs.Prelude.{◌≡◌, ℕ, zero, suc, ◌+◌, ◌*◌, ◌<◌, ◌≤◌, ℤ, pos, Bool, List, [], ◌∷◌, ◌++◌, length, replicate, get_or}
 use Rattle.dst_spec.specs.Sample.{Shape, sample}
 use Rattle.dst_spec.specs.Header.{Params, bit_of}
-use Rattle.dst_spec.specs.Guess.{filter_of, probs_of, probability, as_guessed}
-use Rattle.dst_spec.specs.Symbols.{reserved_probability}
+use Rattle.dst_spec.specs.Guess.{filter_of, probs_of}
+use Rattle.dst_spec.specs.Symbols.{symbols_before}
 use Rattle.byte_predictor.specs.Samples.{samples_of}
 use Rattle.arith_decoder.specs.Decoding.{Decoding, StandsFor}
 use Rattle.dst_frames.specs.Tables.{IsBuilt, AreBuilt, symbol_after}
@@ -16,15 +15,6 @@ use Rattle.dst_frames.specs.declared.state.ChannelState.{ChannelState}
 unfoldable pub earlier : Shape → List ℕ → ℕ → ℕ → List ℕ
 earlier f sound c zero = samples_of (replicate 16 170)
 earlier f sound c (suc t) = sample f sound c (pos t) ∷ earlier f sound c t
-
--- the symbols of the samples t of the first n channels
-abbrev pub symbols_at : Shape → Params → List ℕ → ℕ → ℕ → List (Bool × ℕ)
-symbols_at f P sound t n = map (λ c. (as_guessed f P sound c t, probability f P sound c t)) (range_with_len 0 n)
-
--- the symbols of a frame before the samples t
-unfoldable pub symbols_before : Shape → Params → List ℕ → Bool → ℕ → List (Bool × ℕ)
-symbols_before f P sound reserved t =
-    (reserved, reserved_probability P) ∷ flat_map (λ u. symbols_at f P sound u f.channels) (range_with_len 0 t)
 
 -- These are the samples of each channel before sample t: each channel has come so far, and the decoder stands for the symbols
 -- of every sound that has them.

@@ -36,6 +36,8 @@ pub mod Probabilities
 pub mod SpelledHeader
 pub mod SpelledBits
 pub mod Spelling
+pub mod CodeLengths
+pub mod SymbolsBefore
 pub mod Meaning
 pub mod Causal
 pub mod Decoding

@@ -1,14 +1,15 @@
 -- The laws of frames, as statements.
-use Rattle.std.specs.Prelude.{◌≡◌, ◌≢◌, ◌⊎◌, ℕ, ◌+◌, ◌≤◌, Bool, List, ◌∷◌, ◌++◌, length, Ok}
+use Rattle.std.specs.Prelude.{◌≡◌, ◌≢◌, ◌⊎◌, ℕ, ◌+◌, ◌/◌, ◌≤◌, Bool, false, List, ◌∷◌, ◌++◌, length, Ok}
 use Rattle.std.specs.List.{AllByRecursion, zip}
 use Rattle.dst_spec.specs.Bits.{AreBits, AreBytes, number_from}
 use Rattle.dst_spec.specs.Sample.{Shape, IsShape, IsSound, sound_bytes}
 use Rattle.dst_spec.specs.Header.{Params, IsParams, HasHeader}
-use Rattle.dst_spec.specs.Interval.{IsCodeOf}
+use Rattle.dst_spec.specs.Symbols.{symbols}
+use Rattle.dst_spec.specs.Interval.{Interval, interval_from, interval, IsCodeOf}
 use Rattle.dst_spec.specs.Means.{Means, MeansWithTail}
 use Rattle.dst_spec.specs.Fields.{read}
 use Rattle.dst_spec.specs.Offends.{header_fields, Offends}
-use Rattle.dst_spec.specs.Spell.{spell, stored}
+use Rattle.dst_spec.specs.Spell.{header_spelling, code_spelling, spell, stored}
 use Rattle.dst_spec.specs.declared.faults.FrameFault.{FrameFault}
 
 -- no header begins another one's bits, and one list of bits has one Params
@@ -67,3 +68,16 @@ abbrev pub StoringLaw : Type 0
 StoringLaw =
     (f : Shape) (list : List Params) (sound : List ℕ) → IsShape f → AllByRecursion (IsParams f.channels) list → IsSound f sound →
     Means f (stored f sound list) sound × (length (stored f sound list) ≤ 1 + sound_bytes f)
+
+-- intervals that may lie elsewhere, but have one range and as many doublings
+abbrev pub AreAlike : Interval → Interval → Type 0
+AreAlike i j = (i.range ≡ j.range) × (i.doublings ≡ j.doublings)
+
+-- How long a code is: the same symbols leave intervals alike, wherever they lie; no symbol takes a doubling back; a code of n
+-- doublings has 13 + n bits; and a spelling has the bits of its header and its code, in whole bytes.
+pub record CodeLengthLaw : Type 0 where
+  pub alike : (i j : Interval) (pairs : List (Bool × ℕ)) → AreAlike i j → AreAlike (interval_from i pairs) (interval_from j pairs)
+  pub more : (i : Interval) (pairs : List (Bool × ℕ)) → i.doublings ≤ (interval_from i pairs).doublings
+  pub code : (pairs : List (Bool × ℕ)) → length (code_spelling pairs) ≡ 13 + (interval pairs).doublings
+  pub spelling : (f : Shape) (P : Params) (sound : List ℕ)
+      → length (spell f P sound) ≡ (length (header_spelling P) + (13 + (interval (symbols f P sound false)).doublings) + 7) / 8

@@ -10,6 +10,15 @@ use Rattle.dst_spec.specs.Guess.{probability, as_guessed}
 unfoldable pub reserved_probability : Params → ℕ
 reserved_probability P = 1 + number_from (reverse (signed_bits 9 (get_or (get_or P.filters 0 []) 0 (pos 0)))) 0 7
 
+-- the symbols of the samples t of the first n channels
+abbrev pub symbols_at : Shape → Params → List ℕ → ℕ → ℕ → List (Bool × ℕ)
+symbols_at f P sound t n = map (λ c. (as_guessed f P sound c t, probability f P sound c t)) (range_with_len 0 n)
+
+-- the symbols of a frame before the samples t
+unfoldable pub symbols_before : Shape → Params → List ℕ → Bool → ℕ → List (Bool × ℕ)
+symbols_before f P sound reserved t =
+    (reserved, reserved_probability P) ∷ flat_map (λ u. symbols_at f P sound u f.channels) (range_with_len 0 t)
+
 -- The reserved symbol, which means nothing; then for each t, channel after channel, whether the sample is as guessed.
 unfoldable pub symbols : Shape → Params → List ℕ → Bool → List (Bool × ℕ)
 symbols f P sound reserved =

@@ -1,5 +1,5 @@
 // Laws of frames. The functions do nothing: their clauses are what is proved.
-ghost use Rattle.dst_spec.specs.Laws.{HeaderLaw, ReadingLaw, OneListOfSymbols, SpellingLaw, StoringLaw, DecodingLaw, TailLaw};
+ghost use Rattle.dst_spec.specs.Laws.{HeaderLaw, ReadingLaw, OneListOfSymbols, SpellingLaw, StoringLaw, DecodingLaw, TailLaw, CodeLengthLaw};
 
 /// No header begins another one's bits, and one list of bits has one Params.
 pub fn header_law()
@@ -34,4 +34,9 @@ pub fn spelling_law()
 /// A stored frame means the sound that it was made for, and is never longer than the plain form.
 pub fn storing_law()
     ensures { StoringLaw }
+{}
+
+/// How many bits a code has depends on ranges and probabilities alone, so it is known without the code's bits.
+pub fn code_length_law()
+    ensures { CodeLengthLaw }
 {}

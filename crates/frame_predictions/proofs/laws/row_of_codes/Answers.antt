@@ -1,0 +1,8 @@
+use Rattle.frame_predictions.proofs.Elements.{codes-at, codes-length}
+use Rattle.frame_predictions.proofs.laws.row_of_codes.Goals as goal
+
+pub returns-clause-each : goal.returns-clause-each
+returns-clause-each c = codes-at
+
+pub returns-clause-long : goal.returns-clause-long
+returns-clause-long c = codes-length

@@ -1,0 +1,98 @@
+use Rattle.std.proofs.Common.{◌≡◌, ◌≢◌, ◌+◌, ◌*◌, ◌<◌, ◌≤◌, length, get_or, map, take, ap, sym, subst, subst₂, ◌∙◌, arith}
+use Rattle.std.specs.List.{SwappedAt}
+use Rattle.std.proofs.lemmas.List.Edits.{length-swap}
+use Rattle.frame_predictions.specs.Rows.{predicted, AreFilled}
+use Rattle.frame_predictions.proofs.Rows.{seen-length, seen-at, filled-swapped, written-back, first-of, held-before}
+use Rattle.frame_predictions.proofs.predictions.Predictions.row.Goals as goal
+
+pub returns-then-place-held-clause-is : goal.returns-then-place-held-clause-is
+returns-then-place-held-clause-is c = λ other.
+    let p = c.self.inside in
+    let order = c.self.invariant.in_order in
+    let within = c.self.invariant.are_filled.within in
+    let rows = c.provide-place.new.rows in
+    let place = c.provide-place.result in
+    let all : length rows ≡ p.rows.len = c.provide-place.ensures.long ∙ c.as_mut_slice.ensures.len in
+    let same = ap length c.as_mut_slice.ensures.value in
+    let next = held-before p.held c.len.result c.next_place-held.result place c.next_place-held.ensures.behind c.next_place-held.ensures.first c.if-place-held.true in
+    let row = first-of rows (omega arith) in
+    subst (λ xs. get_or (map predicted (take p.held xs)) place other ≡ record { channel = c.args.channel; filter = c.args.filter.now }) (sym (written-back p.rows.items rows p.rows.len all))
+    (seen-at rows p.held place row other (omega (arith, next.0)) (omega (arith, next.1)) ∙ c.provide-place.ensures.is row)
+
+pub returns-then-place-held-clause-stay : goal.returns-then-place-held-clause-stay
+returns-then-place-held-clause-stay c = λ room k other lt.
+    let p = c.self.inside in
+    let order = c.self.invariant.in_order in
+    let within = c.self.invariant.are_filled.within in
+    let rows = c.provide-place.new.rows in
+    let place = c.provide-place.result in
+    let all : length rows ≡ p.rows.len = c.provide-place.ensures.long ∙ c.as_mut_slice.ensures.len in
+    let same = ap length c.as_mut_slice.ensures.value in
+    let next = held-before p.held c.len.result c.next_place-held.result place c.next_place-held.ensures.behind c.next_place-held.ensures.first c.if-place-held.true in
+    let is = c.provide-place.ensures.behind p.held (omega (arith, next.0)) order (omega (arith, next.1)) ∙ c.as_mut_slice.ensures.value in
+    ap (λ xs. get_or (map predicted (take p.held xs)) k other) (written-back p.rows.items rows p.rows.len all ∙ is) ∙ ap (λ w. get_or w.rows k other) c.self.view_is
+
+pub invariant_of-self-2 : goal.invariant_of-self-2
+invariant_of-self-2 c =
+    let p = c.self.inside in
+    let v = c.self.invariant in
+    let order = v.in_order in
+    let within = v.are_filled.within in
+    let rows = c.provide-place.new.rows in
+    let place = c.provide-place.result in
+    let next = c.next_place-held.result in
+    let all : length rows ≡ p.rows.len = c.provide-place.ensures.long ∙ c.as_mut_slice.ensures.len in
+    let same = ap length c.as_mut_slice.ensures.value in
+    let back = written-back p.rows.items rows p.rows.len all in
+    let most = c.max-self-inside.ensures in
+    let filled : AreFilled p.channels p.sound.items rows c.max-self-inside.result = subst₂ (λ xs n. AreFilled p.channels xs rows n) c.as_slice.ensures.value (sym most) c.provide-place.ensures.filled in
+    let long : length c.swap.new.self.items ≡ length rows = ap length c.swap.ensures.items ∙ length-swap _ place next ∙ ap length back in
+    let many = v.many in
+    let swapped : SwappedAt rows c.swap.new.self.items place next = subst (λ xs. SwappedAt xs c.swap.new.self.items place next) back c.swap.ensures.by_index in
+    record {
+      is_shape = v.is_shape;
+      whole = v.whole;
+      many = omega arith;
+      in_order = omega arith;
+      are_filled = filled-swapped p.channels p.sound.items rows c.swap.new.self.items c.max-self-inside.result place next filled swapped long (omega arith) (omega arith);
+    }
+
+pub returns-clause-is : goal.returns-clause-is
+returns-clause-is c = λ other.
+    let p = c.self.inside in
+    let rows = c.provide-place.new.rows in
+    let place = c.provide-place.result in
+    let next = c.next_place-held.result in
+    let new = c.swap.new.self.items in
+    let all : length rows ≡ p.rows.len = c.provide-place.ensures.long ∙ c.as_mut_slice.ensures.len in
+    let back = written-back p.rows.items rows p.rows.len all in
+    let long : length new ≡ length rows = ap length c.swap.ensures.items ∙ length-swap _ place next ∙ ap length back in
+    let swapped : SwappedAt rows new place next = subst (λ xs. SwappedAt xs new place next) back c.swap.ensures.by_index in
+    let row = first-of rows (omega arith) in
+    seen-at new (next + 1) next row other (omega arith) (omega arith) ∙ ap predicted (swapped.1 row) ∙ c.provide-place.ensures.is row
+
+pub returns-clause-stay : goal.returns-clause-stay
+returns-clause-stay c = λ room k other lt.
+    let p = c.self.inside in
+    let v = c.self.invariant in
+    let order = v.in_order in
+    let within = v.are_filled.within in
+    let many = v.many in
+    let rows = c.provide-place.new.rows in
+    let place = c.provide-place.result in
+    let next = c.next_place-held.result in
+    let new = c.swap.new.self.items in
+    let all : length rows ≡ p.rows.len = c.provide-place.ensures.long ∙ c.as_mut_slice.ensures.len in
+    let same = ap length c.as_mut_slice.ensures.value in
+    let back = written-back p.rows.items rows p.rows.len all in
+    let long : length new ≡ length rows = ap length c.swap.ensures.items ∙ length-swap _ place next ∙ ap length back in
+    let swapped : SwappedAt rows new place next = subst (λ xs. SwappedAt xs new place next) back c.swap.ensures.by_index in
+    let row = first-of rows (omega arith) in
+    let seen : length c.args.self.now.rows ≡ p.held = ap (λ w. length w.rows) (sym c.self.view_is) ∙ seen-length p.rows.items p.held (omega arith) in
+    let shape = ap (λ w. w.channels.channels) c.self.view_is in
+    let some : p.held < c.len.result = omega arith in
+    let here : next ≡ p.held = c.next_place-held.ensures.behind some in
+    let ne : k ≢ place = omega arith in
+    let nor : k ≢ next = omega arith in
+    seen-at new (next + 1) k row other (omega arith) (omega arith) ∙ ap predicted (swapped.2 k row ne nor ∙ c.provide-place.ensures.others k row ne ∙ ap (λ xs. get_or xs k row) c.as_mut_slice.ensures.value)
+    ∙ sym (seen-at p.rows.items p.held k row other (omega arith) (omega arith)) ∙ ap (λ w. get_or w.rows k other) c.self.view_is

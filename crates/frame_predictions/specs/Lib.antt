@@ -1,0 +1,4 @@
+pub mod Codes
+pub mod Filling
+pub mod Predicting
+pub mod Rows
