@@ -4,10 +4,6 @@ use dst_num::{Channels, FilterTable};
 use std::alloc::Global;
 use std::test::Fail;
 
-fn table(coefs: &[i16]) -> Result<FilterTable, Fail> {
-    Ok(FilterTable::new(coefs).ok_or("no table")?)
-}
-
 // Two channels, of which the first has samples 1 alone, the second samples 0 alone.
 fn begun(alloc: Global) -> Result<Predictions, Fail> {
     let stereo = Channels::new(2).ok_or("two channels")?;
@@ -20,11 +16,30 @@ fn begun(alloc: Global) -> Result<Predictions, Fail> {
     Ok(predictions)
 }
 
+// The number of a row, and its first codes.
+fn row_of(
+    predictions: &mut Predictions,
+    channel: usize,
+    coefs: &[i16],
+) -> Result<(usize, [u8; 4]), Fail> {
+    let filter = FilterTable::new(coefs).ok_or("no table")?;
+    if channel >= predictions.channels().count() {
+        return Err("no such channel")?;
+    }
+    let row = predictions.row(channel, &filter);
+    let codes = predictions.codes(row);
+    let mut first = [0; 4];
+    for (code, place) in codes.iter().zip(first.iter_mut()) {
+        *place = *code;
+    }
+    Ok((row, first))
+}
+
 #[test]
 fn codes_tell_place_and_guess(rt: HostRuntime) -> Result<(), Fail> {
     let mut predictions = begun(rt.alloc())?;
     assert_eq!(rt; predictions.channels().count(), 2);
-    // the coefficients, the channel, the codes of its first three samples and of those from the fourth on
+    // the coefficients, the channel, the codes of its first four samples
     let cases: [(&[i16], usize, [u8; 4]); 6] = [
         (&[0], 0, [0, 0, 0, 0]),
         (&[0], 1, [64, 64, 64, 64]),
@@ -35,12 +50,8 @@ fn codes_tell_place_and_guess(rt: HostRuntime) -> Result<(), Fail> {
         (&[-256, -256, -256], 1, [96, 96, 127, 127]),
     ];
     for (coefs, channel, expected) in cases {
-        let row = predictions.row(channel, &table(coefs)?);
-        let codes = predictions.codes(row);
-        assert_eq!(rt; codes.len(), 37632);
-        for (t, code) in codes.iter().enumerate() {
-            assert_eq!(rt; *code, expected[t.min(3)], "sample {t} of {coefs:?}");
-        }
+        let (_, codes) = row_of(&mut predictions, channel, coefs)?;
+        assert_eq!(rt; codes, expected, "{coefs:?} and channel {channel}");
     }
     Ok(())
 }
@@ -48,21 +59,22 @@ fn codes_tell_place_and_guess(rt: HostRuntime) -> Result<(), Fail> {
 #[test]
 fn rows_are_found_again(rt: HostRuntime) -> Result<(), Fail> {
     let mut predictions = begun(rt.alloc())?;
-    let (one, two) = (table(&[1])?, table(&[2])?);
-    assert_eq!(rt; predictions.row(0, &one), 0);
-    assert_eq!(rt; predictions.row(0, &two), 1);
-    assert_eq!(rt; predictions.row(1, &one), 2);
-    assert_eq!(rt; predictions.row(0, &one), 0);
-    predictions.release();
-    assert_eq!(rt; predictions.row(1, &one), 0);
-    assert_eq!(rt; predictions.codes(0)[0], 0);
-    // sixteen rows, and then the first one anew
-    for coef in 0..15i16 {
-        assert_eq!(rt; predictions.row(0, &table(&[coef])?), coef as usize + 1);
+    let mut rows = [0; 5];
+    for (row, (channel, coef)) in rows
+        .iter_mut()
+        .zip([(0, 1), (0, 2), (1, 1), (0, 1), (1, 1)])
+    {
+        *row = row_of(&mut predictions, channel, &[coef])?.0;
     }
-    assert_eq!(rt; predictions.row(1, &two), 0);
-    assert_eq!(rt; predictions.codes(0)[0], 0);
-    assert_eq!(rt; predictions.sound()[0], 0xff);
-    assert_eq!(rt; predictions.sound()[1], 0x00);
+    assert_eq!(rt; rows, [0, 1, 2, 0, 2]);
+    predictions.release();
+    assert_eq!(rt; row_of(&mut predictions, 1, &[1])?, (0, [0; 4]));
+    // sixteen rows, and then the first one anew
+    for place in 0..15usize {
+        let (row, _) = row_of(&mut predictions, 0, &[place as i16])?;
+        assert_eq!(rt; row, place + 1);
+    }
+    assert_eq!(rt; row_of(&mut predictions, 1, &[8])?, (0, [1; 4]));
+    assert_eq!(rt; predictions.sound().first(), Some(&0xff));
     Ok(())
 }

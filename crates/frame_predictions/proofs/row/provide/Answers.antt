@@ -1,4 +1,4 @@
-use Rattle.std.proofs.Common.{◌≡◌, ap, sym, ◌∙◌, arith}
+use Rattle.std.proofs.Common.{ap, sym, ◌∙◌, arith}
 use Rattle.frame_predictions.specs.Codes.{codes}
 use Rattle.frame_predictions.proofs.Rows.{filled-made}
 use Rattle.frame_predictions.proofs.row.provide.Goals as goal

@@ -1,6 +1,5 @@
-use Rattle.std.proofs.Common.{◌≡◌, ◌<◌, ◌≤◌, length, get_or, map, take, ap, sym, subst, ◌∙◌, arith}
+use Rattle.std.proofs.Common.{◌≡◌, ◌<◌, length, get_or, ap, sym, subst, ◌∙◌, arith}
 use Rattle.frame_predictions.specs.Codes.{codes}
-use Rattle.frame_predictions.specs.Rows.{predicted}
 use Rattle.frame_predictions.proofs.Elements.{codes-small}
 use Rattle.frame_predictions.proofs.Rows.{seen-length, IsRight}
 use Rattle.frame_predictions.proofs.predictions.Predictions.codes.Goals as goal
