@@ -1,3 +1,4 @@
 pub mod Encoding
 pub mod Leaving
+pub mod Measuring
 pub mod Registers

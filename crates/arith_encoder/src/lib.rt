@@ -9,13 +9,23 @@
 //! }
 //! let writer = encoder.finish();                           // with the code behind what it had
 //! ```
+//!
+//! How long a code is can be known without its bits, in less time:
+//!
+//! ```text
+//! let mut measure = CodeLength::new();
+//! measure.add(symbol, probability);
+//! measure.bits();                                          // 13, and one for each doubling
+//! ```
 #![tactic(auto)]
 
 mod encoder;
 mod held;
+mod length;
 mod narrow;
 mod scaling;
 #[cfg(test)]
 mod tests;
 
 pub use encoder::ArithEncoder;
+pub use length::CodeLength;

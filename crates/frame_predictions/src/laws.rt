@@ -11,7 +11,7 @@ pub fn code_tells()
     ensures guess { (f : Shape) (P : Params) (sound : List ℕ) (c t : ℕ)
         → as_guessed f P sound c t ≡ nat_lt (code_at f sound c (filter_of P c) t) 64 }
     ensures probability { (f : Shape) (P : Params) (sound : List ℕ) (c t : ℕ) → 1 ≤ length (probs_of P c) → length (probs_of P c) ≤ 64
-        → probability f P sound c t ≡ (if get_or P.half c false && nat_lt t (length (filter_of P c)) then 128
+        → probability f P sound c t ≡ (if get_or P.half_prob c false && nat_lt t (length (filter_of P c)) then 128
         else get_or (probs_of P c) (min (code_at f sound c (filter_of P c) t % 64) (length (probs_of P c) - 1)) 0) }
     ensures small { (f : Shape) (sound : List ℕ) (c : ℕ) (filter : List ℤ) (t : ℕ) → code_at f sound c filter t < 128 }
 {}

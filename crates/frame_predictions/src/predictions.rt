@@ -55,7 +55,7 @@ impl Predictions {
         }
         Ok(Predictions {
             channels,
-            sound: vec![in alloc; 0u8; channels.frame_bytes()]?,
+            sound: vec![in alloc; 0u8; channels.sound_bytes()]?,
             sums: RowFilter::new(),
             rows,
             held: 0,

@@ -1,0 +1,7 @@
+use Rattle.std.proofs.Common.{refl}
+use Rattle.dst_spec.specs.Interval.{interval_from}
+use Rattle.arith_encoder.proofs.length.CodeLength.new.Goals as goal
+
+pub returns-clause-measures : goal.returns-clause-measures
+unfolding interval_from
+returns-clause-measures c = (refl, refl)
