@@ -7,6 +7,7 @@
 //!     FrameView::Coded(params, code) => .., // the arithmetic code begins at bit code.first
 //! }
 //!
+//! header_length(&params);              // in bits
 //! write_header(&params, &mut writer); // false, with nothing written, where it doesn't fit
 //! ```
 #![tactic(auto)]
@@ -25,4 +26,4 @@ mod write;
 
 pub use header::{Header, read_header};
 pub use view::{FrameView, view_frame};
-pub use write::write_header;
+pub use write::{header_length, write_header};

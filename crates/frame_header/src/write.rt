@@ -19,9 +19,7 @@ pub fn write_header(params: &Params, writer: &mut BitWriter) -> bool
     let front = Front::of(params);
     let filters = params.filters.as_slice();
     let probs = params.probs.as_slice();
-    let length = u64::from(front.length())
-        + tables_length::<Filters>(filters)
-        + tables_length::<Probs>(probs);
+    let length = header_length(params);
     if length > writer.room() {
         return false;
     }
@@ -29,6 +27,19 @@ pub fn write_header(params: &Params, writer: &mut BitWriter) -> bool
     write_tables::<Filters>(filters, writer);
     write_tables::<Probs>(probs, writer);
     true
+}
+
+/// How many bits there are in front of the arithmetic code.
+pub fn header_length(params: &Params) -> u64
+    ensures length { result ≡ length (header_spelling params.now) }
+    ensures most { result ≤ 2 ^ 36 }
+{
+    let front = Front::of(params);
+    let filters = params.filters.as_slice();
+    let probs = params.probs.as_slice();
+    u64::from(front.length())
+        + tables_length::<Filters>(filters)
+        + tables_length::<Probs>(probs)
 }
 
 // How many bits tables take, each in its shortest spelling.
