@@ -17,7 +17,7 @@ prob_in_range probs i table lt =
     let at : InRange prob_kind (pos (get_or probs i 0)) = subst (InRange prob_kind) (get_or-map (λ x. pos x) probs i 0 (pos 0) lt) one in
     (omega (arith, ints, at.0), omega (arith, ints, at.1))
 
-prob_again : (p : ℕ) → 1 ≤ p → p ≤ 128 → prob_in (p % 128) ≡ p
+pub prob_again : (p : ℕ) → 1 ≤ p → p ≤ 128 → prob_in (p % 128) ≡ p
 prob_again p least most = go (cases_lt p 128)
   where
     go : (p < 128) ⊎ (128 ≤ p) → prob_in (p % 128) ≡ p

@@ -1,6 +1,6 @@
 -- The tables that a map numbers.
 use Rattle.std.proofs.Common.{◌≡◌, ℕ, zero, suc, ◌+◌, ◌*◌, ◌/◌, ◌%◌, ◌^◌, ◌<◌, ◌≤◌, List, [], length, get_or, reverse, refl, ap, ap₂, add-one, ◌∙◌, ℤ}
-use Rattle.std.proofs.Common.{pos, arith}
+use Rattle.std.proofs.Common.{pos, sym, subst, arith}
 use Rattle.std.proofs.lemmas.List.{get_or_default}
 use Rattle.std.proofs.Math.Nat.{pow-suc, pow-le-pow_right}
 use Rattle.dst_spec.specs.Bits.{low_bits, signed_bits, number_from}
@@ -37,6 +37,9 @@ pub turned-small : (n x : ℕ) → n ≤ 7 → turned n x < 128
 turned-small n x h =
     let most : 2 ^ n ≤ 2 ^ 7 = pow-le-pow_right {n = 2} (omega arith) {i = n} {j = 7} h in
     omega (arith, turned-below n x, most)
+
+pub channel-inside : (P Q : Params) (c : ℕ) → Q ≡ P → c < length P.half_prob → c < length Q.half_prob
+channel-inside P Q c view h = subst (λ (R : Params). c < length R.half_prob) (sym view) h
 
 -- what a map chooses for a channel
 pub chosen-inside : {A : Type 0} (map seen : List ℕ) (tables shown : List A) (halves c : ℕ) → seen ≡ map → shown ≡ tables → length map ≡ halves →

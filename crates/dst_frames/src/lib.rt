@@ -4,8 +4,12 @@
 //! let mut scratch = Scratch::new(alloc, channels)?;                      // for frame after frame
 //! let unread = decode_frame(&frame, channels, &mut scratch, &mut sound)?; // the sound of the frame
 //! ```
+//!
+//! What an encoder reads of parameters in the same way is public too: what they give a channel, and the probability of the
+//! reserved symbol.
 #![tactic(auto)]
 
+mod channel;
 mod code;
 mod frame;
 mod reserved;
@@ -16,5 +20,8 @@ mod tables;
 #[cfg(test)]
 mod tests;
 
+pub use channel::{channel_filter, channel_half_prob, channel_probs};
 pub use frame::decode_frame;
+pub use reserved::reserved_probability;
 pub use scratch::Scratch;
+pub use tables::prob_within;

@@ -7,7 +7,7 @@ ghost use Rattle.dst_frames.specs.Reserved.{turned};
 use dst_num::{Params, Prob};
 
 /// 1 and the low seven bits of coefficient 0 of filter 0 in reversed order.
-pub(crate) fn reserved_probability(params: &Params) -> Prob
+pub fn reserved_probability(params: &Params) -> Prob
     requires { 0 < length params.now.half_prob }
     ensures { result ≡ probability_of params.now }
 {

@@ -6,6 +6,7 @@ ghost use Rattle.byte_predictor.specs.Upward.{upward_sum};
 ghost use Rattle.dst_spec.specs.Guess.{filter_of, probs_of};
 ghost use Rattle.dst_frames.specs.Tables.{prob_at, prob_in, IsEntry, IsBuilt};
 
+use crate::channel::{channel_filter, channel_half_prob, channel_probs};
 use byte_predictor::RowFilter;
 use dst_num::{FilterTable, Params, Prob, ProbTable};
 
@@ -32,12 +33,10 @@ impl ChannelTables {
         requires { c < length params.now.half_prob }
         ensures { IsBuilt (filter_of params.now c) (probs_of params.now c) (get_or params.now.half_prob c false) self.new }
     {
-        let filter = params.filter_map.elements()[c];
-        let probs = params.prob_map.elements()[c];
         self.take(
-            &params.filters.as_slice()[filter as usize],
-            &params.probs.as_slice()[probs as usize],
-            params.half_prob.as_slice()[c],
+            channel_filter(params, c),
+            channel_probs(params, c),
+            channel_half_prob(params, c),
         );
     }
 
@@ -93,7 +92,7 @@ fn prob_of(prediction: i32, probs: &[u8]) -> u8
 
 /// The probability in the low seven bits of an entry.
 #[inline(always)]
-pub(crate) fn prob_within(low: u8) -> Prob
+pub fn prob_within(low: u8) -> Prob
     requires { low < 128 }
     ensures { result ≡ prob_in low }
 {

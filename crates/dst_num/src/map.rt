@@ -55,6 +55,16 @@ impl Map {
         self.elements.as_slice()
     }
 
+    /// The same map once more.
+    pub fn copy(&self) -> Map
+        ensures { result ≡ self.now }
+    {
+        match Map::new(self.elements()) {
+            Some(map) => map,
+            None => unreachable!(),
+        }
+    }
+
     /// How many different tables there are.
     pub fn count(&self) -> usize
         ensures count { result ≡ element_count self.now }

@@ -1,5 +1,5 @@
 // The parameters of a coded frame.
-ghost use Rattle.std.specs.Prelude.{◌≡◌, [], ◌∷◌, pos, map, false, length, All, IfNone, IfSome};
+ghost use Rattle.std.specs.Prelude.{◌≡◌, [], ◌∷◌, pos, map, false, length, All, ◌≤◌, IfNone, IfSome};
 ghost use Rattle.dst_spec.specs.Table.{filter_kind, prob_kind, IsTable};
 ghost use Rattle.dst_spec.specs.Header.{IsParams};
 ghost use Rattle.dst_num.specs.Map.{params_of};
@@ -61,6 +61,53 @@ impl Params {
             probs,
         })
     }
+
+    /// The same parameters once more. No memory is taken.
+    pub fn copy(&self) -> Params
+        ensures params { result ≡ self.now }
+        ensures lawful { IsParams (length self.now.half_prob) self.now }
+    {
+        Params {
+            filter_map: self.filter_map.copy(),
+            prob_map: self.prob_map.copy(),
+            half_prob: copied_bits(self.half_prob.as_slice()),
+            filters: copied_filters(self.filters.as_slice()),
+            probs: copied_probs(self.probs.as_slice()),
+        }
+    }
+}
+
+fn copied_bits(bits: &[bool]) -> ArrayVec<bool, 6>
+    requires { length bits.now ≤ 6 }
+    ensures { result.items ≡ bits.now }
+{
+    let mut copied = ArrayVec::new();
+    for bit in bits {
+        copied.push(*bit);
+    }
+    copied
+}
+
+fn copied_filters(filters: &[FilterTable]) -> ArrayVec<FilterTable, 6>
+    requires { length filters.now ≤ 6 }
+    ensures { result.items ≡ filters.now }
+{
+    let mut copied = ArrayVec::new();
+    for filter in filters {
+        copied.push(filter.copy());
+    }
+    copied
+}
+
+fn copied_probs(probs: &[ProbTable]) -> ArrayVec<ProbTable, 6>
+    requires { length probs.now ≤ 6 }
+    ensures { result.items ≡ probs.now }
+{
+    let mut copied = ArrayVec::new();
+    for table in probs {
+        copied.push(table.copy());
+    }
+    copied
 }
 
 // Every filter keeps its rule.

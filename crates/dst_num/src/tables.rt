@@ -50,6 +50,16 @@ impl FilterTable {
     {
         self.coefs.as_slice()
     }
+
+    /// The same table once more.
+    pub fn copy(&self) -> FilterTable
+        ensures { result ≡ self.now }
+    {
+        match FilterTable::new(self.coefs()) {
+            Some(table) => table,
+            None => unreachable!(),
+        }
+    }
 }
 
 /// One coefficient, which is 0.
@@ -111,6 +121,16 @@ impl ProbTable {
         ensures table { IsTable prob_kind (map pos self.now) }
     {
         self.entries.as_slice()
+    }
+
+    /// The same table once more.
+    pub fn copy(&self) -> ProbTable
+        ensures { result ≡ self.now }
+    {
+        match ProbTable::new(self.entries()) {
+            Some(table) => table,
+            None => unreachable!(),
+        }
     }
 }
 

@@ -90,7 +90,7 @@ fn make(
     ensures codes { row.new.codes.items ≡ codes_of channels sound.now channel filter.now }
 {
     row.channel = channel;
-    row.filter = copy(filter);
+    row.filter = filter.copy();
     let octets = 4704 * channels.multiple();
     let count = channels.count();
     fill(
@@ -101,14 +101,4 @@ fn make(
         channel,
         octets,
     );
-}
-
-// The same filter.
-fn copy(filter: &FilterTable) -> FilterTable
-    ensures { result ≡ filter.now }
-{
-    match FilterTable::new(filter.coefs()) {
-        Some(table) => table,
-        None => unreachable!(),
-    }
 }

@@ -1,0 +1,33 @@
+// What the parameters of a frame give a channel.
+ghost use Rattle.std.specs.Prelude.{◌≡◌, ◌<◌, false, length, get_or};
+ghost use Rattle.dst_spec.specs.Guess.{filter_of, probs_of};
+
+use dst_num::{FilterTable, Params, ProbTable};
+
+/// The filter of channel `c`.
+pub fn channel_filter(params: &Params, c: usize) -> &FilterTable
+    requires { c < length params.now.half_prob }
+    ensures { result.now ≡ filter_of params.now c }
+{
+    let number = params.filter_map.elements()[c];
+    let filters = params.filters.as_slice();
+    &filters[number as usize]
+}
+
+/// The probability table of channel `c`.
+pub fn channel_probs(params: &Params, c: usize) -> &ProbTable
+    requires { c < length params.now.half_prob }
+    ensures { result.now ≡ probs_of params.now c }
+{
+    let number = params.prob_map.elements()[c];
+    let probs = params.probs.as_slice();
+    &probs[number as usize]
+}
+
+/// Whether the first samples of channel `c`, as many as its filter is long, have the probability 128.
+pub fn channel_half_prob(params: &Params, c: usize) -> bool
+    requires { c < length params.now.half_prob }
+    ensures { result ≡ get_or params.now.half_prob c false }
+{
+    params.half_prob.as_slice()[c]
+}

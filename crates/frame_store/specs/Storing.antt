@@ -1,0 +1,30 @@
+-- What a scratch for storing holds.
+use Rattle.std.specs.Prelude.{◌≡◌, ℕ, ◌+◌, ◌*◌, ◌%◌, List, [], length, Bool, if◌then◌else◌, Option, Some, None}
+use Rattle.dst_spec.specs.Bits.{octets}
+use Rattle.dst_spec.specs.Sample.{Shape, IsShape, sound_bytes}
+use Rattle.bit_io.specs.Writing.{Writing}
+use Rattle.frame_predictions.specs.Predicting.{Predicting}
+
+-- the channels that it is for, the latest spelling, and the latest stored frame
+pub record Storing : Type 0 where
+  pub channels : Shape
+  pub spelled : List ℕ
+  pub stored : List ℕ
+
+-- the bytes of a writer that is there
+abbrev pub written : Option Writing → List ℕ
+written None = []
+written (Some w) = octets w.bits
+
+-- The writer is there, has whole bytes, and room for the plain form with them.
+abbrev pub IsWriter : Shape → Option Writing → Type 0
+IsWriter f None = ⊥
+IsWriter f (Some w) = (length w.bits % 8 ≡ 0) × (w.room + length w.bits ≡ 8 * (1 + sound_bytes f))
+
+-- Everything has the size that the channels need.
+pub record IsStorage (f : Shape) (predictions : Predicting) (symbols : List ℕ) (writer : Option Writing) (plain : List ℕ) : Type 0 where
+  pub is_shape : IsShape f
+  pub predicts : predictions.channels ≡ f
+  pub many : length symbols ≡ 8 * sound_bytes f
+  pub is_writer : IsWriter f writer
+  pub long : length plain ≡ 1 + sound_bytes f
