@@ -37,9 +37,7 @@ pub fn header_length(params: &Params) -> u64
     let front = Front::of(params);
     let filters = params.filters.as_slice();
     let probs = params.probs.as_slice();
-    u64::from(front.length())
-        + tables_length::<Filters>(filters)
-        + tables_length::<Probs>(probs)
+    u64::from(front.length()) + tables_length::<Filters>(filters) + tables_length::<Probs>(probs)
 }
 
 // How many bits tables take, each in its shortest spelling.

@@ -1,9 +1,9 @@
 -- The spelling of laid out symbols, and the first of the shortest.
-use Rattle.std.proofs.Common.{◌≡◌, ℕ, ◌+◌, ◌*◌, ◌/◌, ◌<◌, ◌≤◌, nat_lt, true, false, List, [], ◌∷◌, ◌++◌, length, get_or, set, ◌-◌, map, fold, take, if◌then◌else◌, Option, Some, None, refl, ap, ap₂, sym, ◌∙◌, arith, lt-ltb, le-ltb}
+use Rattle.std.proofs.Common.{◌≡◌, ℕ, ◌+◌, ◌/◌, ◌<◌, ◌≤◌, false, List, [], ◌∷◌, ◌++◌, length, get_or, set, ◌-◌, map, fold, take, if◌then◌else◌, Option, Some, None, refl, ap, sym, ◌∙◌, arith, lt-ltb, le-ltb}
 use Rattle.std.proofs.lemmas.List.{take_more, map-append, get_or_default, drop_all, append-nil}
 use borrow.Rule.Slice.PartMut.{put_mid}
 use Rattle.dst_spec.specs.Bits.{octets}
-use Rattle.dst_spec.specs.Sample.{Shape, sound_bytes}
+use Rattle.dst_spec.specs.Sample.{Shape}
 use Rattle.dst_spec.specs.Header.{Params}
 use Rattle.dst_spec.specs.Symbols.{symbols}
 use Rattle.dst_spec.specs.Spell.{code_spelling, header_spelling, spell, shorter, stored}

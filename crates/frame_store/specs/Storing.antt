@@ -1,5 +1,5 @@
 -- What a scratch for storing holds.
-use Rattle.std.specs.Prelude.{◌≡◌, ℕ, ◌+◌, ◌*◌, ◌%◌, List, [], length, Bool, if◌then◌else◌, Option, Some, None}
+use Rattle.std.specs.Prelude.{◌≡◌, ℕ, ◌+◌, ◌*◌, ◌%◌, List, [], length, Option, Some, None}
 use Rattle.dst_spec.specs.Bits.{octets}
 use Rattle.dst_spec.specs.Sample.{Shape, IsShape, sound_bytes}
 use Rattle.bit_io.specs.Writing.{Writing}

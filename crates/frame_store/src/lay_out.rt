@@ -25,7 +25,11 @@ pub(crate) fn lay_out(params: &Params, predictions: &mut Predictions, symbols: &
     row_of_codes();
     for c in 0..channels {
         let filter = channel_filter(params, c);
-        let early = if channel_half_prob(params, c) { filter.coefs().len() } else { 0 };
+        let early = if channel_half_prob(params, c) {
+            filter.coefs().len()
+        } else {
+            0
+        };
         let probs = channel_probs(params, c).entries();
         let row = predictions.row(c, filter);
         spread(symbols, predictions.codes(row), probs, early, c, channels);
@@ -33,14 +37,7 @@ pub(crate) fn lay_out(params: &Params, predictions: &mut Predictions, symbols: &
 }
 
 // Lays out the symbols of one channel.
-fn spread(
-    symbols: &mut [u8],
-    codes: &[u8],
-    probs: &[u8],
-    early: usize,
-    c: usize,
-    channels: usize,
-)
+fn spread(symbols: &mut [u8], codes: &[u8], probs: &[u8], early: usize, c: usize, channels: usize)
     requires probs { IsTable prob_kind (map pos probs.now) }
     requires codes { All (λ code. code < 128) codes.now }
     requires channel { c < channels }

@@ -1,5 +1,6 @@
 // The memory in which frames are stored.
-ghost use Rattle.std.specs.Prelude.{◌≡◌, ◌%◌, ◌*◌, ◌+◌, length, IfOk};
+ghost use Rattle.std.specs.Prelude.{◌≡◌, ◌%◌, ◌*◌, ◌+◌, ◌≤◌, length, IfOk};
+ghost use Rattle.dst_spec.specs.Sample.{sound_bytes};
 ghost use Rattle.frame_store.specs.Storing.{written};
 
 use crate::picker::Candidates;
@@ -54,7 +55,8 @@ impl StoreScratch {
 
     /// The latest spelling of `spell_frame`.
     pub fn spelled(&self) -> &[u8]
-        ensures { result.now ≡ self.now.spelled }
+        ensures spelled { result.now ≡ self.now.spelled }
+        ensures short { length result.now ≤ 1 + sound_bytes self.now.channels }
     {
         match &self.writer {
             Some(writer) => writer.bytes(),
@@ -64,7 +66,8 @@ impl StoreScratch {
 
     /// The latest frame of `store_frame`.
     pub fn stored(&self) -> &[u8]
-        ensures { result.now ≡ self.now.stored }
+        ensures stored { result.now ≡ self.now.stored }
+        ensures short { length result.now ≤ 1 + sound_bytes self.now.channels }
     {
         if self.is_plain {
             self.plain.as_slice()

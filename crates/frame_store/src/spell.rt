@@ -63,7 +63,11 @@ pub(crate) fn write_into(
 }
 
 // Writes the spelling of laid out symbols. Where it doesn't fit the writer comes back without bits.
-fn write_spelling(params: &Params, symbols: &[u8], writer: BitWriter) -> Result<BitWriter, BitWriter>
+fn write_spelling(
+    params: &Params,
+    symbols: &[u8],
+    writer: BitWriter,
+) -> Result<BitWriter, BitWriter>
     requires some { 0 < length params.now.half_prob }
     requires empty { writer.bits ≡ [] }
     ensures bytes { IfOk result (λ w. octets w.bits ≡ octets (header_spelling params.now ++ code_spelling (all_pairs params.now symbols.now))) }

@@ -26,7 +26,12 @@ pub fn store_frame<P: Picker>(
     ensures channels { scratch.new.channels ≡ scratch.old.channels }
 {
     scratch.predictions.begin(sound);
-    picker.pick(sound, channels, &mut scratch.predictions, &mut scratch.found);
+    picker.pick(
+        sound,
+        channels,
+        &mut scratch.predictions,
+        &mut scratch.found,
+    );
     let found = scratch.found.as_slice();
     let symbols = scratch.symbols.as_mut_slice();
     match shortest(found, &mut scratch.predictions, symbols, 1 + sound.len()) {

@@ -1,8 +1,8 @@
-use Rattle.std.proofs.Common.{◌≡◌, ◌≢◌, ℕ, ◌+◌, ◌*◌, ◌<◌, ◌&&◌, nat_lt, Bool, false, pos, List, map, length, get_or, if◌then◌else◌, ap, ap₂, sym, subst, ◌∙◌, arith}
+use Rattle.std.proofs.Common.{◌≡◌, ◌+◌, ◌*◌, nat_lt, false, pos, map, length, get_or, if◌then◌else◌, ap, ap₂, sym, subst, ◌∙◌, arith}
 use Rattle.std.proofs.lemmas.List.{length-map}
 use Rattle.dst_spec.specs.Table.{prob_kind, IsTable}
 use Rattle.dst_spec.specs.Sample.{samples}
-use Rattle.dst_spec.specs.Guess.{filter_of, probs_of, probability, as_guessed}
+use Rattle.dst_spec.specs.Guess.{filter_of, probs_of}
 use Rattle.dst_frames.proofs.Early.{at_the_start}
 use Rattle.frame_predictions.specs.Codes.{code_at, codes}
 use Rattle.frame_predictions.specs.Predicting.{nothing}

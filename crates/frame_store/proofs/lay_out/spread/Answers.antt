@@ -1,4 +1,4 @@
-use Rattle.std.proofs.Common.{◌≡◌, ◌≢◌, ◌+◌, ◌*◌, ◌<◌, nat_lt, length, get_or, set, ap, sym, ◌∙◌, arith, below_more, get_or-set_same, get_or-set_other, length-set, lt-ltb, le-ltb, true, false}
+use Rattle.std.proofs.Common.{◌≡◌, ◌≢◌, ◌+◌, ◌*◌, ◌<◌, nat_lt, length, get_or, ap, sym, ◌∙◌, arith, below_more, get_or-set_same, get_or-set_other, length-set, lt-ltb, le-ltb}
 use Rattle.dst_spec.proofs.Lists.{place-below}
 use Rattle.frame_store.specs.Pairs.{symbol_byte}
 use Rattle.frame_store.proofs.Placed.{place-other_sample, place-other_channel}

@@ -1,4 +1,4 @@
-use Rattle.std.proofs.Common.{◌≡◌, ℕ, suc, ◌+◌, ◌<◌, ◌≤◌, false, ◌∷◌, ◌++◌, [], map, take, drop, get_or, ap, ap₂, sym, subst, ◌∙◌, arith}
+use Rattle.std.proofs.Common.{◌≡◌, suc, ◌+◌, ◌<◌, false, ◌∷◌, ◌++◌, [], map, take, drop, get_or, ap, ap₂, sym, subst, ◌∙◌, arith}
 use Rattle.dst_spec.specs.Interval.{interval}
 use Rattle.frame_store.specs.Pairs.{pair_of}
 use Rattle.frame_store.proofs.Codes.{map-around, too_long}

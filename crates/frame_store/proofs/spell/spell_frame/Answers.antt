@@ -1,4 +1,4 @@
-use Rattle.std.proofs.Common.{◌≡◌, ap, ap₂, sym, subst, ◌∙◌, false, arith}
+use Rattle.std.proofs.Common.{◌≡◌, ap, ap₂, ◌∙◌, false, arith}
 use Rattle.dst_spec.specs.Symbols.{symbols}
 use Rattle.dst_spec.specs.Sample.{sound_bytes}
 use Rattle.frame_store.specs.Pairs.{all_pairs}

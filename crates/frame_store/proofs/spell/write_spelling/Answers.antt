@@ -1,8 +1,7 @@
-use Rattle.std.proofs.Common.{◌≡◌, ◌+◌, ◌++◌, ◌∷◌, false, length, map, replicate, refl, ap, ap₂, sym, subst, ◌∙◌, arith, length-append}
+use Rattle.std.proofs.Common.{◌≡◌, ◌++◌, ◌∷◌, false, length, map, refl, ap, ap₂, ◌∙◌, arith}
 use Rattle.dst_spec.specs.Bits.{octets}
 use Rattle.dst_spec.specs.Spell.{code_spelling, header_spelling}
 use Rattle.dst_spec.proofs.CodeLengths.{code_bits}
-use Rattle.bit_io.specs.Writing.{to_byte_end}
 use Rattle.bit_io.proofs.ByteLists.{octets-zeros}
 use Rattle.frame_store.specs.Pairs.{pair_of, all_pairs}
 use Rattle.frame_store.proofs.spell.write_spelling.Goals as goal

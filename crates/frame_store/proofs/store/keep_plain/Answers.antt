@@ -1,4 +1,4 @@
-use Rattle.std.proofs.Common.{◌≡◌, ◌+◌, ◌∷◌, length, ap, sym, ◌∙◌}
+use Rattle.std.proofs.Common.{◌+◌, ◌∷◌, length, ap, sym, ◌∙◌}
 use Rattle.frame_store.proofs.Spelled.{plain-is}
 use Rattle.frame_store.proofs.store.keep_plain.Goals as goal
 

@@ -1,4 +1,4 @@
-use Rattle.std.proofs.Common.{◌≡◌, ◌+◌, ◌≤◌, false, length, Some, ap, ap₂, sym, subst₂, ◌∙◌, arith}
+use Rattle.std.proofs.Common.{◌≡◌, ◌+◌, false, length, ap₂, sym, subst₂, ◌∙◌, arith}
 use Rattle.dst_spec.specs.Symbols.{symbols}
 use Rattle.dst_spec.specs.Spell.{spell}
 use Rattle.frame_store.specs.Pairs.{all_pairs}
