@@ -1,5 +1,5 @@
 -- The eight samples of a byte, and sounds whose first bytes are the same.
-use Rattle.std.proofs.Common.{◌≡◌, ℕ, zero, suc, ◌+◌, ◌-◌, ◌*◌, ◌/◌, ◌%◌, ◌^◌, ◌<◌, ◌≤◌, pos, Bool, List, [], ◌∷◌, ◌++◌, length, get_or, take, drop}
+use Rattle.std.proofs.Common.{◌≡◌, ℕ, zero, suc, ◌+◌, ◌-◌, ◌*◌, ◌/◌, ◌%◌, ◌^◌, ◌<◌, ◌≤◌, pos, Bool, List, [], ◌∷◌, ◌++◌, length, get_or, take, drop, drop-drop}
 use Rattle.std.proofs.Common.{refl, ap, ap₂, sym, subst, ◌∙◌, arith, drop-cons}
 use Rattle.std.proofs.lemmas.List.{get_or_append_left, get_or-append-add, get_or-take, length-take-le}
 use borrow.Rule.Slice.PartMut.{put_mid, post_of}
@@ -13,6 +13,7 @@ use Rattle.dst_frames.specs.declared.state.ChannelState.{ChannelState}
 use Rattle.dst_frames.specs.Underway.{earlier, IsUnderway, IsDecodedTo}
 use Rattle.dst_frames.proofs.History.{earlier-suc}
 use Rattle.dst_spec.proofs.Lists.{place-below}
+use Rattle.std.proofs.Math.Nat.{mul-le-mul_right}
 
 -- the byte of a sample stands before those of byte m
 same_sample : (f : Shape) (a b : List ℕ) (m c t : ℕ) → c < f.channels → ((k : ℕ) → k < m * f.channels → get_or a k 0 ≡ get_or b k 0) → t < 8 * m →
@@ -54,6 +55,12 @@ renamed f P reserved t place samples others decoder states same u = record {
   code = λ sound given. u.code sound (λ c h. given c h ∙ sym (same c h));
 }
 
+-- one sample more in front of those of the byte
+pub one_more_dropped : (place : ℕ) (xs ys zs : List ℕ) → drop 1 xs ≡ ys → drop place ys ≡ zs → drop (place + 1) xs ≡ zs
+one_more_dropped place xs ys zs e g =
+    let same : place + 1 ≡ 1 + place = omega arith in
+    ap (λ n. drop n xs) same ∙ sym (drop-drop place 1 xs) ∙ ap (drop place) e ∙ g
+
 -- the byte is finished
 pub byte_ends : (f : Shape) (P : Params) (reserved : Bool) (m : ℕ) (before after bytes : List ℕ) (later : ℕ →
     List ℕ) (decoder : Decoding) (states new : List ChannelState) →
@@ -86,5 +93,12 @@ put_mid-at a k j xs ys h le =
     ap (λ n. get_or (put_mid a k xs ys) (n + j) 0) (sym long) ∙ get_or-append-add (take a xs) (ys ++ post_of a k xs) j 0
     ∙ get_or_append_left ys (post_of a k xs) 0 j h
 
-pub row_inside : (m channels to n : ℕ) → m < to → to * channels ≤ n → m * channels ≤ n
-row_inside m channels to n h k = grind arith
+-- byte m of each channel lies inside
+pub bytes_inside : (m channels count n : ℕ) → channels ≡ count → (m + 1) * count ≤ n → m * channels + channels ≤ n
+bytes_inside m channels count n same h = rw same (omega (arith, h))
+
+-- also where more bytes of each lie inside
+pub row_inside : (m count octets n : ℕ) → m < octets → octets * count ≤ n → (m + 1) * count ≤ n
+row_inside m count octets n h k =
+    let le : m + 1 ≤ octets = omega arith in
+    omega (arith, mul-le-mul_right count le, k)

@@ -40,15 +40,8 @@ pub record IsNext (tables : ChannelTables) (place : ℕ) (early : Bool) (old new
   pub symbol : (filter : List ℤ) (probs samples : List ℕ) (pairs : List (Bool × ℕ)) → IsReady filter probs place samples before →
       StandsFor old pairs → StandsFor new (pairs ++ symbol_after filter probs early samples sample ∷ [])
 
--- One byte more of each channel is decoded: every sound that was decoded up to it, and has these bytes then, is decoded behind it.
-abbrev pub IsNextByte : List ChannelTables → ℕ → List ℕ → Decoding → Decoding → List ChannelState → List ChannelState → Type 0
-IsNextByte tables m bytes old new before after =
-    (f : Shape) (P : Params) (reserved : Bool) (sound later : List ℕ) → f.channels ≡ length tables → AreBuilt f P tables →
-    IsDecodedTo f P reserved m sound old before → ((k : ℕ) → k < m * f.channels → get_or later k 0 ≡ get_or sound k 0) →
-    ((c : ℕ) → c < f.channels → get_or later (m * f.channels + c) 0 ≡ get_or bytes c 0) → IsDecodedTo f P reserved (m + 1) later new after
-
--- So many bytes of each channel are decoded, of which none was before.
-abbrev pub AreAllDecoded : List ChannelTables → ℕ → List ℕ → List ℕ → Decoding → Decoding → List ChannelState → List ChannelState → Type 0
-AreAllDecoded tables octets out sound old new before after =
+-- The bytes of each channel from one on up to another are decoded: what was decoded up to the first is decoded up to the second.
+abbrev pub AreDecoded : List ChannelTables → ℕ → ℕ → List ℕ → List ℕ → Decoding → Decoding → List ChannelState → List ChannelState → Type 0
+AreDecoded tables from to out sound old new before after =
     (f : Shape) (P : Params) (reserved : Bool) → f.channels ≡ length tables → AreBuilt f P tables →
-    IsDecodedTo f P reserved 0 out old before → IsDecodedTo f P reserved octets sound new after
+    IsDecodedTo f P reserved from out old before → IsDecodedTo f P reserved to sound new after

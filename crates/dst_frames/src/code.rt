@@ -33,6 +33,7 @@ pub(crate) fn decode_code(
     requires states { length states.old ≡ length tables.old }
     requires some { 0 < length tables.old }
     requires few { length tables.old ≤ 6 }
+    requires least { 16 ≤ octets }
     requires most { octets < 2 ^ 20 }
     requires out { length out.old ≡ octets * length tables.old }
     ensures sound { IfOk result (λ used. (f : Shape) → f.channels ≡ length tables.old → f.octets ≡ octets

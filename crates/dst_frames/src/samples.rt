@@ -1,7 +1,7 @@
 // The samples of a frame, symbol after symbol.
-ghost use Rattle.std.specs.Prelude.{◌≡◌, ℕ, ◌+◌, ◌*◌, ◌/◌, ◌%◌, ◌<◌, ◌≤◌, ◌^◌, ℤ, List, length, get_or};
+ghost use Rattle.std.specs.Prelude.{◌≡◌, ℕ, ◌+◌, ◌*◌, ◌/◌, ◌%◌, ◌<◌, ◌≤◌, ◌^◌, false, ℤ, List, length, get_or};
 ghost use Rattle.dst_frames.specs.Ready.{IsReady};
-ghost use Rattle.dst_frames.specs.Underway.{IsFurther, IsNext, IsNextByte, AreAllDecoded};
+ghost use Rattle.dst_frames.specs.Underway.{IsFurther, IsNext, AreDecoded};
 ghost use Rattle.dst_frames.specs.declared.state.ChannelState.{ChannelState};
 
 use crate::state::ChannelState;
@@ -9,8 +9,8 @@ use crate::tables::{ChannelTables, prob_within};
 use arith_decoder::ArithDecoder;
 use byte_predictor::laws::samples_before;
 
-/// All samples of a frame, `octets` bytes of each channel. The caller has a copy of the loop for one channel, whose state
-/// then stays in registers.
+/// All samples of a frame, `octets` bytes of each channel. Only the first sixteen bytes of a channel can have early samples, since no
+/// filter is longer than 128. The caller has a copy of this for one channel, whose state then stays in registers.
 #[inline(always)]
 pub(crate) fn decode_samples(
     decoder: &mut ArithDecoder,
@@ -22,22 +22,23 @@ pub(crate) fn decode_samples(
 )
     requires channels { channels ≡ length tables.now }
     requires states { length states.old ≡ length tables.now }
+    requires least { 16 ≤ octets }
     requires most { octets < 2 ^ 20 }
     requires few { length tables.now ≤ 6 }
     requires inside { octets * length tables.now ≤ length out.old }
     requires room { decoder.old.used ≤ 2 ^ 16 }
-    ensures sound { AreAllDecoded tables.now octets out.old out.new decoder.old decoder.new states.old states.new }
+    ensures sound { AreDecoded tables.now 0 octets out.old out.new decoder.old decoder.new states.old states.new }
     ensures code { IsFurther decoder.old decoder.new (384 * octets) }
 {
-    for byte in 0..octets {
-        let place = byte * channels;
-        let bytes = &mut out[place..place + channels];
-        decode_byte(decoder, tables, states, channels, bytes, byte);
+    for byte in 0..16 {
+        decode_byte(decoder, tables, states, channels, out, byte, true);
+    }
+    for byte in 16..octets {
+        decode_byte(decoder, tables, states, channels, out, byte, false);
     }
 }
 
-// The next eight samples of each channel, one byte of each. Only the first sixteen bytes of a channel can have early samples,
-// since no filter is longer than 128.
+// The next eight samples of each channel, one byte of each.
 #[inline(always)]
 fn decode_byte(
     decoder: &mut ArithDecoder,
@@ -46,27 +47,29 @@ fn decode_byte(
     channels: usize,
     out: &mut [u8],
     byte: usize,
+    start: bool,
 )
     requires channels { channels ≡ length tables.now }
     requires states { length states.old ≡ length tables.now }
-    requires byte { byte < 2 ^ 32 }
+    requires byte { byte < 2 ^ 20 }
+    requires start { start ≡ false → 16 ≤ byte }
     requires few { length tables.now ≤ 6 }
-    requires out { length out.old ≡ length tables.now }
+    requires inside { (byte + 1) * length tables.now ≤ length out.old }
     requires room { decoder.old.used + 384 ≤ 2 ^ 40 }
-    ensures sound { IsNextByte tables.now byte out.new decoder.old decoder.new states.old states.new }
+    ensures sound { AreDecoded tables.now byte (byte + 1) out.old out.new decoder.old decoder.new states.old states.new }
     ensures code { IsFurther decoder.old decoder.new 384 }
-    ensures long { length out.new ≡ length tables.now }
 {
     samples_before();
     for place in 0..8 {
         for c in 0..channels {
             let channel = &tables[c];
-            let early = channel.is_early(byte, place, byte < 16);
+            let early = channel.is_early(byte, place, start);
             let alone = channels == 1;
             decode_sample(decoder, channel, &mut states[c], place, early, alone);
         }
     }
-    finish_byte(tables, states, channels, out);
+    let first = byte * channels;
+    finish_byte(tables, states, channels, &mut out[first..first + channels]);
 }
 
 // The next sample of a channel. An early one has the probability 128.

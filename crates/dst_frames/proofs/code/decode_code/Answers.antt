@@ -2,14 +2,14 @@ use Rattle.std.proofs.Common.{◌≡◌, ◌*◌, [], length, sym, subst₂, ◌
 use Rattle.dst_spec.specs.Bits.{bits}
 use Rattle.dst_spec.specs.Symbols.{symbols}
 use Rattle.dst_spec.specs.Interval.{IsCodeOf}
-use Rattle.dst_frames.specs.Underway.{IsFurther, AreAllDecoded}
+use Rattle.dst_frames.specs.Underway.{IsFurther, AreDecoded}
 use Rattle.dst_frames.proofs.Whole.{frame_begins, frame_ends}
 use Rattle.dst_frames.proofs.code.decode_code.Goals as goal
 use Rattle.dst_frames.proofs.code.decode_code.Goals.{in-1, in_default}
 
 -- by either copy of the loop
 all_decoded : (c : goal.After-used) →
-    AreAllDecoded c.build_all.new.tables c.args.octets c.args.out.now c.match-tables.out c.decode.new.self c.match-tables.decoder c.build_all.new.states
+    AreDecoded c.build_all.new.tables 0 c.args.octets c.args.out.now c.match-tables.out c.decode.new.self c.match-tables.decoder c.build_all.new.states
     c.match-tables.states × IsFurther c.decode.new.self c.match-tables.decoder (384 * c.args.octets)
 all_decoded c = elim c.match-tables.branch [
   | in-1 w ↦ rw (w.states-is, w.out-is, w.decoder-is) (w.decode_samples.ensures.sound, w.decode_samples.ensures.code)

@@ -1,11 +1,12 @@
-use Rattle.std.proofs.Common.{◌≡◌, ℕ, ◌+◌, ◌*◌, ◌<◌, false, nat_lt, [], length, get_or, drop, refl, ap, sym, subst, ◌∙◌, arith, drop-drop, ltb-false}
+use Rattle.std.proofs.Common.{◌≡◌, ℕ, ◌+◌, ◌-◌, ◌*◌, ◌<◌, ◌≤◌, false, [], length, get_or, drop, refl, ap, sym, subst, ◌∙◌, arith}
 use Rattle.dst_spec.specs.Guess.{filter_of, probs_of}
 use Rattle.dst_frames.specs.Ready.{IsReady}
 use Rattle.dst_frames.specs.Tables.{IsBuilt}
 use Rattle.dst_frames.specs.declared.state.ChannelState.{ChannelState}
 use Rattle.dst_frames.specs.declared.tables.ChannelTables.{ChannelTables}
 use Rattle.dst_frames.specs.Underway.{earlier, IsUnderway}
-use Rattle.dst_frames.proofs.Bytes.{byte_ends}
+use borrow.Rule.Slice.PartMut.{put_mid}
+use Rattle.dst_frames.proofs.Bytes.{one_more_dropped, byte_ends, put_mid-below, put_mid-at, bytes_inside}
 use Rattle.dst_frames.proofs.Early.{early_is}
 use Rattle.dst_frames.proofs.Further.{no_further, further}
 use Rattle.dst_frames.proofs.History.{Predicts}
@@ -47,8 +48,8 @@ loop-c-preserved c =
           let half_prob = get_or P.half_prob done false in
           let here : IsBuilt (filter_of P done) (probs_of P done) half_prob table =
           subst (IsBuilt (filter_of P done) (probs_of P done) half_prob) (sym c.index-tables-c.is) (built done table lt) in
-          let early = c.is_early-early.ensures ∙ early_is half_prob (nat_lt c.args.byte 16) c.args.byte place table.early (length (filter_of P done))
-          here.early here.short (ltb-false c.args.byte 16) in
+          let early = c.is_early-early.ensures ∙ early_is half_prob c.args.start c.args.byte place table.early (length (filter_of P done))
+          here.early here.short c.requires.start in
           let row = c.loop-c.invariant.row f P reserved samples count built u in
           let none : ChannelState = record { ahead = record { lanes = []; newest = 0 }; next = 0 } in
           let old = row.before done none (omega arith) lt in
@@ -72,17 +73,25 @@ loop-place-preserved c =
           let more : 8 * c.args.byte + place + 1 ≡ 8 * c.args.byte + (place + 1) = omega arith in
           let one_more : 1 + place ≡ place + 1 = omega arith in (
             e.0,
-            λ j h. ap (λ n. drop n (e.0 j)) (sym one_more) ∙ sym (drop-drop place 1 (e.0 j)) ∙ ap (drop place) (e.1 j h) ∙ s.1 j h,
+            λ j h. one_more_dropped place (e.0 j) (s.0 j) (samples j) (e.1 j h) (s.1 j h),
             subst (λ n. IsUnderway f P reserved n (place + 1) e.0 c.loop-c.decoder c.loop-c.states) more e.2,
           );
     }
 
 pub returns-clause-sound : goal.returns-clause-sound
-returns-clause-sound c = λ f P reserved before after count built start same given.
+returns-clause-sound c = λ f P reserved count built start.
     let m = c.args.byte in
     let tables = c.args.tables.now in
     let states = c.loop-place.states in
     let new = c.finish_byte.new.states in
+    let before = c.args.out.now in
+    let bytes = c.finish_byte.new.out in
+    let channels = c.args.channels in
+    let are = c.requires.channels in
+    let first = m * channels in
+    let inside : first + channels ≤ length before = bytes_inside m channels (length tables) (length before) are c.requires.inside in
+    let after = put_mid first (first + channels - first) before bytes in
+    let same_first : m * f.channels ≡ first = ap (λ n. m * n) (count ∙ sym are) in
     let state : ChannelState = record { ahead = record { lanes = []; newest = 0 }; next = 0 } in
     let s = c.loop-place.invariant.samples f P reserved (λ j. earlier f before j (8 * m)) count built start in
     let later = s.0 in
@@ -90,7 +99,9 @@ returns-clause-sound c = λ f P reserved before after count built start same giv
     let u : IsUnderway f P reserved (8 * m + 8) 8 later c.loop-place.decoder states =
     subst (λ n. IsUnderway f P reserved (8 * m + n) n later c.loop-place.decoder states) all s.2 in
     let behind : (j : ℕ) → j < f.channels → drop 8 (later j) ≡ earlier f before j (8 * m) = λ j h. ap (λ n. drop n (later j)) (sym all) ∙ s.1 j h in
-    byte_ends f P reserved m before after c.finish_byte.new.out later c.loop-place.decoder states new u behind same given
+    byte_ends f P reserved m before after bytes later c.loop-place.decoder states new u behind
+    (λ k h. put_mid-below first (first + channels - first) k before bytes (omega arith) (omega arith))
+    (λ j h. ap (λ n. get_or after (n + j) 0) same_first ∙ put_mid-at first (first + channels - first) j before bytes (omega arith) (omega arith))
     (λ j h k l. c.finish_byte.ensures.newest j state (filter_of P j) (probs_of P j) (later j) 8 (omega arith) (u.ready j state h) k l)
     (λ j other h.
     let table : ChannelTables = record { filter = []; entries = []; early = 0 } in
