@@ -1,0 +1,9 @@
+-- worked examples
+pub mod Examples
+pub mod Frames
+-- the laws
+pub mod Sums
+pub mod Steps
+pub mod Bounds
+pub mod Tables
+pub mod Lawful

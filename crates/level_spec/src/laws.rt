@@ -1,0 +1,17 @@
+// Laws of picks. The functions do nothing: their clauses are what is proved.
+ghost use Rattle.level_spec.specs.Laws.{OneRecursionLaw, BoundsLaw, PicksLaw};
+
+/// One recursion gives the values of each order.
+pub fn one_recursion_law()
+    ensures { OneRecursionLaw }
+{}
+
+/// No divisor of the recursion is 0, and all its numbers stay small.
+pub fn bounds_law()
+    ensures { BoundsLaw }
+{}
+
+/// The picks of a level are few, and each is lawful parameters of the channels.
+pub fn picks_law()
+    ensures { PicksLaw }
+{}
