@@ -1,0 +1,5 @@
+pub mod Bits
+pub mod Tallies
+pub mod Differing
+pub mod Compared
+pub mod Correlating

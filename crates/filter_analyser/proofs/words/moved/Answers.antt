@@ -1,0 +1,18 @@
+use Rattle.std.proofs.Common.{◌≡◌, ◌-◌, ◌*◌, ◌/◌, ◌%◌, ◌^◌, ◌<◌, ◌≤◌, true, false, cond, nat_lt, bit_or, inl, inr, ap, sym, ◌∙◌, rules, arith}
+use Rattle.std.proofs.lemmas.Bool.{cases_lt}
+use Rattle.filter_analyser.proofs.Bits.{moved-near, moved-far}
+use Rattle.filter_analyser.proofs.Differing.{test-true, test-false}
+use Rattle.filter_analyser.proofs.words.moved.Goals as goal
+
+pub returns : goal.returns
+returns c = λ i inside.
+    let word = c.args.word in
+    let before = c.args.before in
+    let lag = c.args.lag in
+    let fits : word < 2 ^ 64 = search rules in
+    let far = before / 2 ^ (lag - 1 - i) % 2 in
+    let near = word / 2 ^ (63 - (i - lag)) % 2 in
+    elim (cases_lt i lag) [
+      | inl h ↦ moved-far word before lag i fits (omega arith) h ∙ sym (ap (λ b. cond b far near) (test-true i lag h))
+      | inr h ↦ moved-near word before lag i (omega arith) (omega arith) h inside ∙ sym (ap (λ b. cond b far near) (test-false i lag h))
+    ]

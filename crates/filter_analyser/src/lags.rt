@@ -1,0 +1,48 @@
+// How far a channel's samples agree with those some places before.
+ghost use Rattle.std.specs.Prelude.{◌≡◌, ℕ, ◌<◌, ◌≤◌, pos, List, [], ◌∷◌, length, get_or};
+ghost use Rattle.dst_spec.specs.Sample.{Shape, sound_bytes};
+ghost use Rattle.level_spec.specs.Correlation.{correlation, correlations};
+ghost use Rattle.filter_analyser.specs.Words.{HasSamples};
+
+use crate::words::{compare, pack};
+use dst_num::Channels;
+
+/// The words of a channel at the highest rate.
+const WORDS: usize = 2352;
+
+/// The correlations of a channel of a frame's sound at the lags 0 to 128: the number of pairs of samples so many places apart
+/// that agree, less that of those that differ.
+pub fn correlate(sound: &[u8], channels: Channels, channel: usize, lags: &mut [i64; 129])
+    requires sound { length sound.now ≡ sound_bytes channels }
+    requires channel { channel < channels.channels }
+    ensures { lags.new ≡ correlations channels sound.now (channel ∷ []) }
+{
+    let count = 588 * channels.multiple();
+    let mut words = [0u64; WORDS];
+    pack(&mut words[..count], sound, channels.count(), channel);
+    let mut behind = words;
+    correlate_words(&words[..count], &mut behind[..count], lags);
+}
+
+// The correlations of the samples of words.
+fn correlate_words(words: &[u64], behind: &mut [u64], lags: &mut [i64; 129])
+    requires same { behind.old ≡ words.now }
+    requires least { 2 ≤ length words.now }
+    requires most { length words.now ≤ 2352 }
+    ensures long { length lags.new ≡ 129 }
+    ensures lags { (f : Shape) (sound : List ℕ) (c : ℕ) → HasSamples f sound c words.now → (k : ℕ) → k < 129
+        → get_or lags.new k (pos 0) ≡ correlation f sound c k }
+{
+    let samples = 64 * words.len();
+    lags[0] = samples as i64;
+    let mut early = 0;
+    for turn in 0..16usize {
+        let counts = compare(words, behind);
+        for place in 0..8usize {
+            let last = 8 * turn + place;
+            early += (words[last / 64] >> (63 - last % 64) & 1) as u32;
+            let agreeing = (samples - last - 1) as i64;
+            lags[last + 1] = agreeing - 2 * i64::from(counts[place] - early);
+        }
+    }
+}
