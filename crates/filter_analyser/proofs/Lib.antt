@@ -3,3 +3,7 @@ pub mod Tallies
 pub mod Differing
 pub mod Compared
 pub mod Correlating
+pub mod Shares
+pub mod Moving
+pub mod Stepping
+pub mod Padding

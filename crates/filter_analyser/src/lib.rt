@@ -11,6 +11,8 @@
 #![tactic(auto)]
 
 mod lags;
+mod recursion;
 mod words;
 
 pub use lags::correlate;
+pub use recursion::{solve_all, solve_filter};

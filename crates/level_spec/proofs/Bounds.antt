@@ -7,7 +7,7 @@ use Rattle.std.specs.List.{AllByRecursion, list_any}
 use Rattle.level_spec.specs.Recursion.{State, lag, whole, begin, reflection, moved, stops, fallen, step, after}
 use Rattle.level_spec.proofs.Steps.{by_step}
 
-square : (f : ℤ) → f *ℤ f ≡ pos (nat_abs f * nat_abs f)
+pub square : (f : ℤ) → f *ℤ f ≡ pos (nat_abs f * nat_abs f)
 square (pos n) = refl
 square (negsuc n) = refl
 
@@ -28,7 +28,7 @@ fallen-bounds (pos e) f h k =
     (omega (arith, ints), omega (arith, ints))
 fallen-bounds (negsuc e) f h k = absurd (omega (arith, ints))
 
-none_above : (values : List ℤ) → list_any (λ b. nat_lt (2 ^ 40) (nat_abs b)) values ≡ false → AllByRecursion (λ a. nat_abs a ≤ 2 ^ 40) values
+pub none_above : (values : List ℤ) → list_any (λ b. nat_lt (2 ^ 40) (nat_abs b)) values ≡ false → AllByRecursion (λ a. nat_abs a ≤ 2 ^ 40) values
 none_above [] h = tt
 none_above (a ∷ values) h =
     elim (nat_lt (2 ^ 40) (nat_abs a)) as (λ b. (nat_lt (2 ^ 40) (nat_abs a) ≡ b) → (b || list_any (λ b. nat_lt (2 ^ 40) (nat_abs b)) values) ≡ false → AllByRecursion (λ a. nat_abs a ≤ 2 ^ 40) (a ∷ values)) [

@@ -1,0 +1,75 @@
+-- How great products, sums and shares of small numbers can be.
+use Rattle.std.proofs.Common.{◌≡◌, ℕ, zero, suc, ◌+◌, ◌-◌, ◌*◌, ◌/◌, ◌%◌, ◌^◌, ◌<◌, ◌≤◌, ℤ, pos, negsuc, ◌+ℤ◌, ◌-ℤ◌, ◌*ℤ◌, ◌≤ℤ◌, nat_abs, to_z, of_z, List, [], ◌∷◌, length, get_or, refl, ap, sym, ◌∙◌, arith}
+use mir.Syntax.{w64, w128}
+use Rattle.std.proofs.lemmas.Int.{ints, unsigned_abs-mul}
+use Rattle.std.proofs.lemmas.Nat.{mul-le, div_below}
+use Rattle.std.specs.List.{AllByRecursion}
+use lib.Signed.{shr_z}
+use Rattle.level_spec.specs.Correlation.{sum_over}
+use Rattle.level_spec.specs.Recursion.{lag, value, whole, left_over}
+use Rattle.level_spec.specs.Laws.{AreCorrelations}
+use Rattle.level_spec.proofs.Sums.{sum_over-below}
+
+pub product-most : (a b : ℤ) (m n : ℕ) → nat_abs a ≤ m → nat_abs b ≤ n → nat_abs (a *ℤ b) ≤ m * n
+product-most a b m n h k = let e : nat_abs (a *ℤ b) ≡ nat_abs a * nat_abs b = unsigned_abs-mul a b in omega (arith, mul-le (nat_abs a) (nat_abs b) m n h k)
+
+-- a number of m whole parts has no greater whole part
+pub whole-most : (z : ℤ) (m : ℕ) → nat_abs z ≤ m * 2 ^ 24 → nat_abs (whole z) ≤ m
+whole-most (pos a) m h = omega arith
+whole-most (negsuc a) m h = omega arith
+
+pub each-most : (values : List ℤ) (m k : ℕ) → AllByRecursion (λ a. nat_abs a ≤ m) values → nat_abs (get_or values k (pos 0)) ≤ m
+each-most [] m k h = omega arith
+each-most (a ∷ values) m zero h = h.0
+each-most (a ∷ values) m (suc k) h = each-most values m k h.1
+
+-- what values of 40 bits leave of a correlation has at most 68
+pub left-most : (lags values : List ℤ) (i n : ℕ) → AreCorrelations lags → ((k : ℕ) → nat_abs (get_or values k (pos 0)) ≤ 2 ^ 40) → n ≤ 128 →
+    nat_abs (lag lags i *ℤ pos (2 ^ 24) -ℤ sum_over (λ j. value values j *ℤ lag lags (i - j)) 1 n) ≤ 2 ^ 68
+left-most lags values i n h small few =
+    let most : lag lags 0 ≤ℤ pos (2 ^ 20) = h.most in
+    let first : pos 1 ≤ℤ lag lags 0 = h.least in
+    let each : (k : ℕ) → nat_abs (lag lags k) ≤ 2 ^ 20 = λ k. let o = h.others k in omega (arith, ints) in
+    let here = each i in
+    let sum = sum_over-below (λ j. value values j *ℤ lag lags (i - j)) 1 n (2 ^ 40 * 2 ^ 20) (λ j _ _. product-most (value values j) (lag lags (i - j)) (2 ^ 40) (2 ^ 20) (small (j - 1)) (each (i - j))) in
+    omega (arith, ints)
+
+pub same_64 : (z : ℤ) → nat_abs z ≤ 2 ^ 62 → to_z w64 (of_z w64 z) ≡ z
+same_64 z h = omega (arith, ints)
+
+pub same_128 : (z : ℤ) → nat_abs z ≤ 2 ^ 126 → to_z w128 (of_z w128 z) ≡ z
+same_128 z h = omega (arith, ints)
+
+pub lags-most : (lags : List ℤ) (k : ℕ) → AreCorrelations lags → nat_abs (get_or lags k (pos 0)) ≤ 2 ^ 20
+lags-most lags k h =
+    let most : lag lags 0 ≤ℤ pos (2 ^ 20) = h.most in
+    let first : pos 1 ≤ℤ lag lags 0 = h.least in
+    let o = h.others k in
+    omega (arith, ints)
+
+-- the next share is taken from what is left
+pub left-next : (lags values : List ℤ) (i j : ℕ) → 1 ≤ j →
+    lag lags i *ℤ pos (2 ^ 24) -ℤ sum_over (λ j. value values j *ℤ lag lags (i - j)) 1 (j - 1) -ℤ (get_or values (j - 1) (pos 0) *ℤ get_or lags (i - j) (pos 0))
+    ≡ lag lags i *ℤ pos (2 ^ 24) -ℤ sum_over (λ j. value values j *ℤ lag lags (i - j)) 1 (j + 1 - 1)
+unfolding sum_over
+left-next lags values i (suc n) h =
+    let F : ℕ → ℤ = λ j. value values j *ℤ lag lags (i - j) in
+    let a : sum_over F 1 (suc n - 1) ≡ sum_over F 1 n = let e : suc n - 1 ≡ n = omega arith in ap (sum_over F 1) e in
+    let b : sum_over F 1 (suc n + 1 - 1) ≡ sum_over F 1 n +ℤ F (1 + n) = let e : suc n + 1 - 1 ≡ suc n = omega arith in ap (sum_over F 1) e in
+    let d : F (1 + n) ≡ F (suc n) = let e : 1 + n ≡ suc n = omega arith in ap F e in
+    omega (arith, ints)
+left-next lags values i zero h = absurd (omega arith)
+
+pub shifted : (z : ℤ) → shr_z z (2 ^ 24) ≡ whole z
+shifted (pos a) = refl
+shifted (negsuc a) = refl
+
+-- a part of a number, in the product's bits
+pub share-is : (a b p : ℤ) → nat_abs a ≤ 2 ^ 24 → nat_abs b ≤ 2 ^ 44 → p ≡ to_z w64 (of_z w64 a) *ℤ to_z w64 (of_z w64 b) →
+    (shr_z (to_z w128 (of_z w128 p)) 16777216 ≡ whole (a *ℤ b)) × (nat_abs (whole (a *ℤ b)) ≤ nat_abs b) × (nat_abs (whole (a *ℤ b)) ≤ 2 ^ 44)
+share-is a b p h k e =
+    let is : p ≡ a *ℤ b = e ∙ ap (λ z. z *ℤ to_z w64 (of_z w64 b)) (same_64 a (omega arith)) ∙ ap (λ z. a *ℤ z) (same_64 b (omega arith)) in
+    let size : nat_abs (a *ℤ b) ≤ 2 ^ 24 * nat_abs b = product-most a b (2 ^ 24) (nat_abs b) h (omega arith) in
+    let small : nat_abs p ≤ 2 ^ 126 = rw is (omega arith) in
+    let least = whole-most (a *ℤ b) (nat_abs b) (omega arith) in
+    (ap (λ z. shr_z z 16777216) (same_128 p small ∙ is) ∙ shifted (a *ℤ b), least, omega arith)

@@ -1,0 +1,15 @@
+use Rattle.std.proofs.Common.{◌≡◌, ℕ, ◌+◌, ◌*◌, ◌^◌, ◌<◌, ◌≤◌, ℤ, pos, ◌*ℤ◌, ◌≤ℤ◌, nat_abs, to_z, of_z, [], get_or, refl, ap, sym, ◌∙◌, rules, arith}
+use mir.Syntax.{w64}
+use Rattle.std.proofs.lemmas.Int.{ints}
+use Rattle.level_spec.specs.Recursion.{State, lag, begin}
+use Rattle.filter_analyser.proofs.Shares.{lags-most}
+use Rattle.filter_analyser.proofs.recursion.Run.begin.Goals as goal
+
+pub returns : goal.returns
+unfolding begin
+returns c =
+    let r = get_or c.args.lags.now 0 (pos 0) in
+    let small = lags-most c.args.lags.now 0 c.requires in
+    let is : to_z w64 (of_z w64 (to_z w64 (of_z w64 r) *ℤ pos 16777216)) ≡ r *ℤ pos 16777216 = omega (arith, ints) in
+    let E : ℤ → State = λ e. record { error = e; values = [] } in
+    ap E is

@@ -1,0 +1,215 @@
+// From correlations to the values of filters, all orders in one run.
+ghost use Rattle.std.specs.Prelude.{◌≡◌, ℕ, ◌+◌, ◌-◌, ◌*◌, ◌^◌, ◌<◌, ◌≤◌, ℤ, pos, ◌*ℤ◌, ◌≤ℤ◌, nat_abs, nat_lt, false, [], length, map, get_or, take};
+ghost use Rattle.std.specs.List.{list_any};
+ghost use Rattle.level_spec.specs.Recursion.{whole, left_over as left_over_of, reflection, moved as moved_of, begin, step as step_of, fallen as fallen_of, after, solution};
+ghost use Rattle.level_spec.specs.Laws.{AreCorrelations};
+ghost use Rattle.level_spec.specs.Picks.{orders};
+ghost use Rattle.filter_analyser.specs.Run.{padded};
+
+use std::marker::Model;
+
+// 1 with 24 fraction bits.
+const ONE: i64 = 16_777_216;
+
+/// The values of a filter of an order from 1 to 128, with 24 fraction bits, and zeros behind them.
+pub fn solve_filter(lags: &[i64; 129], order: usize) -> [i64; 128]
+    requires correlations { AreCorrelations lags.now }
+    requires least { 1 ≤ order }
+    requires most { order ≤ 128 }
+    ensures { result ≡ padded (solution lags.now order) }
+{
+    let mut run = Run::begin(lags);
+    run.advance(lags, 0, order);
+    run.padded()
+}
+
+/// The values of the filters of orders 16, 32, 64 and 128, as `solve_filter` answers them.
+pub fn solve_all(lags: &[i64; 129]) -> [[i64; 128]; 4]
+    requires { AreCorrelations lags.now }
+    ensures { result ≡ map (λ order. padded (solution lags.now order)) orders }
+{
+    let mut run = Run::begin(lags);
+    let mut solutions = [[0; 128]; 4];
+    run.advance(lags, 0, 16);
+    solutions[0] = run.padded();
+    run.advance(lags, 16, 32);
+    solutions[1] = run.padded();
+    run.advance(lags, 32, 64);
+    solutions[2] = run.padded();
+    run.advance(lags, 64, 128);
+    solutions[3] = run.padded();
+    solutions
+}
+
+/// The state of the recursion after some steps.
+#[derive(Drop)]
+struct Run {
+    error: i64,
+    values: [i64; 128],
+    steps: usize,
+}
+
+impl Model for Run {
+    ghost use Rattle.std.specs.Prelude.{◌≤◌, take};
+    ghost use Rattle.level_spec.specs.Recursion.{State};
+    ghost use Rattle.filter_analyser.specs.Run.{IsRun};
+
+    ghost Value = { State };
+
+    ghost view = { λ r. record { error = r.error; values = take r.steps r.values } };
+
+    ghost invariant = { λ r. (r.steps ≤ 128) × IsRun (record { error = r.error; values = take r.steps r.values }) };
+}
+
+impl Run {
+    fn begin(lags: &[i64; 129]) -> Run
+        requires { AreCorrelations lags.now }
+        ensures { result ≡ begin lags.now }
+    {
+        Run {
+            error: lags[0] * ONE,
+            values: [0; 128],
+            steps: 0,
+        }
+    }
+
+    // Goes on from the state after so many steps to that after more.
+    fn advance(&mut self, lags: &[i64; 129], from: usize, to: usize)
+        requires correlations { AreCorrelations lags.now }
+        requires less { from ≤ to }
+        requires most { to ≤ 128 }
+        requires at { self.old ≡ after lags.now from }
+        ensures { self.new ≡ after lags.now to }
+    {
+        for _step in from..to {
+            if !self.step(lags) {
+                break;
+            }
+        }
+    }
+
+    // One step, and whether it was made. Where it stops, all is as it was.
+    fn step(&mut self, lags: &[i64; 129]) -> bool
+        requires correlations { AreCorrelations lags.now }
+        requires room { length self.old.values < 128 }
+        ensures state { self.new ≡ step_of lags.now self.old }
+        ensures stop { result ≡ false → self.new ≡ self.old }
+    {
+        let place = self.steps + 1;
+        let values = &self.values[..self.steps];
+        let next_value = next_value(lags, values, self.error);
+        if next_value.unsigned_abs() >= 1 << 24 {
+            return false;
+        }
+        let reflection = next_value as i64;
+        let next = moved(values, reflection);
+        if has_large(&next[..place]) {
+            return false;
+        }
+        self.error = fallen(self.error, reflection);
+        self.values = next;
+        self.steps = place;
+        true
+    }
+
+    // The values, and zeros behind them.
+    fn padded(&self) -> [i64; 128]
+        ensures { result ≡ padded self.now.values }
+    {
+        let mut all = [0; 128];
+        for place in 0..self.steps {
+            all[place] = self.values[place];
+        }
+        all
+    }
+}
+
+fn product(a: i64, b: i64) -> i128
+    ensures { result ≡ a *ℤ b }
+{
+    i128::from(a) * i128::from(b)
+}
+
+// A part of a number, at most the whole one, rounded down.
+fn share(part: i64, number: i64) -> i64
+    requires part { nat_abs part ≤ 2 ^ 24 }
+    requires number { nat_abs number ≤ 2 ^ 44 }
+    ensures share { result ≡ whole (part *ℤ number) }
+    ensures most { nat_abs result ≤ nat_abs number }
+{
+    (product(part, number) >> 24) as i64
+}
+
+// What the values leave of a correlation.
+fn left_over(lags: &[i64; 129], values: &[i64], place: usize) -> i128
+    requires correlations { AreCorrelations lags.now }
+    requires values { (k : ℕ) → nat_abs (get_or values.now k (pos 0)) ≤ 2 ^ 40 }
+    requires place { place ≡ length values.now + 1 }
+    requires most { place ≤ 128 }
+    ensures left { result ≡ left_over_of lags.now values.now place }
+    ensures most { nat_abs result ≤ 2 ^ 68 }
+{
+    let mut rest = product(lags[place], ONE);
+    for j in 1..place {
+        rest -= product(values[j - 1], lags[place - j]);
+    }
+    rest
+}
+
+// The value that a step adds, by which it moves the others.
+fn next_value(lags: &[i64; 129], values: &[i64], error: i64) -> i128
+    requires correlations { AreCorrelations lags.now }
+    requires values { (k : ℕ) → nat_abs (get_or values.now k (pos 0)) ≤ 2 ^ 40 }
+    requires few { length values.now < 128 }
+    requires error { pos 1 ≤ℤ error }
+    ensures { result ≡ reflection lags.now (record { error = error; values = values.now }) (length values.now + 1) }
+{
+    let rest = left_over(lags, values, values.len() + 1);
+    (rest * i128::from(ONE)).div_euclid(i128::from(error))
+}
+
+// The values, moved by the next one, and that one.
+fn moved(values: &[i64], reflection: i64) -> [i64; 128]
+    requires values { (k : ℕ) → nat_abs (get_or values.now k (pos 0)) ≤ 2 ^ 40 }
+    requires few { length values.now < 128 }
+    requires reflection { nat_abs reflection < 2 ^ 24 }
+    ensures { take (length values.now + 1) result ≡ moved_of values.now reflection (length values.now + 1) }
+{
+    let mut next = [0; 128];
+    fill_moved(&mut next[..values.len() + 1], values, reflection);
+    next
+}
+
+fn fill_moved(next: &mut [i64], values: &[i64], reflection: i64)
+    requires values { (k : ℕ) → nat_abs (get_or values.now k (pos 0)) ≤ 2 ^ 40 }
+    requires reflection { nat_abs reflection < 2 ^ 24 }
+    requires long { length next.old ≡ length values.now + 1 }
+    ensures { next.new ≡ moved_of values.now reflection (length values.now + 1) }
+{
+    let place = next.len();
+    for j in 1..place {
+        let value = values[j - 1] - share(reflection, values[place - j - 1]);
+        next[j - 1] = value;
+    }
+    next[place - 1] = reflection;
+}
+
+// Whether a value has more than 40 bits.
+fn has_large(values: &[i64]) -> bool
+    ensures { result ≡ list_any (λ b. nat_lt (2 ^ 40) (nat_abs b)) values.now }
+{
+    values.iter().any(|value| value.unsigned_abs() > 1 << 40)
+}
+
+// The error behind a step.
+fn fallen(error: i64, reflection: i64) -> i64
+    requires least { pos 1 ≤ℤ error }
+    requires most { error ≤ℤ pos (2 ^ 44) }
+    requires reflection { nat_abs reflection < 2 ^ 24 }
+    ensures fallen { result ≡ fallen_of error reflection }
+    ensures least { pos 1 ≤ℤ result }
+    ensures most { result ≤ℤ error }
+{
+    let square = share(reflection, reflection);
+    error - share(square, error)
+}
