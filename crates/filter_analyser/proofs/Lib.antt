@@ -7,3 +7,4 @@ pub mod Shares
 pub mod Moving
 pub mod Stepping
 pub mod Padding
+pub mod Scaling

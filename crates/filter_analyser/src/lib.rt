@@ -12,7 +12,9 @@
 
 mod lags;
 mod recursion;
+mod scale;
 mod words;
 
 pub use lags::correlate;
 pub use recursion::{solve_all, solve_filter};
+pub use scale::quantise;
