@@ -206,7 +206,7 @@ table_to_place_63 = refl
 pub for_each_channel : per_channel pair (255 ∷ 170 ∷ []) 2 ≡ record {
   filter_map = 0 ∷ 1 ∷ [];
   prob_map = 0 ∷ 1 ∷ [];
-  half = true ∷ true ∷ [];
+  half_prob = true ∷ true ∷ [];
   filters = (pos 239 ∷ negsuc 16 ∷ []) ∷ (negsuc 238 ∷ negsuc 16 ∷ []) ∷ [];
   probs = (replicate 27 128 ++ 1 ∷ []) ∷ (replicate 27 128 ++ 1 ∷ []) ∷ [];
 }
@@ -216,7 +216,7 @@ for_each_channel = refl
 pub for_both_channels : shared pair (255 ∷ 170 ∷ []) 2 ≡ record {
   filter_map = 0 ∷ 0 ∷ [];
   prob_map = 0 ∷ 0 ∷ [];
-  half = true ∷ true ∷ [];
+  half_prob = true ∷ true ∷ [];
   filters = (pos 0 ∷ pos 192 ∷ []) ∷ [];
   probs = (replicate 24 128 ++ 1 ∷ []) ∷ [];
 }

@@ -7,7 +7,7 @@ use Rattle.dst_spec.specs.Sample.{Shape, IsShape}
 use Rattle.dst_spec.specs.Table.{filter_kind, prob_kind, IsTable}
 use Rattle.dst_spec.specs.Map.{Numbers, element_count}
 use Rattle.dst_spec.specs.Header.{IsParams}
-use Rattle.dst_spec.proofs.Each.{all_map, all_range}
+use Rattle.dst_spec.proofs.Lists.{all_map, all_range}
 use Rattle.level_spec.specs.Correlation.{correlations}
 use Rattle.level_spec.specs.Recursion.{solution}
 use Rattle.level_spec.specs.Counts.{counted}
@@ -51,7 +51,7 @@ IsParams-per_channel f sound order least most =
     record {
       filter_map = (long, numbered 0 C);
       prob_map = (long, numbered 0 C);
-      half = length-replicate C true;
+      half_prob = length-replicate C true;
       filter_count = omega (arith, filters, count);
       prob_count = omega (arith, tables, count);
       filters = all_map (IsTable filter_kind) filter (range_with_len 0 C) (all_range (λ c. IsTable filter_kind (filter c)) 0 C (λ c h. IsTable-filter_for f sound order (c ∷ []) least most));
@@ -69,7 +69,7 @@ IsParams-shared f sound order some least most =
     record {
       filter_map = (length-replicate C 0, zeros 0 C);
       prob_map = (length-replicate C 0, zeros 0 C);
-      half = length-replicate C true;
+      half_prob = length-replicate C true;
       filter_count = one_number C some;
       prob_count = one_number C some;
       filters = (IsTable-filter_for f sound order (channels_of f) least most, tt);

@@ -6,7 +6,7 @@ use Rattle.std.proofs.lemmas.List.FromFn.{length-map-range_with_len}
 use Rattle.std.specs.List.{AllByRecursion, range_with_len}
 use Rattle.dst_spec.specs.Table.{filter_kind, prob_kind, InRange, IsTable}
 use Rattle.dst_spec.specs.Sample.{Shape}
-use Rattle.dst_spec.proofs.Each.{all_map, all_range}
+use Rattle.dst_spec.proofs.Lists.{all_map, all_range, all_take}
 use Rattle.level_spec.specs.Recursion.{after, solution}
 use Rattle.level_spec.specs.Scale.{coefficient, scale, bounded, last_place, quantised}
 use Rattle.level_spec.specs.Counts.{entry, table_of, total, wrong, counted}
@@ -29,11 +29,6 @@ bounded-range q = (omega (arith, ints, clamps), omega (arith, ints, clamps))
 all_anyway : {A : Type 0} (P : A → Type 0) (xs : List A) → ((x : A) → P x) → AllByRecursion P xs
 all_anyway P [] h = tt
 all_anyway P (x ∷ xs) h = (h x, all_anyway P xs h)
-
-all_take : {A : Type 0} (P : A → Type 0) (n : ℕ) (xs : List A) → AllByRecursion P xs → AllByRecursion P (take n xs)
-all_take P zero xs h = tt
-all_take P (suc n) [] h = tt
-all_take P (suc n) (x ∷ xs) h = (h.0, all_take P n xs h.1)
 
 pub IsTable-quantised : (values : List ℤ) → 1 ≤ length values → length values ≤ 128 → IsTable filter_kind (quantised values)
 unfolding quantised

@@ -20,7 +20,7 @@ unfoldable pub per_channel : Shape → List ℕ → ℕ → Params
 per_channel f sound order = record {
   filter_map = channels_of f;
   prob_map = channels_of f;
-  half = replicate f.channels true;
+  half_prob = replicate f.channels true;
   filters = map (λ c. filter_for f sound order (c ∷ [])) (channels_of f);
   probs = map (λ c. counted f sound (c ∷ []) (filter_for f sound order (c ∷ []))) (channels_of f);
 }
@@ -30,7 +30,7 @@ unfoldable pub shared : Shape → List ℕ → ℕ → Params
 shared f sound order = record {
   filter_map = replicate f.channels 0;
   prob_map = replicate f.channels 0;
-  half = replicate f.channels true;
+  half_prob = replicate f.channels true;
   filters = filter_for f sound order (channels_of f) ∷ [];
   probs = counted f sound (channels_of f) (filter_for f sound order (channels_of f)) ∷ [];
 }
