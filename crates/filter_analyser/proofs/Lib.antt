@@ -8,3 +8,4 @@ pub mod Moving
 pub mod Stepping
 pub mod Padding
 pub mod Scaling
+pub mod Counting

@@ -10,11 +10,13 @@
 //! ```
 #![tactic(auto)]
 
+mod counts;
 mod lags;
 mod recursion;
 mod scale;
 mod words;
 
+pub use counts::count_table;
 pub use lags::correlate;
 pub use recursion::{solve_all, solve_filter};
 pub use scale::quantise;

@@ -17,7 +17,9 @@ mod fill;
 pub mod laws;
 mod predictions;
 mod row;
+mod single;
 #[cfg(test)]
 mod tests;
 
 pub use predictions::Predictions;
+pub use single::write_codes;

@@ -1,0 +1,79 @@
+use Rattle.std.proofs.Common.{◌≡◌, ℕ, zero, suc, ◌+◌, ◌-◌, ◌*◌, ◌^◌, ◌<◌, ◌≤◌, ◌==◌, List, length, get_or, take, drop, replicate, inl, inr, length-take, length-drop, refl, ap, sym, ◌∙◌, subst, rules, arith}
+use Rattle.std.proofs.lemmas.Bool.{cases_lt}
+use Rattle.std.proofs.lemmas.List.{take_rest, take_all, get_or_past}
+use Rattle.std.specs.List.{count_by, range_with_len}
+use Rattle.dst_spec.specs.Sample.{samples}
+use Rattle.dst_spec.proofs.Lists.{get_or-zeros}
+use Rattle.level_spec.specs.Counts.{count_from}
+use Rattle.frame_predictions.specs.Codes.{code_at, codes}
+use Rattle.filter_analyser.proofs.Counting.{count_from-next, count_from-most, count_by-codes, codes-small, length-codes}
+use Rattle.filter_analyser.proofs.counts.count_channels.Goals as goal
+
+pub loop-member-init : goal.loop-member-init
+unfolding count_from
+loop-member-init c = (refl, λ q h. get_or-zeros 128 q, c.requires.row)
+
+pub count_codes-requires : goal.count_codes-requires
+count_codes-requires c =
+    let f = c.args.channels in
+    let sound = c.args.sound.now in
+    let coefs = c.args.sums.now in
+    let first = c.args.first in
+    let i = c.loop-member.member-index in
+    let ch = get_or c.args.members.now i 0 in
+    let T = samples f in
+    let short : T ≤ 150528 = omega (arith, c.requires.row, c.requires.short) in
+    let long : length c.write_codes.new.codes ≡ T = ap length c.write_codes.ensures ∙ length-codes f sound ch coefs in
+    let part : take (length c.write_codes.new.codes - first) (drop first c.write_codes.new.codes) ≡ drop first (codes f sound ch coefs) =
+    take_rest c.write_codes.new.codes first ∙ ap (drop first) c.write_codes.ensures in
+    let many : length (drop first (codes f sound ch coefs)) ≡ T - first = length-drop first (codes f sound ch coefs) ∙ ap (λ n. n - first) (length-codes f sound ch coefs) in
+    record {
+      small = subst (λ xs. (k d : ℕ) → k < length xs → get_or xs k d < 128) (sym part) (λ k d h. codes-small f sound ch coefs first k d (omega arith));
+      room = λ q h.
+          let before = c.loop-member.invariant.1 q h in
+          let most = count_from-most first f (λ c t. code_at f sound c coefs t == q) (take i c.args.members.now) in
+          let few : length (take i c.args.members.now) ≤ 6 = omega (arith, length-take i c.args.members.now, c.requires.few) in
+          let row : length (take (length c.write_codes.new.codes - first) (drop first c.write_codes.new.codes)) ≡ T - first = ap length part ∙ many in
+          let product : length (take i c.args.members.now) * T ≤ 6 * 150528 = Rattle.std.proofs.lemmas.Nat.mul-le (length (take i c.args.members.now)) T 6 150528 few short in
+          omega arith;
+    }
+
+pub loop-member-preserved : goal.loop-member-preserved
+loop-member-preserved c =
+    let f = c.args.channels in
+    let sound = c.args.sound.now in
+    let coefs = c.args.sums.now in
+    let first = c.args.first in
+    let i = c.loop-member.member-index in
+    let ch = get_or c.args.members.now i 0 in
+    let part : take (length c.write_codes.new.codes - first) (drop first c.write_codes.new.codes) ≡ drop first (codes f sound ch coefs) =
+    take_rest c.write_codes.new.codes first ∙ ap (drop first) c.write_codes.ensures in (
+      c.count_codes.ensures.long,
+      λ q h.
+          let test = λ (c t : ℕ). code_at f sound c coefs t == q in
+          c.count_codes.ensures.counts q h
+          ∙ ap (λ n. get_or c.loop-member.counts q 0 + n) (ap (count_by (λ code. code == q)) part ∙ count_by-codes f sound ch coefs first q)
+          ∙ ap (λ n. n + count_by (test ch) (range_with_len first (samples f - first))) (c.loop-member.invariant.1 q h)
+          ∙ sym (count_from-next first f test c.args.members.now i c.loop-member-test.true),
+      ap length c.write_codes.ensures ∙ length-codes f sound ch coefs,
+    )
+
+pub returns : goal.returns
+returns c =
+    let f = c.args.channels in
+    let first = c.args.first in
+    let members = c.args.members.now in
+    let T = samples f in
+    let short : T ≤ 150528 = omega (arith, c.requires.row, c.requires.short) in
+    let all : take c.loop-member.member-index members ≡ members = take_all c.loop-member.member-index members (omega arith) in
+    let counts : (q : ℕ) → q < 128 → get_or c.loop-member.counts q 0 ≡ count_from first f (λ c' t. code_at f c.args.sound.now c' c.args.sums.now t == q) members =
+    λ q h. c.loop-member.invariant.1 q h ∙ ap (count_from first f (λ c' t. code_at f c.args.sound.now c' c.args.sums.now t == q)) all in
+    let product : length members * T ≤ 6 * 150528 = Rattle.std.proofs.lemmas.Nat.mul-le (length members) T 6 150528 c.requires.few short in
+    record {
+      long = c.loop-member.invariant.0;
+      counts = counts;
+      most = λ q. elim (cases_lt q 128) [
+        | inl h ↦ omega (arith, counts q h, count_from-most first f (λ c' t. code_at f c.args.sound.now c' c.args.sums.now t == q) members)
+        | inr h ↦ let past : get_or c.loop-member.counts q 0 ≡ 0 = get_or_past c.loop-member.counts q 0 (omega (arith, c.loop-member.invariant.0)) in omega arith
+      ];
+    }
