@@ -162,3 +162,16 @@ counted-is f sound channels coefs counts h =
     table_of-same (λ p. get_or counts p 0 + get_or counts (p + 64) 0) (λ p. get_or counts (p + 64) 0) (total f sound channels coefs) (wrong f sound channels coefs)
     (λ p k. let a = h p (omega arith) in let b = h (p + 64) (omega arith) in let t = total-codes f sound channels coefs p k in omega arith)
     (λ p k. h (p + 64) (omega arith) ∙ sym (wrong-codes f sound channels coefs p k))
+
+-- one more channel at the end
+pub count_from-push : (first : ℕ) (f : Shape) (test : ℕ → ℕ → Bool) (a n : ℕ) →
+    count_from first f test (range_with_len a (n + 1)) ≡ count_from first f test (range_with_len a n) + count_by (test (a + n)) (range_with_len first (samples f - first))
+unfolding count_from
+count_from-push first f test a zero = let e : a ≡ a + 0 = omega arith in ap (λ c. count_by (test c) (range_with_len first (samples f - first)) + 0) e ∙ omega arith
+count_from-push first f test a (suc n) =
+    let e : suc n + 1 ≡ suc (n + 1) = omega arith in
+    let last : a + 1 + n ≡ a + suc n = omega arith in
+    let rest = count_from-push first f test (a + 1) n in
+    ap (λ k. count_from first f test (range_with_len a k)) e
+    ∙ ap (λ k. count_by (test a) (range_with_len first (samples f - first)) + k) (rest ∙ ap (λ c. count_from first f test (range_with_len (a + 1) n) + count_by (test c) (range_with_len first (samples f - first))) last)
+    ∙ omega arith

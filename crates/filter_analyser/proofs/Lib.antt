@@ -9,3 +9,4 @@ pub mod Stepping
 pub mod Padding
 pub mod Scaling
 pub mod Counting
+pub mod Picking

@@ -12,6 +12,7 @@
 
 mod counts;
 mod lags;
+mod picks;
 mod recursion;
 mod scale;
 mod words;

@@ -7,14 +7,9 @@ use Rattle.dst_spec.specs.Sample.{sample}
 use Rattle.dst_spec.specs.Guess.{signed}
 use Rattle.level_spec.specs.Correlation.{sum_over, sign, correlation}
 use Rattle.level_spec.proofs.Examples.{mono}
-use Rattle.level_spec.proofs.Sums.{sum_over-same}
+use Rattle.level_spec.proofs.Sums.{sum_over-same, sum_of_ones}
 
--- a sum of equal numbers
-sum_of_ones : (first n : ℕ) → sum_over (λ t. pos 1) first n ≡ pos n
-unfolding sum_over
-sum_of_ones first zero = refl
-sum_of_ones first (suc n) = ap (λ s. s +ℤ pos 1) (sum_of_ones first n) ∙ omega (arith, ints)
-
+-- a sum of minus ones
 sum_of_less_ones : (first n : ℕ) → sum_over (λ t. neg_ℤ (pos 1)) first n ≡ neg_ℤ (pos n)
 unfolding sum_over
 sum_of_less_ones first zero = refl

@@ -6,4 +6,5 @@ pub mod Sums
 pub mod Steps
 pub mod Bounds
 pub mod Tables
+pub mod Sizes
 pub mod Lawful

@@ -1,5 +1,5 @@
 -- Sums of equal terms are equal, and of bounded ones bounded.
-use Rattle.std.proofs.Common.{◌≡◌, ℕ, zero, suc, ◌+◌, ◌*◌, ◌<◌, ◌≤◌, ℤ, nat_abs, refl, arith}
+use Rattle.std.proofs.Common.{◌≡◌, ℕ, zero, suc, ◌+◌, ◌*◌, ◌<◌, ◌≤◌, ℤ, pos, ◌+ℤ◌, nat_abs, refl, ap, ◌∙◌, arith}
 use Rattle.std.proofs.lemmas.Int.{ints}
 use Rattle.level_spec.specs.Correlation.{sum_over}
 
@@ -18,3 +18,9 @@ sum_over-below F first (suc n) bound h =
     let rest = sum_over-below F first n bound (λ t least most. h t least (omega arith)) in
     let last = h (first + n) (omega arith) (omega arith) in
     omega (arith, ints)
+
+-- a sum of ones
+pub sum_of_ones : (first n : ℕ) → sum_over (λ t. pos 1) first n ≡ pos n
+unfolding sum_over
+sum_of_ones first zero = refl
+sum_of_ones first (suc n) = ap (λ s. s +ℤ pos 1) (sum_of_ones first n) ∙ omega (arith, ints)

@@ -3,6 +3,7 @@ use Rattle.std.specs.Prelude.{◌≡◌, ℕ, ◌+◌, ◌^◌, ◌≤◌, ℤ, 
 use Rattle.std.specs.List.{AllByRecursion}
 use Rattle.dst_spec.specs.Sample.{Shape, IsShape}
 use Rattle.dst_spec.specs.Header.{IsParams}
+use Rattle.level_spec.specs.Correlation.{correlations}
 use Rattle.level_spec.specs.Recursion.{lag, step, after}
 use Rattle.level_spec.specs.Picks.{level_picks}
 
@@ -11,6 +12,11 @@ pub record AreCorrelations (lags : List ℤ) : Type 0 where
   pub least : pos 1 ≤ℤ lag lags 0
   pub most : lag lags 0 ≤ℤ pos (2 ^ 20)
   pub others : (k : ℕ) → nat_abs (lag lags k) ≤ nat_abs (lag lags 0)
+
+-- those of some channels of a frame are like that
+abbrev pub CorrelationsLaw : Type 0
+CorrelationsLaw =
+    (f : Shape) (sound channels : List ℕ) → IsShape f → 1 ≤ length channels → length channels ≤ 6 → AreCorrelations (correlations f sound channels)
 
 -- one recursion gives the values of each order: the first n steps need the correlations up to lag n alone, and what one step leaves
 -- as it is, all later ones do

@@ -1,5 +1,10 @@
 // Laws of picks. The functions do nothing: their clauses are what is proved.
-ghost use Rattle.level_spec.specs.Laws.{OneRecursionLaw, BoundsLaw, PicksLaw};
+ghost use Rattle.level_spec.specs.Laws.{CorrelationsLaw, OneRecursionLaw, BoundsLaw, PicksLaw};
+
+/// The correlations of one to six channels of a frame: the first is from 1 to 2 ^ 20, and no other is greater in size.
+pub fn correlations_law()
+    ensures { CorrelationsLaw }
+{}
 
 /// One recursion gives the values of each order.
 pub fn one_recursion_law()

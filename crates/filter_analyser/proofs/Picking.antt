@@ -1,0 +1,84 @@
+-- Filters and tables of picked parameters.
+use Rattle.std.proofs.Common.{◌≡◌, ℕ, zero, suc, ◌+◌, ◌-◌, ◌*◌, ◌^◌, ◌<◌, ◌≤◌, ℤ, pos, nat_abs, true, List, [], ◌∷◌, ◌++◌, length, map, get_or, take, replicate, ◌==◌, refl, ap, sym, ◌∙◌, subst, arith}
+use Rattle.std.proofs.lemmas.List.{take_at}
+use Rattle.std.specs.List.{AllByRecursion, range_with_len, count_by}
+use Rattle.dst_spec.specs.Sample.{Shape, IsShape, samples}
+use Rattle.dst_spec.specs.Header.{Params}
+use Rattle.dst_spec.proofs.Lists.{all_append}
+use Rattle.dst_num.specs.Map.{params_of}
+use Rattle.level_spec.specs.Correlation.{correlations}
+use Rattle.level_spec.specs.Recursion.{after, solution}
+use Rattle.level_spec.specs.Scale.{quantised}
+use Rattle.level_spec.specs.Counts.{count_from, table_of, counted}
+use Rattle.level_spec.specs.Picks.{channels_of, filter_for, per_channel, shared}
+use Rattle.level_spec.specs.Laws.{AreCorrelations}
+use Rattle.level_spec.proofs.Bounds.{after-small}
+use Rattle.level_spec.proofs.Tables.{length-solution}
+use Rattle.frame_predictions.specs.Codes.{code_at}
+use Rattle.filter_analyser.specs.Run.{padded}
+use Rattle.filter_analyser.proofs.Shares.{each-most}
+use Rattle.filter_analyser.proofs.Counting.{counted-is}
+
+zeros-small : (n m : ℕ) → AllByRecursion (λ a. nat_abs a ≤ m) (replicate n (pos 0))
+zeros-small zero m = tt
+zeros-small (suc n) m = (omega arith, zeros-small n m)
+
+pub solution-small : (lags : List ℤ) (order k : ℕ) → AreCorrelations lags → nat_abs (get_or (padded (solution lags order)) k (pos 0)) ≤ 2 ^ 40
+unfolding solution
+solution-small lags order k h =
+    let P : ℤ → Type 0 = λ a. nat_abs a ≤ 2 ^ 40 in
+    let values = (after lags order).values in
+    let small = (after-small lags order h.least).values in
+    let zeros = replicate (order - length values) (pos 0) in
+    each-most (padded (values ++ zeros)) (2 ^ 40) k
+    (all_append P (values ++ zeros) (replicate (128 - length (values ++ zeros)) (pos 0)) (all_append P values zeros small (zeros-small (order - length values) (2 ^ 40))) (zeros-small (128 - length (values ++ zeros)) (2 ^ 40)))
+
+pub filter-is : (f : Shape) (sound channels : List ℕ) (order : ℕ) (solved : List ℤ) → solved ≡ padded (solution (correlations f sound channels) order) →
+    quantised (take order solved) ≡ filter_for f sound order channels
+unfolding filter_for
+filter-is f sound channels order solved e =
+    let s = solution (correlations f sound channels) order in
+    ap quantised (ap (take order) e ∙ take_at s (replicate (128 - length s) (pos 0)) order (length-solution (correlations f sound channels) order))
+
+pub table-is : (f : Shape) (sound : List ℕ) (c : ℕ) (coefs : List ℤ) (counts : List ℕ)
+    → ((q : ℕ) → q < 128 → get_or counts q 0 ≡ count_by (λ t. code_at f sound c coefs t == q) (range_with_len (length coefs) (samples f - length coefs)))
+    → table_of (λ p. get_or counts p 0 + get_or counts (p + 64) 0) (λ p. get_or counts (p + 64) 0) ≡ counted f sound (c ∷ []) coefs
+unfolding count_from
+table-is f sound c coefs counts h = counted-is f sound (c ∷ []) coefs counts (λ q k. h q k ∙ omega arith)
+
+pub first_numbers : (n : ℕ) → n ≤ 6 → take n (0 ∷ 1 ∷ 2 ∷ 3 ∷ 4 ∷ 5 ∷ []) ≡ range_with_len 0 n
+first_numbers zero h = refl
+first_numbers (suc zero) h = refl
+first_numbers (suc (suc zero)) h = refl
+first_numbers (suc (suc (suc zero))) h = refl
+first_numbers (suc (suc (suc (suc zero)))) h = refl
+first_numbers (suc (suc (suc (suc (suc zero))))) h = refl
+first_numbers (suc (suc (suc (suc (suc (suc zero)))))) h = refl
+first_numbers (suc (suc (suc (suc (suc (suc (suc n))))))) h = absurd (omega arith)
+
+pub zero_numbers : (n : ℕ) → n ≤ 6 → take {A = ℕ} n (0 ∷ 0 ∷ 0 ∷ 0 ∷ 0 ∷ 0 ∷ []) ≡ replicate n 0
+zero_numbers zero h = refl
+zero_numbers (suc zero) h = refl
+zero_numbers (suc (suc zero)) h = refl
+zero_numbers (suc (suc (suc zero))) h = refl
+zero_numbers (suc (suc (suc (suc zero)))) h = refl
+zero_numbers (suc (suc (suc (suc (suc zero))))) h = refl
+zero_numbers (suc (suc (suc (suc (suc (suc zero)))))) h = refl
+zero_numbers (suc (suc (suc (suc (suc (suc (suc n))))))) h = absurd (omega arith)
+
+pub per_channel-is : (f : Shape) (sound : List ℕ) (order : ℕ) (elements : List ℕ) (filters : List (List ℤ)) (probs : List (List ℕ)) → elements ≡ channels_of f →
+    filters ≡ map (λ c. filter_for f sound order (c ∷ [])) (channels_of f) → probs ≡ map (λ c. counted f sound (c ∷ []) (filter_for f sound order (c ∷ []))) (channels_of f) →
+    params_of elements elements (replicate f.channels true) filters probs ≡ per_channel f sound order
+unfolding per_channel
+per_channel-is f sound order elements filters probs e p q =
+    ap (λ m. params_of m m (replicate f.channels true) filters probs) e ∙ ap (λ x. params_of (channels_of f) (channels_of f) (replicate f.channels true) x probs) p
+    ∙ ap (params_of (channels_of f) (channels_of f) (replicate f.channels true) (map (λ c. filter_for f sound order (c ∷ [])) (channels_of f))) q
+
+pub shared-is : (f : Shape) (sound : List ℕ) (order : ℕ) (elements : List ℕ) (filter : List ℤ) (probs : List ℕ) → elements ≡ replicate f.channels 0 →
+    filter ≡ filter_for f sound order (channels_of f) → probs ≡ counted f sound (channels_of f) (filter_for f sound order (channels_of f)) →
+    params_of elements elements (replicate f.channels true) (filter ∷ []) (probs ∷ []) ≡ shared f sound order
+unfolding shared
+shared-is f sound order elements filter probs e p q =
+    ap (λ m. params_of m m (replicate f.channels true) (filter ∷ []) (probs ∷ [])) e
+    ∙ ap (λ x. params_of (replicate f.channels 0) (replicate f.channels 0) (replicate f.channels true) (x ∷ []) (probs ∷ [])) p
+    ∙ ap (λ x. params_of (replicate f.channels 0) (replicate f.channels 0) (replicate f.channels true) (filter_for f sound order (channels_of f) ∷ []) (x ∷ [])) q

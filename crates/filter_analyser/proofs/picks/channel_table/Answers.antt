@@ -1,0 +1,23 @@
+use Rattle.std.proofs.Common.{◌≡◌, ℕ, ◌+◌, ◌-◌, ◌*◌, ◌<◌, ◌≤◌, ◌==◌, [], ◌∷◌, length, get_or, inl, inr, ap, sym, ◌∙◌, rules, arith}
+use Rattle.std.specs.List.{count_by, range_with_len}
+use Rattle.std.proofs.lemmas.Bool.{cases_lt}
+use Rattle.std.proofs.lemmas.List.{get_or_past}
+use Rattle.dst_spec.specs.Sample.{samples}
+use Rattle.dst_spec.proofs.Lists.{get_or-zeros}
+use Rattle.level_spec.specs.Counts.{counted}
+use Rattle.level_spec.proofs.Sizes.{shape_most}
+use Rattle.frame_predictions.specs.Codes.{code_at}
+use Rattle.filter_analyser.proofs.Picking.{table-is}
+use Rattle.filter_analyser.proofs.picks.channel_table.Goals as goal
+
+pub count_row-requires-clause-room : goal.count_row-requires-clause-room
+count_row-requires-clause-room c = λ q h. omega (arith, get_or-zeros 128 q)
+
+pub table_from-requires : goal.table_from-requires
+table_from-requires c = λ q. omega (arith, c.count_row.ensures.most q, get_or-zeros 128 q)
+
+pub returns-clause-table : goal.returns-clause-table
+returns-clause-table c =
+    let f = c.args.predictions.now.channels in
+    let sound = c.args.predictions.now.sound in
+    c.table_from.ensures ∙ table-is f sound c.args.channel c.args.filter.now c.count_row.new.counts (λ q h. c.count_row.ensures.counts q h ∙ omega (arith, get_or-zeros 128 q))

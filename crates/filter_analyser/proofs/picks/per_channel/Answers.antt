@@ -1,0 +1,71 @@
+use Rattle.std.proofs.Common.{◌≡◌, ℕ, ◌+◌, ◌-◌, ◌^◌, ◌<◌, ◌≤◌, List, ℤ, pos, nat_abs, true, [], ◌∷◌, ◌++◌, length, map, get_or, take, replicate, refl, ap, sym, ◌∙◌, subst, rules, arith}
+use Rattle.std.specs.List.{range_with_len}
+use Rattle.std.proofs.lemmas.List.FromFn.{map-range_with_len_more, length-map-range_with_len}
+use Rattle.dst_spec.specs.Sample.{Shape, IsShape}
+use Rattle.dst_spec.specs.Header.{Params, IsParams}
+use Rattle.dst_num.specs.Map.{params_of}
+use Rattle.level_spec.specs.Correlation.{correlations}
+use Rattle.level_spec.specs.Counts.{counted}
+use Rattle.level_spec.specs.Scale.{quantised}
+use Rattle.level_spec.specs.Picks.{channels_of, filter_for, per_channel}
+use Rattle.level_spec.proofs.Sizes.{are_correlations}
+use Rattle.level_spec.proofs.Lawful.{IsParams-per_channel}
+use Rattle.filter_analyser.proofs.Picking.{solution-small, filter-is, first_numbers, per_channel-is}
+use Rattle.filter_analyser.proofs.picks.per_channel.Goals as goal
+
+pub quantise-filter-requires-clause-values : goal.quantise-filter-requires-clause-values
+quantise-filter-requires-clause-values c = λ k.
+    let f = c.args.channels in
+    let sound = c.args.predictions.now.sound in
+    let inside : c.loop-c.c < f.channels = omega (arith, c.count-count.ensures.count) in
+    let solved = c.requires.solved c.loop-c.c inside in
+    let corr = are_correlations f sound (c.loop-c.c ∷ []) c.count-count.ensures.shape (omega arith) (omega arith) in
+    let P : List ℤ → Type 0 = λ xs. nat_abs (get_or xs k (pos 0)) ≤ 2 ^ 40 in
+    subst P (sym solved) (solution-small (correlations f sound (c.loop-c.c ∷ [])) c.args.order k corr)
+
+pub loop-c-preserved : goal.loop-c-preserved
+loop-c-preserved c =
+    let f = c.args.channels in
+    let sound = c.args.predictions.now.sound in
+    let order = c.args.order in
+    let n = c.loop-c.c in
+    let inside : n < f.channels = omega (arith, c.count-count.ensures.count) in
+    let F : ℕ → List ℤ = λ c. filter_for f sound order (c ∷ []) in
+    let G : ℕ → List ℕ = λ c. counted f sound (c ∷ []) (F c) in
+    let z : 0 + n ≡ n = omega arith in
+    let filter : c.quantise-filter.result ≡ F n = c.quantise-filter.ensures ∙ filter-is f sound (n ∷ []) order (get_or c.args.solved.now n []) (c.requires.solved n inside) in
+    let table : c.channel_table.result ≡ G n =
+    c.channel_table.ensures.table ∙ ap (λ g. counted g c.loop-c.predictions.sound (n ∷ []) c.quantise-filter.result) c.loop-c.invariant.channels
+    ∙ ap (λ s. counted f s (n ∷ []) c.quantise-filter.result) c.loop-c.invariant.sound ∙ ap (counted f sound (n ∷ [])) filter in
+    record {
+      sound = c.channel_table.ensures.sound ∙ c.loop-c.invariant.sound;
+      channels = c.channel_table.ensures.channels ∙ c.loop-c.invariant.channels;
+      filters =
+          c.push-in-loop-c.ensures.items ∙ ap (λ xs. xs ++ c.quantise-filter.result ∷ []) c.loop-c.invariant.filters ∙ ap (λ x. map F (range_with_len 0 n) ++ x ∷ []) filter
+          ∙ sym (map-range_with_len_more F 0 n n z);
+      probs =
+          c.push.ensures.items ∙ ap (λ xs. xs ++ c.channel_table.result ∷ []) c.loop-c.invariant.probs ∙ ap (λ x. map G (range_with_len 0 n) ++ x ∷ []) table
+          ∙ sym (map-range_with_len_more G 0 n n z);
+    }
+
+pub parameters-requires : goal.parameters-requires
+parameters-requires c =
+    let f = c.args.channels in
+    let sound = c.args.predictions.now.sound in
+    let all : c.loop-c.c ≡ f.channels = omega (arith, c.count-count.ensures.count) in
+    let order = c.args.order in
+    let F : ℕ → List ℤ = λ c. filter_for f sound order (c ∷ []) in
+    let is = per_channel-is f sound c.args.order (take {A = ℕ} f.channels (0 ∷ 1 ∷ 2 ∷ 3 ∷ 4 ∷ 5 ∷ [])) c.loop-c.filters.items c.loop-c.probs.items (first_numbers f.channels c.count-count.ensures.shape.most)
+    (c.loop-c.invariant.filters ∙ ap (λ n. map F (range_with_len 0 n)) all) (c.loop-c.invariant.probs ∙ ap (λ n. map (λ c. counted f sound (c ∷ []) (F c)) (range_with_len 0 n)) all) in
+    record { lawful = subst (IsParams f.channels) (sym is) (IsParams-per_channel f sound c.args.order c.requires.least c.requires.most) }
+
+pub returns-clause-params : goal.returns-clause-params
+returns-clause-params c =
+    let f = c.args.channels in
+    let sound = c.args.predictions.now.sound in
+    let all : c.loop-c.c ≡ f.channels = omega (arith, c.count-count.ensures.count) in
+    let order = c.args.order in
+    let F : ℕ → List ℤ = λ c. filter_for f sound order (c ∷ []) in
+    let is = per_channel-is f sound c.args.order (take {A = ℕ} f.channels (0 ∷ 1 ∷ 2 ∷ 3 ∷ 4 ∷ 5 ∷ [])) c.loop-c.filters.items c.loop-c.probs.items (first_numbers f.channels c.count-count.ensures.shape.most)
+    (c.loop-c.invariant.filters ∙ ap (λ n. map F (range_with_len 0 n)) all) (c.loop-c.invariant.probs ∙ ap (λ n. map (λ c. counted f sound (c ∷ []) (F c)) (range_with_len 0 n)) all) in
+    c.parameters.ensures ∙ is
