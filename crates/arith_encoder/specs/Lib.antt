@@ -1,4 +1,5 @@
 pub mod Encoding
+pub mod Lanes
 pub mod Leaving
 pub mod Measuring
 pub mod Registers

@@ -17,10 +17,13 @@
 //! measure.add(symbol, probability);
 //! measure.bits();                                          // 13, and one for each doubling
 //! ```
+//!
+//! `narrow_lanes` measures eight codes side by side.
 #![tactic(auto)]
 
 mod encoder;
 mod held;
+mod lanes;
 mod length;
 mod narrow;
 mod scaling;
@@ -28,4 +31,5 @@ mod scaling;
 mod tests;
 
 pub use encoder::ArithEncoder;
+pub use lanes::{narrow_lanes, step_of};
 pub use length::CodeLength;
