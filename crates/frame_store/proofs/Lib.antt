@@ -1,3 +1,4 @@
 pub mod Codes
+pub mod Laid
 pub mod Placed
 pub mod Spelled

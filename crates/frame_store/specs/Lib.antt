@@ -1,2 +1,3 @@
+pub mod Measured
 pub mod Pairs
 pub mod Storing
