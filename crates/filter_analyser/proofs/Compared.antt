@@ -1,9 +1,9 @@
 -- The words before a place are compared and moved.
-use Rattle.std.proofs.Common.{◌≡◌, ℕ, zero, suc, ◌+◌, ◌-◌, ◌*◌, ◌/◌, ◌%◌, ◌^◌, ◌<◌, ◌≤◌, ◌≢◌, List, length, get_or, set, get_or-set_other, get_or-set_same, inl, inr, refl, ap, sym, ◌∙◌, subst, arith}
+use Rattle.std.proofs.Common.{◌≡◌, ℕ, ◌+◌, ◌-◌, ◌*◌, ◌/◌, ◌%◌, ◌^◌, ◌<◌, ◌≤◌, ◌≢◌, List, length, get_or, set, get_or-set_other, get_or-set_same, inl, inr, refl, ap, sym, ◌∙◌, arith}
 use Rattle.std.proofs.lemmas.Bool.{cases_lt}
 use Rattle.filter_analyser.specs.Words.{bit_of, late, passed, tally}
 use Rattle.filter_analyser.proofs.Tallies.{tally-append, tally-most}
-use Rattle.filter_analyser.proofs.Differing.{IsBefore, bit_of-word, passed-late, tally-word}
+use Rattle.filter_analyser.proofs.Differing.{IsBefore, passed-late, tally-word}
 
 pub record Compared (words others : List ℕ) (place before : ℕ) (counts behind : List ℕ) : Type 0 where
   pub stands : IsBefore others place before

@@ -1,8 +1,8 @@
 -- Correlations from counts of differing samples.
-use Rattle.std.proofs.Common.{◌≡◌, ℕ, zero, suc, ◌+◌, ◌-◌, ◌*◌, ◌/◌, ◌%◌, ◌^◌, ◌<◌, ◌≤◌, ℤ, pos, ◌+ℤ◌, ◌-ℤ◌, ◌*ℤ◌, true, false, cond, nat_lt, List, length, get_or, inl, inr, refl, ap, sym, ◌∙◌, subst, arith}
+use Rattle.std.proofs.Common.{◌≡◌, ℕ, zero, suc, ◌+◌, ◌-◌, ◌*◌, ◌%◌, ◌<◌, ◌≤◌, ℤ, pos, ◌-ℤ◌, ◌*ℤ◌, cond, List, length, inl, inr, refl, ap, sym, ◌∙◌, arith}
 use Rattle.std.proofs.lemmas.Int.{ints}
 use Rattle.std.proofs.lemmas.Bool.{cases_lt}
-use Rattle.dst_spec.specs.Sample.{Shape, sample, samples}
+use Rattle.dst_spec.specs.Sample.{Shape, samples}
 use Rattle.dst_spec.specs.Guess.{signed}
 use Rattle.level_spec.specs.Correlation.{sum_over, sign, correlation}
 use Rattle.filter_analyser.specs.Words.{bit_of, late, tally, differing, HasSamples}

@@ -1,9 +1,8 @@
 -- Filters and tables of picked parameters.
-use Rattle.std.proofs.Common.{◌≡◌, ℕ, zero, suc, ◌+◌, ◌-◌, ◌*◌, ◌^◌, ◌<◌, ◌≤◌, ℤ, pos, nat_abs, true, List, [], ◌∷◌, ◌++◌, length, map, get_or, take, replicate, ◌==◌, refl, ap, sym, ◌∙◌, subst, arith}
+use Rattle.std.proofs.Common.{◌≡◌, ℕ, zero, suc, ◌+◌, ◌-◌, ◌^◌, ◌<◌, ◌≤◌, ℤ, pos, nat_abs, true, List, [], ◌∷◌, ◌++◌, length, map, get_or, take, replicate, ◌==◌, refl, ap, ◌∙◌, arith}
 use Rattle.std.proofs.lemmas.List.{take_at}
 use Rattle.std.specs.List.{AllByRecursion, range_with_len, count_by}
-use Rattle.dst_spec.specs.Sample.{Shape, IsShape, samples}
-use Rattle.dst_spec.specs.Header.{Params}
+use Rattle.dst_spec.specs.Sample.{Shape, samples}
 use Rattle.dst_spec.proofs.Lists.{all_append}
 use Rattle.dst_num.specs.Map.{params_of}
 use Rattle.level_spec.specs.Correlation.{correlations}

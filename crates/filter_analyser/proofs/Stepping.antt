@@ -1,12 +1,8 @@
 -- A step of the recursion in its three ways.
-use Rattle.std.proofs.Common.{◌≡◌, ℕ, ◌+◌, ◌^◌, ◌<◌, ◌≤◌, ℤ, pos, ◌≤ℤ◌, nat_abs, Bool, true, false, cond, ◌||◌, nat_lt, nat_le, List, length, take, refl, ap, sym, ◌∙◌, arith}
-use Rattle.std.proofs.lemmas.Int.{ints}
+use Rattle.std.proofs.Common.{◌≡◌, ℕ, ◌+◌, ◌^◌, ◌<◌, ◌≤◌, ℤ, nat_abs, Bool, true, false, cond, ◌||◌, nat_lt, nat_le, List, length, ap, sym, ◌∙◌, arith}
 use Rattle.std.proofs.lemmas.Bool.Decides.{nat_tests}
-use Rattle.std.specs.List.{AllByRecursion, list_any}
+use Rattle.std.specs.List.{list_any}
 use Rattle.level_spec.specs.Recursion.{State, reflection, moved, stops, fallen, step}
-use Rattle.level_spec.proofs.Steps.{length-moved}
-use Rattle.level_spec.proofs.Bounds.{IsSmall, step-small}
-use Rattle.filter_analyser.specs.Run.{IsRun}
 
 le-true : (a b : ℕ) → a ≤ b → nat_le a b ≡ true
 le-true a b h = grind (arith, nat_tests)

@@ -1,5 +1,5 @@
 -- Sums over ranges of numbers.
-use Rattle.std.proofs.Common.{◌≡◌, ℕ, zero, suc, ◌+◌, ◌-◌, ◌*◌, ◌/◌, ◌%◌, ◌^◌, ◌<◌, ◌≤◌, ℤ, pos, ◌+ℤ◌, ◌-ℤ◌, refl, ap, sym, ◌∙◌, arith, add-suc}
+use Rattle.std.proofs.Common.{◌≡◌, ℕ, zero, suc, ◌+◌, ◌*◌, ◌<◌, ◌≤◌, ℤ, pos, ◌-ℤ◌, refl, ap, ◌∙◌, arith, add-suc}
 use Rattle.std.proofs.lemmas.Int.{ints}
 use Rattle.level_spec.specs.Correlation.{sum_over}
 use Rattle.filter_analyser.specs.Words.{tally}

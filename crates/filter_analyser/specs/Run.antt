@@ -1,7 +1,7 @@
 -- A run of the recursion, and what it answers.
-use Rattle.std.specs.Prelude.{ℕ, ◌-◌, ◌^◌, ◌≤◌, ℤ, pos, ◌≤ℤ◌, nat_abs, List, ◌++◌, length, replicate}
+use Rattle.std.specs.Prelude.{◌-◌, ◌^◌, ◌≤◌, ℤ, pos, ◌≤ℤ◌, nat_abs, List, ◌++◌, length, replicate}
 use Rattle.std.specs.List.{AllByRecursion}
-use Rattle.level_spec.specs.Recursion.{State, solution}
+use Rattle.level_spec.specs.Recursion.{State}
 
 -- the error is from 1 to 2 ^ 44, and there are at most 128 values of at most 40 bits
 pub record IsRun (s : State) : Type 0 where

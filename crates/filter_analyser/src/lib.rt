@@ -12,6 +12,7 @@
 
 mod counts;
 mod lags;
+mod picker;
 mod picks;
 mod recursion;
 mod scale;
@@ -19,5 +20,6 @@ mod words;
 
 pub use counts::count_table;
 pub use lags::correlate;
+pub use picker::LevelPicker;
 pub use recursion::{solve_all, solve_filter};
 pub use scale::quantise;

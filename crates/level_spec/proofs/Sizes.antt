@@ -1,5 +1,5 @@
 -- How great correlations can be.
-use Rattle.std.proofs.Common.{◌≡◌, ◌⊎◌, ℕ, zero, suc, ◌+◌, ◌-◌, ◌*◌, ◌^◌, ◌<◌, ◌≤◌, ℤ, pos, negsuc, neg_ℤ, ◌+ℤ◌, ◌*ℤ◌, ◌≤ℤ◌, nat_abs, Bool, true, false, cond, ◌==◌, List, [], ◌∷◌, length, map, get_or, inl, inr, refl, ap, sym, ◌∙◌, subst, arith}
+use Rattle.std.proofs.Common.{◌≡◌, ℕ, zero, suc, ◌+◌, ◌-◌, ◌*◌, ◌<◌, ◌≤◌, ℤ, pos, neg_ℤ, ◌+ℤ◌, ◌*ℤ◌, nat_abs, Bool, true, false, cond, ◌==◌, List, [], ◌∷◌, length, get_or, inl, inr, refl, ap, ◌∙◌, arith}
 use Rattle.std.proofs.lemmas.Int.{ints, unsigned_abs-mul}
 use Rattle.std.proofs.lemmas.Bool.{cases_lt}
 use Rattle.std.proofs.lemmas.List.{get_or_past}
@@ -8,7 +8,7 @@ use Rattle.std.proofs.lemmas.Nat.{mul-le}
 use Rattle.std.specs.List.{range_with_len}
 use Rattle.dst_spec.specs.Sample.{Shape, IsShape, sample, samples}
 use Rattle.dst_spec.specs.Guess.{signed}
-use Rattle.level_spec.specs.Correlation.{sum_over, sign, correlation, joint_correlation, correlations}
+use Rattle.level_spec.specs.Correlation.{sign, correlation, joint_correlation, correlations}
 use Rattle.level_spec.specs.Recursion.{lag}
 use Rattle.level_spec.specs.Laws.{AreCorrelations}
 use Rattle.level_spec.proofs.Sums.{sum_over-same, sum_over-below, sum_of_ones}
@@ -48,7 +48,7 @@ shape_least f h = elim h.rate [ inl e ↦ omega arith | inr r ↦ elim r [ inl e
 pub shape_most : (f : Shape) → IsShape f → samples f ≤ 150528
 shape_most f h = elim h.rate [ inl e ↦ omega arith | inr r ↦ elim r [ inl e ↦ omega arith | inr e ↦ omega arith ] ]
 
-joint-most : (f : Shape) (sound channels : List ℕ) (k : ℕ) → nat_abs (joint_correlation f sound channels k) ≤ length channels * samples f
+pub joint-most : (f : Shape) (sound channels : List ℕ) (k : ℕ) → nat_abs (joint_correlation f sound channels k) ≤ length channels * samples f
 unfolding joint_correlation
 joint-most f sound [] k = omega arith
 joint-most f sound (c ∷ channels) k =
@@ -83,3 +83,15 @@ are_correlations f sound channels shape some few =
         | inr h ↦ (let past : get_or lags k (pos 0) ≡ pos 0 = get_or_past lags k (pos 0) (let long = length-map-range_with_len (λ k. joint_correlation f sound channels k) 0 129 in omega arith) in rw past (omega (arith, ints)))
       ]);
     }
+
+-- one more channel at the end
+pub joint-push : (f : Shape) (sound : List ℕ) (a n k : ℕ) →
+    joint_correlation f sound (range_with_len a (n + 1)) k ≡ joint_correlation f sound (range_with_len a n) k +ℤ joint_correlation f sound ((a + n) ∷ []) k
+unfolding joint_correlation
+joint-push f sound a zero k = let e : a ≡ a + 0 = omega arith in ap (λ c. correlation f sound c k +ℤ pos 0) e ∙ omega (arith, ints)
+joint-push f sound a (suc n) k =
+    let e : suc n + 1 ≡ suc (n + 1) = omega arith in
+    let last : a + 1 + n ≡ a + suc n = omega arith in
+    let rest = joint-push f sound (a + 1) n k in
+    let more : joint_correlation f sound ((a + 1 + n) ∷ []) k ≡ joint_correlation f sound ((a + suc n) ∷ []) k = ap (λ c. joint_correlation f sound (c ∷ []) k) last in
+    ap (λ m. joint_correlation f sound (range_with_len a m) k) e ∙ omega (arith, ints)

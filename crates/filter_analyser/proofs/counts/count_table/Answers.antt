@@ -1,8 +1,6 @@
-use Rattle.std.proofs.Common.{◌≡◌, ℕ, ◌+◌, ◌*◌, ◌<◌, ◌≤◌, ◌==◌, List, ℤ, length, get_or, take, replicate, length-take, ap, sym, ◌∙◌, subst, rules, arith}
+use Rattle.std.proofs.Common.{◌≡◌, ℕ, ◌*◌, ◌≤◌, ◌==◌, List, ℤ, length, take, replicate, length-take, ap, sym, ◌∙◌, subst, arith}
 use Rattle.std.proofs.lemmas.List.{length-replicate}
-use Rattle.dst_spec.specs.Sample.{samples}
-use Rattle.dst_spec.specs.Table.{filter_kind, IsTable}
-use Rattle.level_spec.specs.Counts.{count_from, table_of, counted}
+use Rattle.level_spec.specs.Counts.{count_from}
 use Rattle.frame_predictions.specs.Codes.{code_at}
 use Rattle.filter_analyser.proofs.Counting.{counted-is}
 use Rattle.filter_analyser.proofs.counts.count_table.Goals as goal

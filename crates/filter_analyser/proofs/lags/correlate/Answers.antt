@@ -1,10 +1,10 @@
-use Rattle.std.proofs.Common.{◌≡◌, ℕ, ◌+◌, ◌*◌, ◌<◌, ◌≤◌, ℤ, pos, ◌+ℤ◌, List, [], ◌∷◌, ◌++◌, subst, length, get_or, take, replicate, length-take, ap, sym, ◌∙◌, rules, arith}
+use Rattle.std.proofs.Common.{◌≡◌, ℕ, ◌*◌, ◌≤◌, pos, ◌+ℤ◌, List, [], ◌∷◌, ◌++◌, subst, length, take, replicate, length-take, ap, sym, ◌∙◌, arith}
 use Rattle.std.proofs.Math.Seq.{take-append_seam}
 use Rattle.std.proofs.lemmas.Int.{ints}
 use Rattle.std.proofs.lemmas.List.{length-replicate}
 use Rattle.std.proofs.lemmas.List.FromFn.{fill_by_all}
 use Rattle.dst_spec.specs.Sample.{Shape}
-use Rattle.level_spec.specs.Correlation.{correlation, joint_correlation, correlations}
+use Rattle.level_spec.specs.Correlation.{correlation, joint_correlation}
 use Rattle.filter_analyser.specs.Words.{HasSamples}
 use Rattle.filter_analyser.proofs.lags.correlate.Goals as goal
 

@@ -1,11 +1,10 @@
-use Rattle.std.proofs.Common.{◌≡◌, ℕ, ◌+◌, ◌-◌, ◌*◌, ◌/◌, ◌%◌, ◌^◌, ◌<◌, ◌≤◌, ◌≢◌, ℤ, pos, ◌-ℤ◌, List, length, get_or, set, inl, inr, to_z, of_z, ◌*ℤ◌, subst, get_or-set_other, get_or-set_same, length-set, bit_and, true, false, cond, nat_lt, refl, ap, sym, ◌∙◌, rules, arith}
+use Rattle.std.proofs.Common.{◌≡◌, ◌+◌, ◌-◌, ◌*◌, ◌/◌, ◌%◌, ◌^◌, ◌<◌, ◌≢◌, ℤ, pos, ◌-ℤ◌, length, get_or, set, inl, inr, to_z, of_z, ◌*ℤ◌, subst, get_or-set_other, get_or-set_same, length-set, bit_and, cond, refl, ap, sym, ◌∙◌, arith}
 use mir.Syntax.{w64}
 use Rattle.std.proofs.lemmas.Int.{ints}
 use Rattle.std.proofs.lemmas.Bool.{cases_lt}
 use Rattle.std.proofs.lemmas.Nat.Bits.{shr_and_one}
-use Rattle.dst_spec.specs.Sample.{Shape}
 use Rattle.level_spec.specs.Correlation.{correlation}
-use Rattle.filter_analyser.specs.Words.{bit_of, late, tally, differing, HasSamples}
+use Rattle.filter_analyser.specs.Words.{bit_of, late, tally}
 use Rattle.filter_analyser.proofs.Tallies.{tally-next, tally-most}
 use Rattle.filter_analyser.proofs.Differing.{test-false}
 use Rattle.filter_analyser.proofs.Correlating.{late-late, correlation-is, correlation-at_0, early-most}

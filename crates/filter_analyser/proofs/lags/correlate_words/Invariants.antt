@@ -1,4 +1,4 @@
-use Rattle.std.proofs.Common.{◌≡◌, ℕ, ◌+◌, ◌*◌, ◌<◌, ◌≤◌, pos, List, length, get_or}
+use Rattle.std.proofs.Common.{◌≡◌, ℕ, ◌+◌, ◌*◌, ◌<◌, pos, List, length, get_or}
 use Rattle.dst_spec.specs.Sample.{Shape}
 use Rattle.level_spec.specs.Correlation.{correlation}
 use Rattle.filter_analyser.specs.Words.{bit_of, late, tally, HasSamples}

@@ -1,12 +1,5 @@
-use Rattle.std.proofs.Common.{◌≡◌, ℕ, ◌+◌, ◌-◌, ◌*◌, ◌<◌, ◌≤◌, ◌==◌, [], ◌∷◌, length, get_or, inl, inr, ap, sym, ◌∙◌, rules, arith}
-use Rattle.std.specs.List.{count_by, range_with_len}
-use Rattle.std.proofs.lemmas.Bool.{cases_lt}
-use Rattle.std.proofs.lemmas.List.{get_or_past}
-use Rattle.dst_spec.specs.Sample.{samples}
+use Rattle.std.proofs.Common.{◌∙◌, arith}
 use Rattle.dst_spec.proofs.Lists.{get_or-zeros}
-use Rattle.level_spec.specs.Counts.{counted}
-use Rattle.level_spec.proofs.Sizes.{shape_most}
-use Rattle.frame_predictions.specs.Codes.{code_at}
 use Rattle.filter_analyser.proofs.Picking.{table-is}
 use Rattle.filter_analyser.proofs.picks.channel_table.Goals as goal
 

@@ -1,11 +1,11 @@
-use Rattle.std.proofs.Common.{◌≡◌, ℕ, ◌+◌, ◌-◌, ◌<◌, ◌≤◌, ◌==◌, List, ℤ, length, get_or, take, drop, length-take, inl, inr, subst, refl, ap, sym, ◌∙◌, rules, arith}
+use Rattle.std.proofs.Common.{◌≡◌, ℕ, ◌+◌, ◌-◌, ◌≤◌, ◌==◌, List, length, get_or, take, drop, length-take, inl, inr, subst, ap, sym, ◌∙◌, arith}
 use Rattle.std.proofs.lemmas.Bool.{cases_lt}
 use Rattle.std.proofs.lemmas.List.{take_rest, get_or_past}
 use Rattle.std.proofs.lemmas.List.Sums.{count_by-le-length}
 use Rattle.level_spec.proofs.Sizes.{shape_most}
-use Rattle.std.specs.List.{count_by, range_with_len}
+use Rattle.std.specs.List.{count_by}
 use Rattle.dst_spec.specs.Sample.{Shape, samples}
-use Rattle.frame_predictions.specs.Codes.{code_at, codes}
+use Rattle.frame_predictions.specs.Codes.{codes}
 use Rattle.frame_predictions.specs.Predicting.{Predicted, nothing}
 use Rattle.filter_analyser.proofs.Counting.{count_by-codes}
 use Rattle.filter_analyser.proofs.picks.count_row.Goals as goal

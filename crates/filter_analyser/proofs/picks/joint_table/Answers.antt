@@ -1,8 +1,8 @@
-use Rattle.std.proofs.Common.{◌≡◌, ℕ, ◌+◌, ◌-◌, ◌*◌, ◌<◌, ◌≤◌, ◌==◌, List, length, get_or, refl, ap, sym, ◌∙◌, subst, rules, arith}
+use Rattle.std.proofs.Common.{◌≡◌, ℕ, ◌+◌, ◌-◌, ◌≤◌, ◌==◌, List, length, refl, ap, sym, ◌∙◌, arith}
 use Rattle.std.specs.List.{count_by, range_with_len}
-use Rattle.dst_spec.specs.Sample.{Shape, IsShape, samples}
+use Rattle.dst_spec.specs.Sample.{Shape, samples}
 use Rattle.dst_spec.proofs.Lists.{get_or-zeros}
-use Rattle.level_spec.specs.Counts.{count_from, counted}
+use Rattle.level_spec.specs.Counts.{count_from}
 use Rattle.level_spec.specs.Picks.{channels_of}
 use Rattle.frame_predictions.specs.Codes.{code_at}
 use Rattle.filter_analyser.proofs.Counting.{count_from-push, counted-is}

@@ -1,13 +1,10 @@
-use Rattle.std.proofs.Common.{◌≡◌, ℕ, ◌+◌, ◌-◌, ◌^◌, ◌<◌, ◌≤◌, List, ℤ, pos, nat_abs, true, [], ◌∷◌, ◌++◌, length, map, get_or, take, replicate, refl, ap, sym, ◌∙◌, subst, rules, arith}
+use Rattle.std.proofs.Common.{◌≡◌, ℕ, ◌+◌, ◌^◌, ◌<◌, ◌≤◌, List, ℤ, pos, nat_abs, [], ◌∷◌, ◌++◌, map, get_or, take, ap, sym, ◌∙◌, subst, arith}
 use Rattle.std.specs.List.{range_with_len}
-use Rattle.std.proofs.lemmas.List.FromFn.{map-range_with_len_more, length-map-range_with_len}
-use Rattle.dst_spec.specs.Sample.{Shape, IsShape}
-use Rattle.dst_spec.specs.Header.{Params, IsParams}
-use Rattle.dst_num.specs.Map.{params_of}
+use Rattle.std.proofs.lemmas.List.FromFn.{map-range_with_len_more}
+use Rattle.dst_spec.specs.Header.{IsParams}
 use Rattle.level_spec.specs.Correlation.{correlations}
 use Rattle.level_spec.specs.Counts.{counted}
-use Rattle.level_spec.specs.Scale.{quantised}
-use Rattle.level_spec.specs.Picks.{channels_of, filter_for, per_channel}
+use Rattle.level_spec.specs.Picks.{filter_for}
 use Rattle.level_spec.proofs.Sizes.{are_correlations}
 use Rattle.level_spec.proofs.Lawful.{IsParams-per_channel}
 use Rattle.filter_analyser.proofs.Picking.{solution-small, filter-is, first_numbers, per_channel-is}

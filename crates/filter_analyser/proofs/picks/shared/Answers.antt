@@ -1,12 +1,10 @@
-use Rattle.std.proofs.Common.{◌≡◌, ℕ, ◌+◌, ◌-◌, ◌^◌, ◌<◌, ◌≤◌, List, ℤ, pos, nat_abs, true, [], ◌∷◌, ◌++◌, length, get_or, take, replicate, refl, ap, sym, ◌∙◌, subst, rules, arith}
-use Rattle.std.specs.List.{range_with_len}
+use Rattle.std.proofs.Common.{◌≡◌, ℕ, ◌^◌, ◌≤◌, List, ℤ, pos, nat_abs, true, [], ◌∷◌, ◌++◌, get_or, take, replicate, ap, sym, ◌∙◌, subst, arith}
 use Rattle.std.proofs.lemmas.List.FromFn.{length-range_with_len}
-use Rattle.dst_spec.specs.Sample.{Shape, IsShape}
-use Rattle.dst_spec.specs.Header.{Params, IsParams}
+use Rattle.dst_spec.specs.Header.{IsParams}
 use Rattle.dst_num.specs.Map.{params_of}
 use Rattle.level_spec.specs.Correlation.{correlations}
 use Rattle.level_spec.specs.Counts.{counted}
-use Rattle.level_spec.specs.Picks.{channels_of, filter_for, shared}
+use Rattle.level_spec.specs.Picks.{channels_of}
 use Rattle.level_spec.proofs.Sizes.{are_correlations}
 use Rattle.level_spec.proofs.Lawful.{IsParams-shared}
 use Rattle.filter_analyser.proofs.Picking.{solution-small, filter-is, zero_numbers, shared-is}

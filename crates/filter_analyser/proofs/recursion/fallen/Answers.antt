@@ -1,5 +1,5 @@
-use Rattle.std.proofs.Common.{◌≡◌, ℕ, ◌+◌, ◌-◌, ◌*◌, ◌/◌, ◌^◌, ◌<◌, ◌≤◌, ℤ, pos, ◌+ℤ◌, ◌-ℤ◌, ◌*ℤ◌, ◌≤ℤ◌, nat_abs, to_z, of_z, refl, ap, sym, ◌∙◌, rules, arith}
-use mir.Syntax.{w64, w128}
+use Rattle.std.proofs.Common.{◌≡◌, ◌^◌, ◌≤◌, ◌-ℤ◌, ◌*ℤ◌, nat_abs, to_z, of_z, ap, ◌∙◌, arith}
+use mir.Syntax.{w64}
 use Rattle.std.proofs.lemmas.Int.{ints}
 use Rattle.level_spec.specs.Recursion.{whole, fallen}
 use Rattle.level_spec.proofs.Bounds.{fallen-bounds}

@@ -1,4 +1,4 @@
-use Rattle.std.proofs.Common.{◌≡◌, ℕ, ◌+◌, ◌-◌, ◌*◌, ◌^◌, ◌<◌, ◌≤◌, ◌≢◌, ℤ, pos, ◌-ℤ◌, ◌*ℤ◌, nat_abs, to_z, of_z, length, get_or, set, get_or-set_other, get_or-set_same, inl, inr, subst, ap, sym, ◌∙◌, rules, arith}
+use Rattle.std.proofs.Common.{◌≡◌, ◌+◌, ◌-◌, ◌<◌, ◌≢◌, pos, ◌-ℤ◌, ◌*ℤ◌, to_z, of_z, length, get_or, set, get_or-set_other, get_or-set_same, inl, inr, subst, ap, sym, ◌∙◌, arith}
 use mir.Syntax.{w64}
 use Rattle.std.proofs.lemmas.Int.{ints}
 use Rattle.std.proofs.lemmas.Bool.{cases_lt}

@@ -1,4 +1,4 @@
-use Rattle.std.proofs.Common.{◌≡◌, ℕ, ◌+◌, ◌-◌, ◌*◌, ◌<◌, pos, ◌-ℤ◌, ◌*ℤ◌, length, get_or}
+use Rattle.std.proofs.Common.{◌≡◌, ℕ, ◌+◌, ◌-◌, ◌<◌, pos, ◌-ℤ◌, ◌*ℤ◌, get_or}
 use Rattle.level_spec.specs.Recursion.{value, whole}
 use Rattle.filter_analyser.proofs.recursion.fill_moved.Given as goal
 

@@ -1,9 +1,9 @@
-use Rattle.std.proofs.Common.{◌≡◌, ℕ, ◌+◌, ◌-◌, ◌*◌, ◌^◌, ◌<◌, ◌≤◌, ℤ, pos, ◌+ℤ◌, ◌-ℤ◌, ◌*ℤ◌, nat_abs, to_z, of_z, length, get_or, refl, ap, sym, ◌∙◌, rules, arith}
+use Rattle.std.proofs.Common.{◌≡◌, ◌-◌, ◌^◌, ◌≤◌, pos, ◌-ℤ◌, ◌*ℤ◌, nat_abs, to_z, of_z, get_or, ap, ◌∙◌, arith}
 use mir.Syntax.{w64, w128}
 use Rattle.std.proofs.lemmas.Int.{ints}
 use Rattle.level_spec.specs.Correlation.{sum_over}
 use Rattle.level_spec.specs.Recursion.{lag, value, left_over}
-use Rattle.filter_analyser.proofs.Shares.{left-most, left-next, product-most, same_64, same_128, lags-most}
+use Rattle.filter_analyser.proofs.Shares.{left-most, left-next, product-most, same_64, lags-most}
 use Rattle.filter_analyser.proofs.recursion.left_over.Goals as goal
 
 pub loop-j-init : goal.loop-j-init

@@ -1,9 +1,8 @@
-use Rattle.std.proofs.Common.{◌≡◌, ℕ, ◌+◌, ◌*◌, ◌^◌, ◌<◌, ◌≤◌, ℤ, pos, ◌*ℤ◌, nat_abs, to_z, of_z, ap, sym, ◌∙◌, rules, arith}
+use Rattle.std.proofs.Common.{◌≡◌, ◌^◌, ◌≤◌, nat_abs, to_z, of_z, ◌∙◌, arith}
 use mir.Syntax.{w64, w128}
 use lib.Signed.{shr_z}
 use Rattle.std.proofs.lemmas.Int.{ints}
-use Rattle.level_spec.specs.Recursion.{whole}
-use Rattle.filter_analyser.proofs.Shares.{share-is, same_64, same_128}
+use Rattle.filter_analyser.proofs.Shares.{share-is}
 use Rattle.filter_analyser.proofs.recursion.share.Goals as goal
 
 pub overflow_cast-result : goal.overflow_cast-result

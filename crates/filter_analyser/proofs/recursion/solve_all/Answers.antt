@@ -1,4 +1,4 @@
-use Rattle.std.proofs.Common.{◌≡◌, ℤ, List, [], ◌∷◌, lit≤, ap, sym, ◌∙◌, rules, arith}
+use Rattle.std.proofs.Common.{◌≡◌, ℤ, List, [], ◌∷◌, lit≤, ap, ◌∙◌}
 use Rattle.filter_analyser.specs.Run.{padded}
 use Rattle.filter_analyser.proofs.Padding.{padded-solution, begun}
 use Rattle.filter_analyser.proofs.recursion.solve_all.Goals as goal

@@ -1,4 +1,4 @@
-use Rattle.std.proofs.Common.{◌≡◌, ◌*◌, ◌^◌, ◌≤◌, pos, ◌+ℤ◌, ◌*ℤ◌, nat_abs, to_z, of_z, rules, arith}
+use Rattle.std.proofs.Common.{arith}
 use Rattle.std.proofs.lemmas.Int.{ints}
 use Rattle.filter_analyser.proofs.Scaling.{scaled-most, coefficient-is}
 use Rattle.filter_analyser.proofs.scale.coefficient.Goals as goal

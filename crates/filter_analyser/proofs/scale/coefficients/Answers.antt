@@ -1,6 +1,6 @@
-use Rattle.std.proofs.Common.{◌≡◌, ℕ, ◌+◌, ◌<◌, ◌≤◌, ◌≢◌, ℤ, pos, negsuc, ◌≤ℤ◌, nat_abs, to_z, of_z, List, length, map, get_or, set, take, length-take, length-set, get_or-set_other, get_or-set_same, below_more, ap, sym, ◌∙◌, rules, arith}
+use Rattle.std.proofs.Common.{◌≡◌, ◌<◌, ◌≢◌, ℤ, pos, to_z, of_z, length, map, get_or, take, length-take, length-set, get_or-set_other, get_or-set_same, below_more, ap, sym, ◌∙◌, arith}
 use mir.Syntax.{w16, w64}
-use Rattle.std.proofs.lemmas.Int.{ints, clamps}
+use Rattle.std.proofs.lemmas.Int.{ints}
 use Rattle.std.proofs.lemmas.List.{ext_get_or, get_or-take, length-map}
 use Rattle.level_spec.specs.Scale.{coefficient, bounded}
 use Rattle.filter_analyser.proofs.Scaling.{get_or-mapped}

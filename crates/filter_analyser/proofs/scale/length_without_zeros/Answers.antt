@@ -1,4 +1,4 @@
-use Rattle.std.proofs.Common.{◌≡◌, ℕ, ◌+◌, ◌<◌, ◌≤◌, max, ℤ, pos, nat_abs, true, false, not, cond, ◌==◌, length, get_or, refl, ap, sym, ◌∙◌, rules, arith}
+use Rattle.std.proofs.Common.{ℕ, ◌+◌, pos, nat_abs, not, cond, ◌==◌, get_or, refl, ap, sym, ◌∙◌, rules, arith}
 use mir.Syntax.{w16}
 use mir.Val.{SFits}
 use Rattle.level_spec.specs.Scale.{last_place}

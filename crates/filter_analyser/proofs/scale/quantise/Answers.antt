@@ -1,4 +1,4 @@
-use Rattle.std.proofs.Common.{◌≡◌, ℕ, ◌+◌, ◌<◌, ◌≤◌, max, min, ℤ, pos, List, length, map, get_or, take, length-take, ap, sym, ◌∙◌, subst, rules, arith}
+use Rattle.std.proofs.Common.{◌≡◌, ℕ, ◌≤◌, max, ℤ, List, length, map, take, length-take, ap, sym, ◌∙◌, subst, arith}
 use Rattle.std.proofs.lemmas.List.{take-take}
 use Rattle.dst_spec.specs.Table.{filter_kind, IsTable}
 use Rattle.level_spec.specs.Scale.{coefficient, scale, bounded, without_zeros, quantised}

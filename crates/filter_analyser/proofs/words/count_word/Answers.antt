@@ -1,4 +1,4 @@
-use Rattle.std.proofs.Common.{◌≡◌, ℕ, ◌+◌, ◌-◌, ◌*◌, ◌/◌, ◌%◌, ◌^◌, ◌<◌, ◌≤◌, ◌≢◌, length, get_or, bit_xor, count_ones, below_more, get_or-set_other, get_or-set_same, length-set, ap, sym, ◌∙◌, rules, arith}
+use Rattle.std.proofs.Common.{◌≡◌, ℕ, ◌+◌, ◌-◌, ◌/◌, ◌%◌, ◌^◌, ◌<◌, ◌≤◌, ◌≢◌, length, get_or, bit_xor, count_ones, below_more, get_or-set_other, get_or-set_same, length-set, rules, arith}
 use Rattle.std.proofs.lemmas.Nat.{ones-le, xor_lt}
 use Rattle.filter_analyser.specs.Words.{passed, tally}
 use Rattle.filter_analyser.proofs.Differing.{ones-differing}

@@ -1,4 +1,4 @@
-use Rattle.std.proofs.Common.{◌≡◌, ◌-◌, ◌*◌, ◌/◌, ◌%◌, ◌^◌, ◌<◌, ◌≤◌, true, false, cond, nat_lt, bit_or, inl, inr, ap, sym, ◌∙◌, rules, arith}
+use Rattle.std.proofs.Common.{◌-◌, ◌/◌, ◌%◌, ◌^◌, ◌<◌, cond, inl, inr, ap, sym, ◌∙◌, rules, arith}
 use Rattle.std.proofs.lemmas.Bool.{cases_lt}
 use Rattle.filter_analyser.proofs.Bits.{moved-near, moved-far}
 use Rattle.filter_analyser.proofs.Differing.{test-true, test-false}

@@ -1,6 +1,4 @@
-use Rattle.std.proofs.Common.{◌≡◌, ℕ, ◌+◌, ◌-◌, ◌*◌, ◌/◌, ◌%◌, ◌^◌, ◌<◌, ◌≤◌, length, get_or, ap, sym, ◌∙◌, rules, arith}
-use Rattle.dst_spec.specs.Sample.{Shape, sample}
-use Rattle.filter_analyser.specs.Words.{bit_of}
+use Rattle.std.proofs.Common.{◌≡◌, ◌+◌, ◌-◌, ◌*◌, ◌/◌, ◌%◌, ◌^◌, get_or, ap, sym, ◌∙◌, arith}
 use Rattle.filter_analyser.proofs.words.pack.Goals as goal
 
 pub returns : goal.returns

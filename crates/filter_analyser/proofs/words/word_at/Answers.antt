@@ -1,4 +1,4 @@
-use Rattle.std.proofs.Common.{◌≡◌, ℕ, ◌+◌, ◌-◌, ◌*◌, ◌/◌, ◌%◌, ◌^◌, ◌<◌, ◌≤◌, get_or, bit_or, ap, sym, ◌∙◌, subst, rules, arith}
+use Rattle.std.proofs.Common.{◌≡◌, ℕ, ◌+◌, ◌-◌, ◌*◌, ◌/◌, ◌%◌, ◌^◌, ◌<◌, get_or, bit_or, ap, sym, ◌∙◌, subst, rules, arith}
 use Rattle.filter_analyser.proofs.Bits.{joined, byte-behind, byte-bits}
 use Rattle.filter_analyser.proofs.words.word_at.Goals as goal
 

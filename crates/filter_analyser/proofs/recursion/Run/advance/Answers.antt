@@ -1,4 +1,4 @@
-use Rattle.std.proofs.Common.{◌≡◌, ◌+◌, ◌<◌, ◌≤◌, length, ap, sym, ◌∙◌, rules, arith}
+use Rattle.std.proofs.Common.{◌≡◌, length, ap, sym, ◌∙◌, arith}
 use Rattle.level_spec.specs.Recursion.{step, after}
 use Rattle.level_spec.proofs.Steps.{length-after}
 use Rattle.filter_analyser.proofs.Padding.{one_more, stopped}

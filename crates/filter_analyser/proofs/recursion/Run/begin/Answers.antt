@@ -1,7 +1,7 @@
-use Rattle.std.proofs.Common.{◌≡◌, ℕ, ◌+◌, ◌*◌, ◌^◌, ◌<◌, ◌≤◌, ℤ, pos, ◌*ℤ◌, ◌≤ℤ◌, nat_abs, to_z, of_z, [], get_or, refl, ap, sym, ◌∙◌, rules, arith}
+use Rattle.std.proofs.Common.{◌≡◌, ℤ, pos, ◌*ℤ◌, to_z, of_z, [], get_or, ap, arith}
 use mir.Syntax.{w64}
 use Rattle.std.proofs.lemmas.Int.{ints}
-use Rattle.level_spec.specs.Recursion.{State, lag, begin}
+use Rattle.level_spec.specs.Recursion.{State, begin}
 use Rattle.filter_analyser.proofs.Shares.{lags-most}
 use Rattle.filter_analyser.proofs.recursion.Run.begin.Goals as goal
 

@@ -1,14 +1,9 @@
-use Rattle.std.proofs.Common.{◌≡◌, ℕ, zero, suc, ◌+◌, ◌-◌, ◌*◌, ◌^◌, ◌<◌, ◌≤◌, ℤ, pos, List, ◌++◌, length, get_or, take, replicate, length-take, length-append, inl, inr, refl, ap, sym, ◌∙◌, rules, arith}
+use Rattle.std.proofs.Common.{◌≡◌, ℕ, ◌+◌, ◌-◌, ◌<◌, ◌≤◌, ℤ, pos, List, ◌++◌, length, get_or, take, replicate, length-take, length-append, inl, inr, refl, ap, sym, ◌∙◌, arith}
 use Rattle.std.proofs.lemmas.List.{ext_get_or, get_or_append_left, get_or-append_right, length-replicate}
 use Rattle.std.proofs.lemmas.Bool.{cases_lt}
-use Rattle.level_spec.specs.Recursion.{State}
 use Rattle.filter_analyser.specs.Run.{padded}
+use Rattle.filter_analyser.proofs.Padding.{zeros-at}
 use Rattle.filter_analyser.proofs.recursion.Run.padded.Goals as goal
-
-zeros-at : (n k : ℕ) → get_or (replicate n (pos 0)) k (pos 0) ≡ pos 0
-zeros-at zero k = refl
-zeros-at (suc n) zero = refl
-zeros-at (suc n) (suc k) = zeros-at n k
 
 pub padded-is : (all values : List ℤ) → length all ≡ 128 → length values ≤ 128 → ((k : ℕ) → k < length values → get_or all k (pos 0) ≡ get_or values k (pos 0))
     → ((k : ℕ) → length values ≤ k → get_or all k (pos 0) ≡ pos 0) → all ≡ padded values

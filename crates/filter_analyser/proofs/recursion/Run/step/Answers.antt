@@ -1,11 +1,9 @@
-use Rattle.std.proofs.Common.{◌≡◌, ℕ, ◌+◌, ◌-◌, ◌*◌, ◌^◌, ◌<◌, ◌≤◌, ℤ, pos, ◌-ℤ◌, ◌*ℤ◌, ◌≤ℤ◌, nat_abs, nat_lt, to_z, of_z, List, length, get_or, take, length-take, true, false, cond, refl, ap, sym, ◌∙◌, subst, rules, arith}
+use Rattle.std.proofs.Common.{◌≡◌, ◌+◌, ◌^◌, ◌<◌, ◌≤◌, ℤ, nat_abs, nat_lt, to_z, of_z, List, length, take, length-take, cond, ap, sym, ◌∙◌, subst, arith}
 use mir.Syntax.{w64, w128}
 use Rattle.std.proofs.lemmas.Int.{ints}
 use Rattle.std.specs.List.{list_any}
 use Rattle.level_spec.specs.Recursion.{State, reflection, moved, fallen, step}
 use Rattle.level_spec.proofs.Bounds.{none_above}
-use Rattle.filter_analyser.specs.Run.{IsRun}
-use Rattle.filter_analyser.proofs.Shares.{each-most, same_64, same_128}
 use Rattle.filter_analyser.proofs.Stepping.{stop-by_value, stop-by_large}
 use Rattle.filter_analyser.proofs.recursion.Run.step.Goals as goal
 
