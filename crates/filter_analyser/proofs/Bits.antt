@@ -10,7 +10,8 @@ pushed-over before lag h =
     let k = 64 - lag in
     let n = before * 2 ^ k in
     let e : 64 ≡ lag + k = omega arith in
-    let none : n % 2 ^ k ≡ 0 = ap (λ m. m % 2 ^ k) (let z : before * 2 ^ k ≡ before * 2 ^ k + 0 = omega arith in z) ∙ mod_low before k 0 (Rattle.std.proofs.lemmas.Nat.pow_pos k) in
+    let none : n % 2 ^ k ≡ 0 = ap (λ m. m % 2 ^ k) (let z : before * 2 ^ k ≡ before * 2 ^ k + 0 = omega arith in z)
+    ∙ mod_low before k 0 (Rattle.std.proofs.lemmas.Nat.pow_pos k) in
     ap (λ w. n % 2 ^ w) e ∙ mod-pow-add n lag k ∙ ap (λ q. q % 2 ^ lag * 2 ^ k + n % 2 ^ k) (shl-shr before k) ∙ ap (λ r. before % 2 ^ lag * 2 ^ k + r) none
 
 low-bit : (n lag i : ℕ) → i < lag → (n % 2 ^ lag) / 2 ^ i % 2 ≡ n / 2 ^ i % 2
@@ -22,7 +23,8 @@ moved-near word before lag i least most near inside =
     let high = shr-shr word lag (63 - i) in
     let e : lag + (63 - i) ≡ 63 - (i - lag) = omega arith in
     let low : (before * 2 ^ (64 - lag)) % 2 ^ 64 / 2 ^ (63 - i) % 2 ≡ 0 =
-    ap (λ m. m / 2 ^ (63 - i) % 2) (pushed-over before lag (omega arith)) ∙ bit_at_cat_low (before % 2 ^ lag) (64 - lag) 0 (63 - i) (omega arith) ∙ bit_at-zero (63 - i) in
+    ap (λ m. m / 2 ^ (63 - i) % 2) (pushed-over before lag (omega arith)) ∙ bit_at_cat_low (before % 2 ^ lag) (64 - lag) 0 (63 - i) (omega arith)
+    ∙ bit_at-zero (63 - i) in
     let both = bit_at_or (word / 2 ^ lag) ((before * 2 ^ (64 - lag)) % 2 ^ 64) (63 - i) in
     let is : word / 2 ^ lag / 2 ^ (63 - i) % 2 ≡ word / 2 ^ (63 - (i - lag)) % 2 = ap (λ q. q % 2) high ∙ ap (λ k. word / 2 ^ k % 2) e in
     omega arith

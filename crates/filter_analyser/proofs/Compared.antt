@@ -1,5 +1,6 @@
 -- The words before a place are compared and moved.
-use Rattle.std.proofs.Common.{◌≡◌, ℕ, ◌+◌, ◌-◌, ◌*◌, ◌/◌, ◌%◌, ◌^◌, ◌<◌, ◌≤◌, ◌≢◌, List, length, get_or, set, get_or-set_other, get_or-set_same, inl, inr, refl, ap, sym, ◌∙◌, arith}
+use Rattle.std.proofs.Common.{◌≡◌, ℕ, ◌+◌, ◌-◌, ◌*◌, ◌/◌, ◌%◌, ◌^◌, ◌<◌, ◌≤◌, ◌≢◌, List, length, get_or, set, get_or-set_other, get_or-set_same, inl}
+use Rattle.std.proofs.Common.{inr, refl, ap, sym, ◌∙◌, arith}
 use Rattle.std.proofs.lemmas.Bool.{cases_lt}
 use Rattle.filter_analyser.specs.Words.{bit_of, late, passed, tally}
 use Rattle.filter_analyser.proofs.Tallies.{tally-append, tally-most}
@@ -20,7 +21,8 @@ compared-none words others counts h = record {
   rest = λ w k. refl;
 }
 
-pub compared-few : (words others counts behind : List ℕ) (place before j : ℕ) → Compared words others place before counts behind → j < 8 → get_or counts j 0 ≤ 64 * place
+pub compared-few : (words others counts behind : List ℕ) (place before j : ℕ) → Compared words others place before counts behind → j < 8 →
+    get_or counts j 0 ≤ 64 * place
 compared-few words others counts behind place before j h k =
     let most = tally-most (λ t. (bit_of words t + late others (j + 1) t) % 2) 0 (64 * place) (λ t. omega arith) in
     omega (arith, most, h.counted j k)
@@ -47,13 +49,18 @@ moved-bit words others behind place before moved t inside stands done bits h =
 
 pub compared-more : (words others counts behind next : List ℕ) (place before moved : ℕ) → Compared words others place before counts behind
     → place < length behind
-    → ((j : ℕ) → j < 8 → get_or next j 0 ≡ get_or counts j 0 + tally (λ i. (get_or words place 0 / 2 ^ (63 - i) % 2 + passed (get_or behind place 0) before (j + 1) i) % 2) 0 64)
+    → ((j : ℕ) → j < 8 → get_or next j 0 ≡ get_or counts j 0 + tally
+    (λ i. (get_or words place 0 / 2 ^ (63 - i) % 2 + passed (get_or behind place 0) before (j + 1) i) % 2) 0 64)
     → ((i : ℕ) → i < 64 → moved / 2 ^ (63 - i) % 2 ≡ passed (get_or behind place 0) before 8 i)
     → Compared words others (place + 1) (get_or behind place 0) next (set behind place moved)
 compared-more words others counts behind next place before moved h inside counted bits =
     let here : get_or behind place 0 ≡ get_or others place 0 = h.rest place (omega arith) in
     record {
-      stands = record { none = λ e. absurd (omega arith); some = λ _. let e : place + 1 - 1 ≡ place = omega arith in here ∙ sym (ap (λ w. get_or others w 0) e) };
+      stands = record {
+        none = λ e. absurd (omega arith);
+        some = λ _. let e : place + 1 - 1 ≡ place = omega arith in here
+            ∙ sym (ap (λ w. get_or others w 0) e);
+      };
       counted = λ j k.
           let G : ℕ → ℕ = λ t. (bit_of words t + late others (j + 1) t) % 2 in
           let e : 64 * place + 64 ≡ 64 * (place + 1) = omega arith in

@@ -14,27 +14,32 @@ pub late-late : (words behind : List ℕ) (m j n t : ℕ) → ((t : ℕ) → t <
 late-late words behind m j n t h inside =
     elim (cases_lt t j) [
       | inl early ↦
-          ap (λ b. cond b 0 (bit_of behind (t - j))) (test-true t j early) ∙ sym (ap (λ b. cond b 0 (bit_of words (t - (m + j)))) (test-true t (m + j) (omega arith)))
+          ap (λ b. cond b 0 (bit_of behind (t - j))) (test-true t j early)
+          ∙ sym (ap (λ b. cond b 0 (bit_of words (t - (m + j)))) (test-true t (m + j) (omega arith)))
       | inr behind_j ↦
           ap (λ b. cond b 0 (bit_of behind (t - j))) (test-false t j behind_j)
           ∙ h (t - j) (omega arith)
           ∙ elim (cases_lt t (m + j)) as (λ _. late words m (t - j) ≡ late words (m + j) t) [
-            | inl early ↦ ap (λ b. cond b 0 (bit_of words (t - j - m))) (test-true (t - j) m (omega arith)) ∙ sym (ap (λ b. cond b 0 (bit_of words (t - (m + j)))) (test-true t (m + j) early))
+            | inl early ↦ ap (λ b. cond b 0 (bit_of words (t - j - m))) (test-true (t - j) m (omega arith))
+                ∙ sym (ap (λ b. cond b 0 (bit_of words (t - (m + j)))) (test-true t (m + j) early))
             | inr far ↦
                 let e : t - j - m ≡ t - (m + j) = omega arith in
-                ap (λ b. cond b 0 (bit_of words (t - j - m))) (test-false (t - j) m (omega arith)) ∙ ap (bit_of words) e ∙ sym (ap (λ b. cond b 0 (bit_of words (t - (m + j)))) (test-false t (m + j) far))
+                ap (λ b. cond b 0 (bit_of words (t - j - m))) (test-false (t - j) m (omega arith)) ∙ ap (bit_of words) e
+                ∙ sym (ap (λ b. cond b 0 (bit_of words (t - (m + j)))) (test-false t (m + j) far))
           ]
     ]
 
 -- the first k samples differ from the zeros before the frame where they are 1
-pub differing-parts : (words behind : List ℕ) (m j k : ℕ) → ((t : ℕ) → t < 64 * length words → bit_of behind t ≡ late words m t) → m + j ≡ k → k ≤ 64 * length words →
+pub differing-parts : (words behind : List ℕ) (m j k : ℕ) → ((t : ℕ) → t < 64 * length words → bit_of behind t ≡ late words m t) → m + j ≡ k →
+    k ≤ 64 * length words →
     differing words behind j ≡ tally (bit_of words) 0 k + tally (λ t. (bit_of words t + bit_of words (t - k)) % 2) k (64 * length words - k)
 unfolding differing
 differing-parts words behind m j k h e most =
     let n = 64 * length words in
     let G : ℕ → ℕ = λ t. (bit_of words t + late words k t) % 2 in
     let moved : tally (λ t. (bit_of words t + late behind j t) % 2) 0 n ≡ tally G 0 n =
-    tally-same (λ t. (bit_of words t + late behind j t) % 2) G 0 n (λ t _ inside. ap (λ b. (bit_of words t + b) % 2) (late-late words behind m j n t h (omega arith) ∙ ap (λ l. late words l t) e)) in
+    tally-same (λ t. (bit_of words t + late behind j t) % 2) G 0 n
+    (λ t _ inside. ap (λ b. (bit_of words t + b) % 2) (late-late words behind m j n t h (omega arith) ∙ ap (λ l. late words l t) e)) in
     let whole : n ≡ k + (n - k) = omega arith in
     let z : 0 + k ≡ k = omega arith in
     let parts : tally G 0 (k + (n - k)) ≡ tally G 0 k + tally G (0 + k) (n - k) = tally-append G 0 k (n - k) in
@@ -43,7 +48,8 @@ differing-parts words behind m j k h e most =
     let rest : tally G k (n - k) ≡ tally (λ t. (bit_of words t + bit_of words (t - k)) % 2) k (n - k) =
     tally-same G (λ t. (bit_of words t + bit_of words (t - k)) % 2) k (n - k) (λ t least inside.
     ap (λ b. (bit_of words t + cond b 0 (bit_of words (t - k))) % 2) (test-false t k least)) in
-    moved ∙ ap (tally G 0) whole ∙ parts ∙ ap (λ a. tally G 0 k + tally G a (n - k)) z ∙ ap (λ x. x + tally G k (n - k)) first ∙ ap (λ x. tally (bit_of words) 0 k + x) rest
+    moved ∙ ap (tally G 0) whole ∙ parts ∙ ap (λ a. tally G 0 k + tally G a (n - k)) z ∙ ap (λ x. x + tally G k (n - k)) first
+    ∙ ap (λ x. tally (bit_of words) 0 k + x) rest
 
 signs : (a b : ℕ) → a < 2 → b < 2 → signed a (pos 1) *ℤ signed b (pos 1) ≡ pos 1 -ℤ pos (2 * ((a + b) % 2))
 signs zero zero h k = refl
@@ -77,7 +83,8 @@ correlation-is f sound c k m j early count words behind h most moved e ones diff
     let less : count - early ≡ D = omega arith in
     ap (λ d. pos (64 * length words - k) -ℤ pos (2 * d)) less ∙ sym is
 
-pub early-most : (words behind : List ℕ) (k m j : ℕ) → k ≤ 64 * length words → ((t : ℕ) → t < 64 * length words → bit_of behind t ≡ late words m t) → m + j ≡ k →
+pub early-most : (words behind : List ℕ) (k m j : ℕ) → k ≤ 64 * length words → ((t : ℕ) → t < 64 * length words → bit_of behind t ≡ late words m t) →
+    m + j ≡ k →
     (tally (bit_of words) 0 k ≤ differing words behind j) × (differing words behind j ≤ 64 * length words)
 early-most words behind k m j most moved e =
     let parts = differing-parts words behind m j k moved e most in
@@ -88,5 +95,6 @@ early-most words behind k m j most moved e =
 pub correlation-at_0 : (f : Shape) (sound : List ℕ) (c : ℕ) (words : List ℕ) → HasSamples f sound c words → pos (64 * length words) ≡ correlation f sound c 0
 correlation-at_0 f sound c words h =
     let is = correlation-counted f sound c 0 words h (omega arith) in
-    let none = tally-none (λ t. (bit_of words t + bit_of words (t - 0)) % 2) 0 (64 * length words - 0) (λ t. let e : t - 0 ≡ t = omega arith in ap (λ k. (bit_of words t + bit_of words k) % 2) e ∙ omega arith) in
+    let none = tally-none (λ t. (bit_of words t + bit_of words (t - 0)) % 2) 0 (64 * length words - 0) (λ t. let e : t - 0 ≡ t =
+    omega arith in ap (λ k. (bit_of words t + bit_of words k) % 2) e ∙ omega arith) in
     omega (arith, ints)

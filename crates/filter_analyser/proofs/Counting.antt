@@ -1,5 +1,6 @@
 -- Counts of samples by code, and from them totals and wrong guesses by place.
-use Rattle.std.proofs.Common.{◌≡◌, ℕ, zero, suc, ◌+◌, ◌-◌, ◌*◌, ◌<◌, ◌≤◌, max, ℤ, pos, Bool, true, false, not, cond, ◌&&◌, ◌==◌, nat_lt, List, [], ◌∷◌, length, map, get_or, take, drop, refl, ap, sym, ◌∙◌, arith}
+use Rattle.std.proofs.Common.{◌≡◌, ℕ, zero, suc, ◌+◌, ◌-◌, ◌*◌, ◌<◌, ◌≤◌, max, ℤ, pos, Bool, true, false, not, cond, ◌&&◌, ◌==◌, nat_lt, List, []}
+use Rattle.std.proofs.Common.{◌∷◌, length, map, get_or, take, drop, refl, ap, sym, ◌∙◌, arith}
 use Rattle.std.proofs.lemmas.Bool.Decides.{nat_tests}
 use Rattle.std.proofs.lemmas.List.Sums.{count_by-le-length, sum_by-cons}
 use Rattle.std.proofs.lemmas.List.{drop-map, get_or-drop}
@@ -22,7 +23,8 @@ count_by-cons P x xs = sum_by-cons (λ x. flag (P x)) x xs
 -- a sum of two counts
 pub count_by-parts : (P Q R : ℕ → Bool) (xs : List ℕ) → ((x : ℕ) → flag (P x) ≡ flag (Q x) + flag (R x)) → count_by P xs ≡ count_by Q xs + count_by R xs
 count_by-parts P Q R [] h = refl
-count_by-parts P Q R (x ∷ xs) h = let rest = count_by-parts P Q R xs h in let here = h x in omega (arith, count_by-cons P x xs, count_by-cons Q x xs, count_by-cons R x xs)
+count_by-parts P Q R (x ∷ xs) h = let rest = count_by-parts P Q R xs h in let here =
+    h x in omega (arith, count_by-cons P x xs, count_by-cons Q x xs, count_by-cons R x xs)
 
 pub count_by-same : (P Q : ℕ → Bool) (xs : List ℕ) → ((x : ℕ) → flag (P x) ≡ flag (Q x)) → count_by P xs ≡ count_by Q xs
 count_by-same P Q [] h = refl
@@ -62,20 +64,24 @@ split false true n p h k = split-right n p h k
 split false false n p h k = split-wrong n p h k
 
 pub total-codes : (f : Shape) (sound channels : List ℕ) (coefs : List ℤ) (p : ℕ) → p < 64 →
-    total f sound channels coefs p ≡ count_from (length coefs) f (λ c t. code_at f sound c coefs t == p) channels + count_from (length coefs) f (λ c t. code_at f sound c coefs t == p + 64) channels
+    total f sound channels coefs p ≡ count_from (length coefs) f (λ c t. code_at f sound c coefs t == p) channels + count_from (length coefs) f
+    (λ c t. code_at f sound c coefs t == p + 64) channels
 total-codes f sound channels coefs p h =
-    count_from-parts (length coefs) f (λ c t. place f sound c coefs t == p) (λ c t. code_at f sound c coefs t == p) (λ c t. code_at f sound c coefs t == p + 64) channels (λ c t.
+    count_from-parts (length coefs) f (λ c t. place f sound c coefs t == p) (λ c t. code_at f sound c coefs t == p)
+    (λ c t. code_at f sound c coefs t == p + 64) channels (λ c t.
     (split (is_negative (sum_before f sound c coefs (pos t))) (sample f sound c (pos t) == 1) (place f sound c coefs t) p (omega arith) h).0)
 
 pub wrong-codes : (f : Shape) (sound channels : List ℕ) (coefs : List ℤ) (p : ℕ) → p < 64 →
     wrong f sound channels coefs p ≡ count_from (length coefs) f (λ c t. code_at f sound c coefs t == p + 64) channels
 wrong-codes f sound channels coefs p h =
-    count_from-same (length coefs) f (λ c t. (place f sound c coefs t == p) && is_wrong f sound c coefs t) (λ c t. code_at f sound c coefs t == p + 64) channels (λ c t.
+    count_from-same (length coefs) f (λ c t. (place f sound c coefs t == p) && is_wrong f sound c coefs t)
+    (λ c t. code_at f sound c coefs t == p + 64) channels (λ c t.
     (split (is_negative (sum_before f sound c coefs (pos t))) (sample f sound c (pos t) == 1) (place f sound c coefs t) p (omega arith) h).1)
 
 -- one more channel
 pub count_from-next : (first : ℕ) (f : Shape) (test : ℕ → ℕ → Bool) (channels : List ℕ) (i : ℕ) → i < length channels →
-    count_from first f test (take (i + 1) channels) ≡ count_from first f test (take i channels) + count_by (test (get_or channels i 0)) (range_with_len first (samples f - first))
+    count_from first f test (take (i + 1) channels) ≡ count_from first f test (take i channels) + count_by (test (get_or channels i 0))
+    (range_with_len first (samples f - first))
 unfolding count_from
 count_from-next first f test [] i h = absurd (omega arith)
 count_from-next first f test (c ∷ channels) zero h = omega arith
@@ -107,26 +113,30 @@ count_by-map P g [] = refl
 count_by-map P g (x ∷ xs) = let rest = count_by-map P g xs in omega (arith, count_by-cons P (g x) (map g xs), count_by-cons (λ x. P (g x)) x xs)
 
 pub count_by-codes : (f : Shape) (sound : List ℕ) (c : ℕ) (coefs : List ℤ) (first q : ℕ) →
-    count_by (λ code. code == q) (drop first (codes f sound c coefs)) ≡ count_by (λ t. code_at f sound c coefs t == q) (range_with_len first (samples f - first))
+    count_by (λ code. code == q) (drop first (codes f sound c coefs)) ≡ count_by (λ t. code_at f sound c coefs t == q)
+    (range_with_len first (samples f - first))
 unfolding codes
 count_by-codes f sound c coefs first q =
     let g = code_at f sound c coefs in
     let z : 0 + first ≡ first = omega arith in
-    ap (count_by (λ code. code == q)) (drop-map g first (range_with_len 0 (samples f)) ∙ ap (map g) (drop-range 0 (samples f) first ∙ ap (λ b. range_with_len b (samples f - first)) z))
+    ap (count_by (λ code. code == q)) (drop-map g first (range_with_len 0 (samples f))
+    ∙ ap (map g) (drop-range 0 (samples f) first ∙ ap (λ b. range_with_len b (samples f - first)) z))
     ∙ count_by-map (λ code. code == q) g (range_with_len first (samples f - first))
 
 code-most : (place : ℕ) (right : Bool) → place ≤ 63 → place + cond right 0 64 < 128
 code-most place true h = omega arith
 code-most place false h = omega arith
 
-pub codes-small : (f : Shape) (sound : List ℕ) (c : ℕ) (coefs : List ℤ) (first k d : ℕ) → first + k < samples f → get_or (drop first (codes f sound c coefs)) k d < 128
+pub codes-small : (f : Shape) (sound : List ℕ) (c : ℕ) (coefs : List ℤ) (first k d : ℕ) → first + k < samples f →
+    get_or (drop first (codes f sound c coefs)) k d < 128
 unfolding codes
 codes-small f sound c coefs first k d h =
     let t = first + k in
     let prediction = sum_before f sound c coefs (pos t) in
     let one = sample f sound c (pos t) == 1 in
     let is : get_or (drop first (map (code_at f sound c coefs) (range_with_len 0 (samples f)))) k d ≡ code_at f sound c coefs t =
-    get_or-drop first (map (code_at f sound c coefs) (range_with_len 0 (samples f))) k d ∙ get_or-map-range_with_len (code_at f sound c coefs) 0 (samples f) t t d h (omega arith) in
+    get_or-drop first (map (code_at f sound c coefs) (range_with_len 0 (samples f))) k d
+    ∙ get_or-map-range_with_len (code_at f sound c coefs) 0 (samples f) t t d h (omega arith) in
     rw is (code-most (place f sound c coefs t) (cond (is_negative prediction) (not one) one) (omega arith))
 
 pub length-codes : (f : Shape) (sound : List ℕ) (c : ℕ) (coefs : List ℤ) → length (codes f sound c coefs) ≡ samples f
@@ -146,7 +156,8 @@ map-same F G a (suc n) h =
     let rest = map-same F G (a + 1) n (λ p k. h p (omega arith)) in
     ap (λ x. x ∷ map F (range_with_len (a + 1) n)) (h a (omega arith)) ∙ ap (λ t. G a ∷ t) rest
 
-pub table_of-same : (totals wrongs others more : ℕ → ℕ) → ((p : ℕ) → p < 64 → totals p ≡ others p) → ((p : ℕ) → p < 64 → wrongs p ≡ more p) → table_of totals wrongs ≡ table_of others more
+pub table_of-same : (totals wrongs others more : ℕ → ℕ) → ((p : ℕ) → p < 64 → totals p ≡ others p) → ((p : ℕ) → p < 64 → wrongs p ≡ more p) →
+    table_of totals wrongs ≡ table_of others more
 table_of-same totals wrongs others more h k =
     let last = last_place-same (λ p. nat_lt 0 (totals p)) (λ p. nat_lt 0 (others p)) 64 (λ p l. ap (nat_lt 0) (h p l)) in
     let most = last_place-most (λ p. nat_lt 0 (others p)) 64 in
@@ -159,19 +170,23 @@ pub counted-is : (f : Shape) (sound channels : List ℕ) (coefs : List ℤ) (cou
     → table_of (λ p. get_or counts p 0 + get_or counts (p + 64) 0) (λ p. get_or counts (p + 64) 0) ≡ counted f sound channels coefs
 unfolding counted
 counted-is f sound channels coefs counts h =
-    table_of-same (λ p. get_or counts p 0 + get_or counts (p + 64) 0) (λ p. get_or counts (p + 64) 0) (total f sound channels coefs) (wrong f sound channels coefs)
+    table_of-same (λ p. get_or counts p 0 + get_or counts (p + 64) 0) (λ p. get_or counts (p + 64) 0) (total f sound channels coefs)
+    (wrong f sound channels coefs)
     (λ p k. let a = h p (omega arith) in let b = h (p + 64) (omega arith) in let t = total-codes f sound channels coefs p k in omega arith)
     (λ p k. h (p + 64) (omega arith) ∙ sym (wrong-codes f sound channels coefs p k))
 
 -- one more channel at the end
 pub count_from-push : (first : ℕ) (f : Shape) (test : ℕ → ℕ → Bool) (a n : ℕ) →
-    count_from first f test (range_with_len a (n + 1)) ≡ count_from first f test (range_with_len a n) + count_by (test (a + n)) (range_with_len first (samples f - first))
+    count_from first f test (range_with_len a (n + 1)) ≡ count_from first f test (range_with_len a n) + count_by (test (a + n))
+    (range_with_len first (samples f - first))
 unfolding count_from
-count_from-push first f test a zero = let e : a ≡ a + 0 = omega arith in ap (λ c. count_by (test c) (range_with_len first (samples f - first)) + 0) e ∙ omega arith
+count_from-push first f test a zero = let e : a ≡ a + 0 = omega arith in ap (λ c. count_by (test c) (range_with_len first (samples f - first)) + 0) e
+    ∙ omega arith
 count_from-push first f test a (suc n) =
     let e : suc n + 1 ≡ suc (n + 1) = omega arith in
     let last : a + 1 + n ≡ a + suc n = omega arith in
     let rest = count_from-push first f test (a + 1) n in
     ap (λ k. count_from first f test (range_with_len a k)) e
-    ∙ ap (λ k. count_by (test a) (range_with_len first (samples f - first)) + k) (rest ∙ ap (λ c. count_from first f test (range_with_len (a + 1) n) + count_by (test c) (range_with_len first (samples f - first))) last)
+    ∙ ap (λ k. count_by (test a) (range_with_len first (samples f - first)) + k) (rest
+    ∙ ap (λ c. count_from first f test (range_with_len (a + 1) n) + count_by (test c) (range_with_len first (samples f - first))) last)
     ∙ omega arith

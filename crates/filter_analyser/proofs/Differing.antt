@@ -1,5 +1,6 @@
 -- How many samples of a channel differ from earlier ones, counted by bits of words.
-use Rattle.std.proofs.Common.{◌≡◌, ℕ, zero, suc, ◌+◌, ◌-◌, ◌*◌, ◌/◌, ◌%◌, ◌^◌, ◌<◌, ◌≤◌, bit_xor, count_ones, true, false, cond, nat_lt, List, get_or, inl, inr, refl, ap, sym, ◌∙◌, arith}
+use Rattle.std.proofs.Common.{◌≡◌, ℕ, zero, suc, ◌+◌, ◌-◌, ◌*◌, ◌/◌, ◌%◌, ◌^◌, ◌<◌, ◌≤◌, bit_xor, count_ones, true, false, cond, nat_lt, List, get_or}
+use Rattle.std.proofs.Common.{inl, inr, refl, ap, sym, ◌∙◌, arith}
 use Rattle.std.proofs.lemmas.Nat.{ones_cat, shr-shr, shr_split, xor_lt}
 use Rattle.std.proofs.lemmas.Nat.Bits.{bit_at_xor, bit_at-zero}
 use Rattle.std.proofs.lemmas.Bool.Decides.{nat_tests}
@@ -26,7 +27,8 @@ ones-bits zero x h = no_bit x h
 ones-bits (suc n) x h =
     let half : x / 2 ^ 1 < 2 ^ n = omega (arith, Rattle.std.proofs.Math.Nat.pow-suc 2 n) in
     let split : x / 2 ^ 1 * 2 ^ 1 + x % 2 ^ 1 ≡ x = shr_split x 1 in
-    let parts : count_ones (x / 2 ^ 1 * 2 ^ 1 + x % 2 ^ 1) ≡ count_ones (x / 2 ^ 1) + count_ones (x % 2 ^ 1) = ones_cat 1 (x / 2 ^ 1) (x % 2 ^ 1) (omega arith) in
+    let parts : count_ones (x / 2 ^ 1 * 2 ^ 1 + x % 2 ^ 1) ≡ count_ones (x / 2 ^ 1) + count_ones (x % 2 ^ 1) =
+    ones_cat 1 (x / 2 ^ 1) (x % 2 ^ 1) (omega arith) in
     let last : count_ones (x % 2 ^ 1) ≡ x % 2 = one_bit (x % 2 ^ 1) (omega arith) in
     let rest : count_ones (x / 2 ^ 1) ≡ tally (λ i. x / 2 ^ 1 / 2 ^ (n - 1 - i) % 2) 0 n = ones-bits n (x / 2 ^ 1) half in
     let same : tally (λ i. x / 2 ^ 1 / 2 ^ (n - 1 - i) % 2) 0 n ≡ tally (λ i. x / 2 ^ (suc n - 1 - i) % 2) 0 n =
@@ -79,7 +81,8 @@ late-first words before lag i none far =
     ∙ bit_at-zero (lag - 1 - i)
     ∙ sym (ap (λ b. cond b 0 (bit_of words (64 * 0 + i - lag))) (test-true (64 * 0 + i) lag (omega arith)))
 
-late-behind : (words : List ℕ) (w before lag i : ℕ) → before ≡ get_or words w 0 → lag < 64 → i < lag → passed (get_or words (suc w) 0) before lag i ≡ late words lag (64 * suc w + i)
+late-behind : (words : List ℕ) (w before lag i : ℕ) → before ≡ get_or words w 0 → lag < 64 → i < lag →
+    passed (get_or words (suc w) 0) before lag i ≡ late words lag (64 * suc w + i)
 late-behind words w before lag i there most far =
     let e : 64 * suc w + i - lag ≡ 64 * w + (64 + i - lag) = omega arith in
     let place : lag - 1 - i ≡ 63 - (64 + i - lag) = omega arith in
@@ -103,9 +106,11 @@ passed-late words (suc w) before lag i h most inside =
 
 -- the word's part of a tally
 pub tally-word : (words others : List ℕ) (w before lag : ℕ) → IsBefore others w before → lag < 64 →
-    tally (λ i. (get_or words w 0 / 2 ^ (63 - i) % 2 + passed (get_or others w 0) before lag i) % 2) 0 64 ≡ tally (λ t. (bit_of words t + late others lag t) % 2) (64 * w) 64
+    tally (λ i. (get_or words w 0 / 2 ^ (63 - i) % 2 + passed (get_or others w 0) before lag i) % 2) 0 64 ≡ tally
+    (λ t. (bit_of words t + late others lag t) % 2) (64 * w) 64
 tally-word words others w before lag h most =
-    tally-same (λ i. (get_or words w 0 / 2 ^ (63 - i) % 2 + passed (get_or others w 0) before lag i) % 2) (λ i. (bit_of words (64 * w + i) + late others lag (64 * w + i)) % 2) 0 64 (λ i least inside.
+    tally-same (λ i. (get_or words w 0 / 2 ^ (63 - i) % 2 + passed (get_or others w 0) before lag i) % 2)
+    (λ i. (bit_of words (64 * w + i) + late others lag (64 * w + i)) % 2) 0 64 (λ i least inside.
     let a = bit_of-word words w i inside in
     let b = passed-late others w before lag i h most inside in
     ap (λ x. (x + passed (get_or others w 0) before lag i) % 2) (sym a) ∙ ap (λ y. (bit_of words (64 * w + i) + y) % 2) b)

@@ -1,5 +1,6 @@
 -- The moved values of a step, one by one.
-use Rattle.std.proofs.Common.{◌≡◌, ℕ, ◌+◌, ◌-◌, ◌<◌, ◌≤◌, ◌≢◌, ℤ, pos, ◌-ℤ◌, ◌*ℤ◌, List, [], ◌∷◌, ◌++◌, length, map, get_or, set, get_or-set_other, get_or-set_same, length-set, inl, inr, refl, ap, sym, ◌∙◌, subst, arith}
+use Rattle.std.proofs.Common.{◌≡◌, ℕ, ◌+◌, ◌-◌, ◌<◌, ◌≤◌, ◌≢◌, ℤ, pos, ◌-ℤ◌, ◌*ℤ◌, List, [], ◌∷◌, ◌++◌, length, map, get_or, set, get_or-set_other}
+use Rattle.std.proofs.Common.{get_or-set_same, length-set, inl, inr, refl, ap, sym, ◌∙◌, subst, arith}
 use Rattle.std.proofs.lemmas.Bool.{cases_lt}
 use Rattle.std.proofs.lemmas.List.{get_or_append_left, get_or-append-add, ext_get_or}
 use Rattle.std.proofs.lemmas.List.FromFn.{length-map-range_with_len, get_or-map-range_with_len}
@@ -7,7 +8,8 @@ use Rattle.std.specs.List.{range_with_len}
 use Rattle.level_spec.specs.Recursion.{value, whole, moved}
 use Rattle.level_spec.proofs.Steps.{length-moved}
 
-moved-at : (values : List ℤ) (f : ℤ) (i j : ℕ) → 1 + j < i → get_or (moved values f i) j (pos 0) ≡ value values (1 + j) -ℤ whole (f *ℤ value values (i - (1 + j)))
+moved-at : (values : List ℤ) (f : ℤ) (i j : ℕ) → 1 + j < i →
+    get_or (moved values f i) j (pos 0) ≡ value values (1 + j) -ℤ whole (f *ℤ value values (i - (1 + j)))
 unfolding moved
 moved-at values f i j h =
     let G : ℕ → ℤ = λ j. value values j -ℤ whole (f *ℤ value values (i - j)) in
@@ -36,6 +38,7 @@ moved-is values next f i h long known =
       | inr here ↦
           let e : k ≡ i - 1 = omega arith in
           let last : i - 1 < length next = omega arith in
-          let stored : get_or (set next (i - 1) f) (i - 1) (pos 0) ≡ get_or (moved values f i) (i - 1) (pos 0) = rw get_or-set_same (sym (moved-last values f i h)) in
+          let stored : get_or (set next (i - 1) f) (i - 1) (pos 0) ≡ get_or (moved values f i) (i - 1) (pos 0) =
+          rw get_or-set_same (sym (moved-last values f i h)) in
           subst (λ q. get_or (set next (i - 1) f) q (pos 0) ≡ get_or (moved values f i) q (pos 0)) (sym e) stored
     ])

@@ -15,8 +15,10 @@ padded-solution lags N h =
     let zeros = replicate (N - n) (pos 0) in
     let long : length (values ++ zeros) ≡ N = length-solution lags N in
     let e : 128 - n ≡ N - n + (128 - N) = omega arith in
-    let split : replicate (128 - n) (pos 0) ≡ zeros ++ replicate (128 - N) (pos 0) = ap (λ k. replicate k (pos 0)) e ∙ sym (replicate-append-replicate (N - n) (128 - N) (pos 0)) in
-    ap (λ t. values ++ t) split ∙ sym (append_assoc values zeros (replicate (128 - N) (pos 0))) ∙ ap (λ k. (values ++ zeros) ++ replicate (128 - k) (pos 0)) (sym long)
+    let split : replicate (128 - n) (pos 0) ≡ zeros ++ replicate (128 - N) (pos 0) = ap (λ k. replicate k (pos 0)) e
+    ∙ sym (replicate-append-replicate (N - n) (128 - N) (pos 0)) in
+    ap (λ t. values ++ t) split ∙ sym (append_assoc values zeros (replicate (128 - N) (pos 0)))
+    ∙ ap (λ k. (values ++ zeros) ++ replicate (128 - k) (pos 0)) (sym long)
 
 pub begun : (lags : List ℤ) → begin lags ≡ after lags 0
 unfolding after

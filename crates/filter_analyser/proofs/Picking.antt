@@ -1,5 +1,6 @@
 -- Filters and tables of picked parameters.
-use Rattle.std.proofs.Common.{◌≡◌, ℕ, zero, suc, ◌+◌, ◌-◌, ◌^◌, ◌<◌, ◌≤◌, ℤ, pos, nat_abs, true, List, [], ◌∷◌, ◌++◌, length, map, get_or, take, replicate, ◌==◌, refl, ap, ◌∙◌, arith}
+use Rattle.std.proofs.Common.{◌≡◌, ℕ, zero, suc, ◌+◌, ◌-◌, ◌^◌, ◌<◌, ◌≤◌, ℤ, pos, nat_abs, true, List, [], ◌∷◌, ◌++◌, length, map, get_or, take}
+use Rattle.std.proofs.Common.{replicate, ◌==◌, refl, ap, ◌∙◌, arith}
 use Rattle.std.proofs.lemmas.List.{take_at}
 use Rattle.std.specs.List.{AllByRecursion, range_with_len, count_by}
 use Rattle.dst_spec.specs.Sample.{Shape, samples}
@@ -30,7 +31,8 @@ solution-small lags order k h =
     let small = (after-small lags order h.least).values in
     let zeros = replicate (order - length values) (pos 0) in
     each-most (padded (values ++ zeros)) (2 ^ 40) k
-    (all_append P (values ++ zeros) (replicate (128 - length (values ++ zeros)) (pos 0)) (all_append P values zeros small (zeros-small (order - length values) (2 ^ 40))) (zeros-small (128 - length (values ++ zeros)) (2 ^ 40)))
+    (all_append P (values ++ zeros) (replicate (128 - length (values ++ zeros)) (pos 0))
+    (all_append P values zeros small (zeros-small (order - length values) (2 ^ 40))) (zeros-small (128 - length (values ++ zeros)) (2 ^ 40)))
 
 pub filter-is : (f : Shape) (sound channels : List ℕ) (order : ℕ) (solved : List ℤ) → solved ≡ padded (solution (correlations f sound channels) order) →
     quantised (take order solved) ≡ filter_for f sound order channels
@@ -66,11 +68,13 @@ zero_numbers (suc (suc (suc (suc (suc (suc zero)))))) h = refl
 zero_numbers (suc (suc (suc (suc (suc (suc (suc n))))))) h = absurd (omega arith)
 
 pub per_channel-is : (f : Shape) (sound : List ℕ) (order : ℕ) (elements : List ℕ) (filters : List (List ℤ)) (probs : List (List ℕ)) → elements ≡ channels_of f →
-    filters ≡ map (λ c. filter_for f sound order (c ∷ [])) (channels_of f) → probs ≡ map (λ c. counted f sound (c ∷ []) (filter_for f sound order (c ∷ []))) (channels_of f) →
+    filters ≡ map (λ c. filter_for f sound order (c ∷ [])) (channels_of f) →
+    probs ≡ map (λ c. counted f sound (c ∷ []) (filter_for f sound order (c ∷ []))) (channels_of f) →
     params_of elements elements (replicate f.channels true) filters probs ≡ per_channel f sound order
 unfolding per_channel
 per_channel-is f sound order elements filters probs e p q =
-    ap (λ m. params_of m m (replicate f.channels true) filters probs) e ∙ ap (λ x. params_of (channels_of f) (channels_of f) (replicate f.channels true) x probs) p
+    ap (λ m. params_of m m (replicate f.channels true) filters probs) e
+    ∙ ap (λ x. params_of (channels_of f) (channels_of f) (replicate f.channels true) x probs) p
     ∙ ap (params_of (channels_of f) (channels_of f) (replicate f.channels true) (map (λ c. filter_for f sound order (c ∷ [])) (channels_of f))) q
 
 pub shared-is : (f : Shape) (sound : List ℕ) (order : ℕ) (elements : List ℕ) (filter : List ℤ) (probs : List ℕ) → elements ≡ replicate f.channels 0 →
@@ -80,4 +84,5 @@ unfolding shared
 shared-is f sound order elements filter probs e p q =
     ap (λ m. params_of m m (replicate f.channels true) (filter ∷ []) (probs ∷ [])) e
     ∙ ap (λ x. params_of (replicate f.channels 0) (replicate f.channels 0) (replicate f.channels true) (x ∷ []) (probs ∷ [])) p
-    ∙ ap (λ x. params_of (replicate f.channels 0) (replicate f.channels 0) (replicate f.channels true) (filter_for f sound order (channels_of f) ∷ []) (x ∷ [])) q
+    ∙ ap (λ x. params_of (replicate f.channels 0) (replicate f.channels 0) (replicate f.channels true) (filter_for f sound order (channels_of f) ∷ [])
+    (x ∷ [])) q

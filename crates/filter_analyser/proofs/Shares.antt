@@ -1,5 +1,6 @@
 -- How great products, sums and shares of small numbers can be.
-use Rattle.std.proofs.Common.{◌≡◌, ℕ, zero, suc, ◌+◌, ◌-◌, ◌*◌, ◌^◌, ◌≤◌, ℤ, pos, negsuc, ◌+ℤ◌, ◌-ℤ◌, ◌*ℤ◌, ◌≤ℤ◌, nat_abs, to_z, of_z, List, [], ◌∷◌, get_or, refl, ap, ◌∙◌, arith}
+use Rattle.std.proofs.Common.{◌≡◌, ℕ, zero, suc, ◌+◌, ◌-◌, ◌*◌, ◌^◌, ◌≤◌, ℤ, pos, negsuc, ◌+ℤ◌, ◌-ℤ◌, ◌*ℤ◌, ◌≤ℤ◌, nat_abs, to_z, of_z, List, [], ◌∷◌}
+use Rattle.std.proofs.Common.{get_or, refl, ap, ◌∙◌, arith}
 use mir.Syntax.{w64, w128}
 use Rattle.std.proofs.lemmas.Int.{ints, unsigned_abs-mul}
 use Rattle.std.proofs.lemmas.Nat.{mul-le}
@@ -31,7 +32,8 @@ left-most lags values i n h small few =
     let first : pos 1 ≤ℤ lag lags 0 = h.least in
     let each : (k : ℕ) → nat_abs (lag lags k) ≤ 2 ^ 20 = λ k. let o = h.others k in omega (arith, ints) in
     let here = each i in
-    let sum = sum_over-below (λ j. value values j *ℤ lag lags (i - j)) 1 n (2 ^ 40 * 2 ^ 20) (λ j _ _. product-most (value values j) (lag lags (i - j)) (2 ^ 40) (2 ^ 20) (small (j - 1)) (each (i - j))) in
+    let sum = sum_over-below (λ j. value values j *ℤ lag lags (i - j)) 1 n (2 ^ 40 * 2 ^ 20)
+    (λ j _ _. product-most (value values j) (lag lags (i - j)) (2 ^ 40) (2 ^ 20) (small (j - 1)) (each (i - j))) in
     omega (arith, ints)
 
 pub same_64 : (z : ℤ) → nat_abs z ≤ 2 ^ 62 → to_z w64 (of_z w64 z) ≡ z

@@ -20,7 +20,8 @@ stop-by_value lags s h =
     ap (λ b. cond (b || large) s next) (le-true (2 ^ 24) (nat_abs f) h)
 
 pub stop-by_large : (lags : List ℤ) (s : State) (f : ℤ) (b : Bool) → f ≡ reflection lags s (length s.values + 1) → nat_abs f < 2 ^ 24
-    → b ≡ list_any (λ b. nat_lt (2 ^ 40) (nat_abs b)) (moved s.values f (length s.values + 1)) → step lags s ≡ cond b s (record { error = fallen s.error f; values = moved s.values f (length s.values + 1) })
+    → b ≡ list_any (λ b. nat_lt (2 ^ 40) (nat_abs b)) (moved s.values f (length s.values + 1)) →
+    step lags s ≡ cond b s (record { error = fallen s.error f; values = moved s.values f (length s.values + 1) })
 unfolding step stops
 stop-by_large lags s f b e h k =
     let i = length s.values + 1 in

@@ -35,7 +35,8 @@ tally-most F first zero h = omega arith
 tally-most F first (suc n) h = omega (arith, tally-most F first n h, h (first + n))
 
 -- a sum of ones, and of minus ones where G has a 1
-pub sum_over-tally : (F : ℕ → ℤ) (G : ℕ → ℕ) (first n : ℕ) → ((t : ℕ) → first ≤ t → t < first + n → F t ≡ pos 1 -ℤ pos (2 * G t)) → sum_over F first n ≡ pos n -ℤ pos (2 * tally G first n)
+pub sum_over-tally : (F : ℕ → ℤ) (G : ℕ → ℕ) (first n : ℕ) → ((t : ℕ) → first ≤ t → t < first + n → F t ≡ pos 1 -ℤ pos (2 * G t)) →
+    sum_over F first n ≡ pos n -ℤ pos (2 * tally G first n)
 unfolding sum_over tally
 sum_over-tally F G first zero h = refl
 sum_over-tally F G first (suc n) h =

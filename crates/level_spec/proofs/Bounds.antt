@@ -1,5 +1,6 @@
 -- The recursion's error stays 1 or greater, and its values stay small.
-use Rattle.std.proofs.Common.{◌≡◌, ℕ, zero, suc, ◌+◌, ◌-◌, ◌*◌, ◌/◌, ◌^◌, ◌<◌, ◌≤◌, ℤ, pos, negsuc, ◌-ℤ◌, ◌*ℤ◌, ◌≤ℤ◌, nat_abs, true, false, ◌||◌, nat_lt, nat_le, List, [], ◌∷◌, length, refl, ap, arith}
+use Rattle.std.proofs.Common.{◌≡◌, ℕ, zero, suc, ◌+◌, ◌-◌, ◌*◌, ◌/◌, ◌^◌, ◌<◌, ◌≤◌, ℤ, pos, negsuc, ◌-ℤ◌, ◌*ℤ◌, ◌≤ℤ◌, nat_abs, true, false, ◌||◌}
+use Rattle.std.proofs.Common.{nat_lt, nat_le, List, [], ◌∷◌, length, refl, ap, arith}
 use Rattle.std.proofs.lemmas.Int.{ints}
 use Rattle.std.proofs.lemmas.Bool.Decides.{nat_tests}
 use Rattle.std.proofs.lemmas.Nat.{div_below, mul-le}
@@ -31,7 +32,8 @@ fallen-bounds (negsuc e) f h k = absurd (omega (arith, ints))
 pub none_above : (values : List ℤ) → list_any (λ b. nat_lt (2 ^ 40) (nat_abs b)) values ≡ false → AllByRecursion (λ a. nat_abs a ≤ 2 ^ 40) values
 none_above [] h = tt
 none_above (a ∷ values) h =
-    elim (nat_lt (2 ^ 40) (nat_abs a)) as (λ b. (nat_lt (2 ^ 40) (nat_abs a) ≡ b) → (b || list_any (λ b. nat_lt (2 ^ 40) (nat_abs b)) values) ≡ false → AllByRecursion (λ a. nat_abs a ≤ 2 ^ 40) (a ∷ values)) [
+    elim (nat_lt (2 ^ 40) (nat_abs a)) as (λ b. (nat_lt (2 ^ 40) (nat_abs a) ≡ b) → (b || list_any (λ b. nat_lt (2 ^ 40) (nat_abs b)) values) ≡ false →
+    AllByRecursion (λ a. nat_abs a ≤ 2 ^ 40) (a ∷ values)) [
       | true ↦ λ e k. absurd (cc)
       | false ↦ λ e k. (grind (arith, nat_tests), none_above values k)
     ] refl h
@@ -40,7 +42,8 @@ none_above (a ∷ values) h =
 pub goes_on : (f : ℤ) (values : List ℤ) → stops f values ≡ false → (nat_abs f < 2 ^ 24) × AllByRecursion (λ a. nat_abs a ≤ 2 ^ 40) values
 unfolding stops
 goes_on f values h =
-    elim (nat_le (2 ^ 24) (nat_abs f)) as (λ b. (nat_le (2 ^ 24) (nat_abs f) ≡ b) → (b || list_any (λ b. nat_lt (2 ^ 40) (nat_abs b)) values) ≡ false → (nat_abs f < 2 ^ 24) × AllByRecursion (λ a. nat_abs a ≤ 2 ^ 40) values) [
+    elim (nat_le (2 ^ 24) (nat_abs f)) as (λ b. (nat_le (2 ^ 24) (nat_abs f) ≡ b) → (b || list_any (λ b. nat_lt (2 ^ 40) (nat_abs b)) values) ≡ false →
+    (nat_abs f < 2 ^ 24) × AllByRecursion (λ a. nat_abs a ≤ 2 ^ 40) values) [
       | true ↦ λ e k. absurd (cc)
       | false ↦ λ e k. (grind (arith, nat_tests), none_above values k)
     ] refl h

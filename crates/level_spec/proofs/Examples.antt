@@ -25,7 +25,8 @@ unfolding sum_over begin left_over reflection moved stops fallen step after solu
 recursion_open = tt
 
 unfoldable pub picks_open : ⊤
-unfolding sum_over joint_correlation begin left_over reflection moved stops fallen step after solution scale last_place quantised sum_before count_from counted filter_for per_channel shared
+unfolding sum_over joint_correlation begin left_over reflection moved stops fallen step after solution scale last_place quantised sum_before count_from
+    counted filter_for per_channel shared
 picks_open = tt
 
 unfoldable pub counts_open : ⊤
@@ -56,7 +57,8 @@ unfolding sums_open
 two_channels_together = refl
 
 -- lags 0 to 128: of seventeen bytes of ones, 136 samples, eight are 128 places behind others
-pub lags_to_128 : (length (correlations (mono 17) (replicate 17 255) (0 ∷ [])) ≡ 129) × (get_or (correlations (mono 17) (replicate 17 255) (0 ∷ [])) 128 (pos 0) ≡ pos 8)
+pub lags_to_128 : (length (correlations (mono 17) (replicate 17 255) (0 ∷ [])) ≡ 129)
+    × (get_or (correlations (mono 17) (replicate 17 255) (0 ∷ [])) 128 (pos 0) ≡ pos 8)
 unfolding sums_open
 lags_to_128 = (refl, refl)
 
@@ -142,7 +144,8 @@ unfolding scale
 bounds_of_scale_8 = refl
 
 -- where no scale serves, it is 0, and the coefficient is the nearer bound
-pub too_great_for_any_scale : (scale 8 (pos (2 ^ 40) ∷ []) ≡ 0) × (quantised (pos (2 ^ 40) ∷ pos (2 ^ 24) ∷ neg_ℤ (pos (2 ^ 40)) ∷ []) ≡ pos 255 ∷ pos 1 ∷ negsuc 255 ∷ [])
+pub too_great_for_any_scale : (scale 8 (pos (2 ^ 40) ∷ []) ≡ 0)
+    × (quantised (pos (2 ^ 40) ∷ pos (2 ^ 24) ∷ neg_ℤ (pos (2 ^ 40)) ∷ []) ≡ pos 255 ∷ pos 1 ∷ negsuc 255 ∷ [])
 unfolding scale last_place quantised
 too_great_for_any_scale = (refl, refl)
 
@@ -151,7 +154,8 @@ pub places_of_sizes : map (λ a. place (mono 1) [] 0 (a ∷ []) 0) (pos 7 ∷ po
 unfolding counts_open
 places_of_sizes = refl
 
-pub places_62_and_63 : map (λ coefs. place (mono 1) [] 0 coefs 0) ((negsuc 254 ∷ pos 248 ∷ []) ∷ (negsuc 254 ∷ pos 249 ∷ []) ∷ (negsuc 254 ∷ pos 255 ∷ negsuc 254 ∷ []) ∷ []) ≡ 62 ∷ 63 ∷ 63 ∷ []
+pub places_62_and_63 : map (λ coefs. place (mono 1) [] 0 coefs 0)
+    ((negsuc 254 ∷ pos 248 ∷ []) ∷ (negsuc 254 ∷ pos 249 ∷ []) ∷ (negsuc 254 ∷ pos 255 ∷ negsuc 254 ∷ []) ∷ []) ≡ 62 ∷ 63 ∷ 63 ∷ []
 unfolding counts_open
 places_62_and_63 = refl
 

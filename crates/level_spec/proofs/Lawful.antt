@@ -1,5 +1,6 @@
 -- The picks of a level are lawful parameters.
-use Rattle.std.proofs.Common.{◌≡◌, ℕ, zero, suc, ◌+◌, ◌≤◌, max, ℤ, pos, true, List, [], ◌∷◌, length, map, replicate, fold, refl, ap, ◌∙◌, subst, sym, lit≤, arith}
+use Rattle.std.proofs.Common.{◌≡◌, ℕ, zero, suc, ◌+◌, ◌≤◌, max, ℤ, pos, true, List, [], ◌∷◌, length, map, replicate, fold, refl, ap, ◌∙◌, subst, sym}
+use Rattle.std.proofs.Common.{lit≤, arith}
 use Rattle.std.proofs.lemmas.List.{length-replicate}
 use Rattle.std.proofs.lemmas.List.FromFn.{length-range_with_len, length-map-range_with_len}
 use Rattle.std.specs.List.{AllByRecursion, range_with_len}
@@ -17,11 +18,16 @@ use Rattle.level_spec.proofs.Tables.{length-solution, IsTable-quantised, IsTable
 numbered : (a n : ℕ) → Numbers a (range_with_len a n)
 unfolding Numbers
 numbered a zero = tt
-numbered a (suc n) = (omega arith, let e : max a (a + 1) ≡ a + 1 = omega arith in subst (λ m. Numbers m (range_with_len (a + 1) n)) (sym e) (numbered (a + 1) n))
+numbered a (suc n) = (
+  omega arith,
+  let e : max a (a + 1) ≡ a + 1 =
+      omega arith in subst (λ m. Numbers m (range_with_len (a + 1) n)) (sym e) (numbered (a + 1) n),
+)
 
 numbered-count : (a n : ℕ) → fold (λ count e. max count (e + 1)) a (range_with_len a n) ≡ a + n
 numbered-count a zero = omega arith
-numbered-count a (suc n) = let e : max a (a + 1) ≡ a + 1 = omega arith in ap (λ m. fold (λ count e. max count (e + 1)) m (range_with_len (a + 1) n)) e ∙ numbered-count (a + 1) n ∙ omega arith
+numbered-count a (suc n) = let e : max a (a + 1) ≡ a + 1 = omega arith in ap (λ m. fold (λ count e. max count (e + 1)) m (range_with_len (a + 1) n)) e
+    ∙ numbered-count (a + 1) n ∙ omega arith
 
 zeros : (count n : ℕ) → Numbers count (replicate n 0)
 unfolding Numbers
@@ -30,9 +36,11 @@ zeros count (suc n) = (omega arith, zeros (max count (0 + 1)) n)
 
 zeros-count : (count n : ℕ) → 1 ≤ count → fold (λ count e. max count (e + 1)) count (replicate n 0) ≡ count
 zeros-count count zero h = refl
-zeros-count count (suc n) h = let e : max count (0 + 1) ≡ count = omega arith in ap (λ m. fold (λ count e. max count (e + 1)) m (replicate n 0)) e ∙ zeros-count count n h
+zeros-count count (suc n) h = let e : max count (0 + 1) ≡ count = omega arith in ap (λ m. fold (λ count e. max count (e + 1)) m (replicate n 0)) e
+    ∙ zeros-count count n h
 
-pub IsTable-filter_for : (f : Shape) (sound : List ℕ) (order : ℕ) (channels : List ℕ) → 1 ≤ order → order ≤ 128 → IsTable filter_kind (filter_for f sound order channels)
+pub IsTable-filter_for : (f : Shape) (sound : List ℕ) (order : ℕ) (channels : List ℕ) → 1 ≤ order → order ≤ 128 →
+    IsTable filter_kind (filter_for f sound order channels)
 unfolding filter_for
 IsTable-filter_for f sound order channels least most =
     let long = length-solution (correlations f sound channels) order in
@@ -54,8 +62,10 @@ IsParams-per_channel f sound order least most =
       half_prob = length-replicate C true;
       filter_count = omega (arith, filters, count);
       prob_count = omega (arith, tables, count);
-      filters = all_map (IsTable filter_kind) filter (range_with_len 0 C) (all_range (λ c. IsTable filter_kind (filter c)) 0 C (λ c h. IsTable-filter_for f sound order (c ∷ []) least most));
-      probs = all_map (λ entries. IsTable prob_kind (map pos entries)) probs (range_with_len 0 C) (all_range (λ c. IsTable prob_kind (map pos (probs c))) 0 C (λ c h. IsTable-counted f sound (c ∷ []) (filter c)));
+      filters = all_map (IsTable filter_kind) filter (range_with_len 0 C)
+          (all_range (λ c. IsTable filter_kind (filter c)) 0 C (λ c h. IsTable-filter_for f sound order (c ∷ []) least most));
+      probs = all_map (λ entries. IsTable prob_kind (map pos entries)) probs (range_with_len 0 C)
+          (all_range (λ c. IsTable prob_kind (map pos (probs c))) 0 C (λ c h. IsTable-counted f sound (c ∷ []) (filter c)));
     }
 
 one_number : (C : ℕ) → 1 ≤ C → 1 ≡ element_count (replicate C 0)
@@ -76,13 +86,15 @@ IsParams-shared f sound order some least most =
       probs = (IsTable-counted f sound (channels_of f) (filter_for f sound order (channels_of f)), tt);
     }
 
-pub picks_are_lawful : (level : ℕ) (sound : List ℕ) (f : Shape) → IsShape f → (length (level_picks level sound f) ≤ 11) × AllByRecursion (IsParams f.channels) (level_picks level sound f)
+pub picks_are_lawful : (level : ℕ) (sound : List ℕ) (f : Shape) → IsShape f →
+    (length (level_picks level sound f) ≤ 11) × AllByRecursion (IsParams f.channels) (level_picks level sound f)
 unfolding level_picks
 picks_are_lawful zero sound f h = (omega arith, tt)
 picks_are_lawful (suc zero) sound f h = (omega arith, (IsParams-per_channel f sound 32 (omega arith) (omega arith), tt))
 picks_are_lawful (suc (suc zero)) sound f h =
     let own : (order : ℕ) → 1 ≤ order → order ≤ 128 → IsParams f.channels (per_channel f sound order) = IsParams-per_channel f sound in
-    let together : (order : ℕ) → 1 ≤ order → order ≤ 128 → IsParams f.channels (shared f sound order) = λ order least most. IsParams-shared f sound order h.least least most in (
+    let together : (order : ℕ) → 1 ≤ order → order ≤ 128 → IsParams f.channels (shared f sound order) =
+    λ order least most. IsParams-shared f sound order h.least least most in (
       omega arith,
       (
         own 16 (lit≤ tt) (lit≤ tt),

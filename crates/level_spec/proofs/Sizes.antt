@@ -1,5 +1,6 @@
 -- How great correlations can be.
-use Rattle.std.proofs.Common.{◌≡◌, ℕ, zero, suc, ◌+◌, ◌-◌, ◌*◌, ◌<◌, ◌≤◌, ℤ, pos, neg_ℤ, ◌+ℤ◌, ◌*ℤ◌, nat_abs, Bool, true, false, cond, ◌==◌, List, [], ◌∷◌, length, get_or, inl, inr, refl, ap, ◌∙◌, arith}
+use Rattle.std.proofs.Common.{◌≡◌, ℕ, zero, suc, ◌+◌, ◌-◌, ◌*◌, ◌<◌, ◌≤◌, ℤ, pos, neg_ℤ, ◌+ℤ◌, ◌*ℤ◌, nat_abs, Bool, true, false, cond, ◌==◌, List, []}
+use Rattle.std.proofs.Common.{◌∷◌, length, get_or, inl, inr, refl, ap, ◌∙◌, arith}
 use Rattle.std.proofs.lemmas.Int.{ints, unsigned_abs-mul}
 use Rattle.std.proofs.lemmas.Bool.{cases_lt}
 use Rattle.std.proofs.lemmas.List.{get_or_past}
@@ -23,7 +24,8 @@ square false = refl
 
 sign-product : (a b : ℕ) → nat_abs (signed a (pos 1) *ℤ signed b (pos 1)) ≤ 1
 sign-product a b =
-    let e : nat_abs (signed a (pos 1) *ℤ signed b (pos 1)) ≡ nat_abs (signed a (pos 1)) * nat_abs (signed b (pos 1)) = unsigned_abs-mul (signed a (pos 1)) (signed b (pos 1)) in
+    let e : nat_abs (signed a (pos 1) *ℤ signed b (pos 1)) ≡ nat_abs (signed a (pos 1)) * nat_abs (signed b (pos 1)) =
+    unsigned_abs-mul (signed a (pos 1)) (signed b (pos 1)) in
     let x : nat_abs (signed a (pos 1)) ≡ 1 = one (a == 1) in
     let y : nat_abs (signed b (pos 1)) ≡ 1 = one (b == 1) in
     omega (arith, mul-le (nat_abs (signed a (pos 1))) (nat_abs (signed b (pos 1))) 1 1 (omega arith) (omega arith))
@@ -33,12 +35,14 @@ correlation-whole : (f : Shape) (sound : List ℕ) (c : ℕ) → correlation f s
 correlation-whole f sound c =
     let F : ℕ → ℤ = λ t. sign f sound c t *ℤ sign f sound c (t - 0) in
     let n : samples f - 0 ≡ samples f = omega arith in
-    sum_over-same F (λ t. pos 1) 0 (samples f - 0) (λ t _ _. (let e : t - 0 ≡ t = omega arith in ap (λ u. sign f sound c t *ℤ sign f sound c u) e) ∙ square (sample f sound c (pos t) == 1))
+    sum_over-same F (λ t. pos 1) 0 (samples f - 0) (λ t _ _. (let e : t - 0 ≡ t = omega arith in ap (λ u. sign f sound c t *ℤ sign f sound c u) e)
+    ∙ square (sample f sound c (pos t) == 1))
     ∙ sum_of_ones 0 (samples f - 0) ∙ ap pos n
 
 correlation-most : (f : Shape) (sound : List ℕ) (c k : ℕ) → nat_abs (correlation f sound c k) ≤ samples f
 correlation-most f sound c k =
-    let each = sum_over-below (λ t. sign f sound c t *ℤ sign f sound c (t - k)) k (samples f - k) 1 (λ t _ _. sign-product (sample f sound c (pos t)) (sample f sound c (pos (t - k)))) in
+    let each = sum_over-below (λ t. sign f sound c t *ℤ sign f sound c (t - k)) k (samples f - k) 1
+    (λ t _ _. sign-product (sample f sound c (pos t)) (sample f sound c (pos (t - k)))) in
     omega arith
 
 -- samples of a channel
@@ -67,7 +71,8 @@ joint-whole f sound (c ∷ channels) =
 pub lag-is : (f : Shape) (sound channels : List ℕ) (k : ℕ) → k < 129 → lag (correlations f sound channels) k ≡ joint_correlation f sound channels k
 lag-is f sound channels k h = get_or-map-range_with_len (λ k. joint_correlation f sound channels k) 0 129 k k (pos 0) h (omega arith)
 
-pub are_correlations : (f : Shape) (sound channels : List ℕ) → IsShape f → 1 ≤ length channels → length channels ≤ 6 → AreCorrelations (correlations f sound channels)
+pub are_correlations : (f : Shape) (sound channels : List ℕ) → IsShape f → 1 ≤ length channels → length channels ≤ 6 →
+    AreCorrelations (correlations f sound channels)
 are_correlations f sound channels shape some few =
     let lags = correlations f sound channels in
     let whole : lag lags 0 ≡ pos (length channels * samples f) = lag-is f sound channels 0 (omega arith) ∙ joint-whole f sound channels in
@@ -80,7 +85,8 @@ are_correlations f sound channels shape some few =
       most = rw whole (omega (arith, ints));
       others = λ k. rw whole (elim (cases_lt k 129) [
         | inl h ↦ rw (lag-is f sound channels k h) (omega (arith, ints, joint-most f sound channels k))
-        | inr h ↦ (let past : get_or lags k (pos 0) ≡ pos 0 = get_or_past lags k (pos 0) (let long = length-map-range_with_len (λ k. joint_correlation f sound channels k) 0 129 in omega arith) in rw past (omega (arith, ints)))
+        | inr h ↦ (let past : get_or lags k (pos 0) ≡ pos 0 = get_or_past lags k (pos 0) (let long =
+            length-map-range_with_len (λ k. joint_correlation f sound channels k) 0 129 in omega arith) in rw past (omega (arith, ints)))
       ]);
     }
 
@@ -93,5 +99,6 @@ joint-push f sound a (suc n) k =
     let e : suc n + 1 ≡ suc (n + 1) = omega arith in
     let last : a + 1 + n ≡ a + suc n = omega arith in
     let rest = joint-push f sound (a + 1) n k in
-    let more : joint_correlation f sound ((a + 1 + n) ∷ []) k ≡ joint_correlation f sound ((a + suc n) ∷ []) k = ap (λ c. joint_correlation f sound (c ∷ []) k) last in
+    let more : joint_correlation f sound ((a + 1 + n) ∷ []) k ≡ joint_correlation f sound ((a + suc n) ∷ []) k =
+    ap (λ c. joint_correlation f sound (c ∷ []) k) last in
     ap (λ m. joint_correlation f sound (range_with_len a m) k) e ∙ omega (arith, ints)

@@ -1,5 +1,6 @@
 -- Steps of the recursion: how many values there are, that a stop lasts, and that a step needs no later correlations.
-use Rattle.std.proofs.Common.{◌≡◌, ℕ, zero, suc, ◌+◌, ◌-◌, ◌^◌, ◌≤◌, ℤ, pos, ◌-ℤ◌, ◌*ℤ◌, true, false, cond, List, [], length, refl, ap, ◌∙◌, arith, length-append, add-suc}
+use Rattle.std.proofs.Common.{◌≡◌, ℕ, zero, suc, ◌+◌, ◌-◌, ◌^◌, ◌≤◌, ℤ, pos, ◌-ℤ◌, ◌*ℤ◌, true, false, cond, List, [], length, refl, ap, ◌∙◌, arith}
+use Rattle.std.proofs.Common.{length-append, add-suc}
 use Rattle.std.proofs.lemmas.List.FromFn.{length-map-range_with_len}
 use Rattle.level_spec.specs.Recursion.{State, lag, value, whole, begin, left_over, reflection, moved, stops, fallen, step, after}
 use Rattle.level_spec.proofs.Sums.{sum_over-same}
@@ -14,7 +15,10 @@ length-moved values f i h =
 pub by_step : (P : State → Type 0) (lags : List ℤ) (s : State) →
     (stops (reflection lags s (length s.values + 1)) (moved s.values (reflection lags s (length s.values + 1)) (length s.values + 1)) ≡ true → P s)
     → (stops (reflection lags s (length s.values + 1)) (moved s.values (reflection lags s (length s.values + 1)) (length s.values + 1)) ≡ false
-    → P (record { error = fallen s.error (reflection lags s (length s.values + 1)); values = moved s.values (reflection lags s (length s.values + 1)) (length s.values + 1) }))
+    → P (record {
+      error = fallen s.error (reflection lags s (length s.values + 1));
+      values = moved s.values (reflection lags s (length s.values + 1)) (length s.values + 1);
+    }))
     → P (step lags s)
 unfolding step
 by_step P lags s at_stop on =
@@ -27,7 +31,8 @@ by_step P lags s at_stop on =
 pub length-step : (lags : List ℤ) (s : State) → length (step lags s).values ≤ length s.values + 1
 length-step lags s =
     let n = length s.values in
-    by_step (λ t. length t.values ≤ n + 1) lags s (λ _. omega arith) (λ _. omega (arith, length-moved s.values (reflection lags s (n + 1)) (n + 1) (omega arith)))
+    by_step (λ t. length t.values ≤ n + 1) lags s (λ _. omega arith)
+    (λ _. omega (arith, length-moved s.values (reflection lags s (n + 1)) (n + 1) (omega arith)))
 
 pub length-after : (lags : List ℤ) (n : ℕ) → length (after lags n).values ≤ n
 unfolding after begin
@@ -44,14 +49,16 @@ reflection-same : (lags others : List ℤ) (s : State) (i : ℕ) → ((k : ℕ) 
 unfolding reflection left_over
 reflection-same lags others s i h =
     let here = h i (omega arith) in
-    let there = sum_over-same (λ j. value s.values j *ℤ lag lags (i - j)) (λ j. value s.values j *ℤ lag others (i - j)) 1 (i - 1) (λ j least most. ap (λ r. value s.values j *ℤ r) (h (i - j) (omega arith))) in
+    let there = sum_over-same (λ j. value s.values j *ℤ lag lags (i - j)) (λ j. value s.values j *ℤ lag others (i - j)) 1 (i - 1)
+    (λ j least most. ap (λ r. value s.values j *ℤ r) (h (i - j) (omega arith))) in
     cc
 
 pub step-same : (lags others : List ℤ) (s : State) → ((k : ℕ) → k ≤ length s.values + 1 → lag lags k ≡ lag others k) → step lags s ≡ step others s
 unfolding step
 step-same lags others s h =
     let i = length s.values + 1 in
-    ap (λ f. let values = moved s.values f i in cond (stops f values) s (record { error = fallen s.error f; values = values })) (reflection-same lags others s i h)
+    ap (λ f. let values = moved s.values f i in cond (stops f values) s (record { error = fallen s.error f; values = values }))
+    (reflection-same lags others s i h)
 
 pub after-same : (lags others : List ℤ) (n : ℕ) → ((k : ℕ) → k ≤ n → lag lags k ≡ lag others k) → after lags n ≡ after others n
 unfolding after begin

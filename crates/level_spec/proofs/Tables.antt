@@ -1,5 +1,6 @@
 -- A quantised filter and a counted table are tables of their kinds.
-use Rattle.std.proofs.Common.{◌≡◌, ℕ, zero, suc, ◌+◌, ◌-◌, ◌*◌, ◌/◌, ◌≤◌, min, max, ℤ, pos, nat_abs, Bool, true, false, cond, not, ◌==◌, nat_lt, List, [], ◌∷◌, length, map, take, get_or, refl, ap, sym, subst, arith, length-append, length-take}
+use Rattle.std.proofs.Common.{◌≡◌, ℕ, zero, suc, ◌+◌, ◌-◌, ◌*◌, ◌/◌, ◌≤◌, min, max, ℤ, pos, nat_abs, Bool, true, false, cond, not, ◌==◌, nat_lt, List}
+use Rattle.std.proofs.Common.{[], ◌∷◌, length, map, take, get_or, refl, ap, sym, subst, arith, length-append, length-take}
 use Rattle.std.proofs.lemmas.Int.{ints, clamps}
 use Rattle.std.proofs.lemmas.List.{length-map, length-replicate}
 use Rattle.std.proofs.lemmas.List.FromFn.{length-map-range_with_len}
@@ -21,7 +22,13 @@ length-solution lags N =
 pub last_place-most : (test : ℕ → Bool) (n : ℕ) → last_place test n ≤ n
 unfolding last_place
 last_place-most test zero = omega arith
-last_place-most test (suc n) = elim (test n) as (λ b. cond b (suc n) (last_place test n) ≤ suc n) [ true ↦ omega arith | false ↦ omega (arith, last_place-most test n) ]
+last_place-most test (suc n) = elim (test n) as (λ b. cond b (suc n) (last_place test n) ≤ suc n) [
+  | true ↦ omega arith
+  | false ↦ omega (
+    arith,
+    last_place-most test n,
+  )
+]
 
 bounded-range : (q : ℤ) → InRange filter_kind (bounded q)
 bounded-range q = (omega (arith, ints, clamps), omega (arith, ints, clamps))
@@ -42,7 +49,8 @@ IsTable-quantised values least most =
     record {
       least = omega arith;
       most = omega arith;
-      each = all_take (InRange filter_kind) (max 1 n) coefs (all_map (InRange filter_kind) move values (all_anyway (λ a. InRange filter_kind (move a)) values (λ a. bounded-range (coefficient (scale 8 values) a))));
+      each = all_take (InRange filter_kind) (max 1 n) coefs (all_map (InRange filter_kind) move values
+          (all_anyway (λ a. InRange filter_kind (move a)) values (λ a. bounded-range (coefficient (scale 8 values) a))));
       alone = λ lone _. absurd (cc);
     }
 

@@ -1,5 +1,6 @@
 -- From correlations to a filter's values: the recursion of Levinson and Durbin in whole numbers, with 24 fraction bits.
-use Rattle.std.specs.Prelude.{ℕ, zero, suc, ◌+◌, ◌-◌, ◌^◌, ℤ, pos, ◌-ℤ◌, ◌*ℤ◌, nat_abs, Bool, ◌||◌, nat_lt, nat_le, if◌then◌else◌, List, [], ◌∷◌, ◌++◌, length, map, replicate, get_or}
+use Rattle.std.specs.Prelude.{ℕ, zero, suc, ◌+◌, ◌-◌, ◌^◌, ℤ, pos, ◌-ℤ◌, ◌*ℤ◌, nat_abs, Bool, ◌||◌, nat_lt, nat_le, if◌then◌else◌, List, [], ◌∷◌}
+use Rattle.std.specs.Prelude.{◌++◌, length, map, replicate, get_or}
 use Rattle.std.specs.Int.{int_div_euclid}
 use Rattle.std.specs.List.{range_with_len, list_any}
 use Rattle.level_spec.specs.Correlation.{sum_over}

@@ -1,5 +1,6 @@
 -- From values with 24 fraction bits to the coefficients of a filter.
-use Rattle.std.specs.Prelude.{ℕ, zero, suc, ◌^◌, max, ℤ, pos, ◌+ℤ◌, ◌*ℤ◌, int_lt, nat_abs, Bool, not, ◌&&◌, ◌==◌, if◌then◌else◌, List, length, map, take, get_or}
+use Rattle.std.specs.Prelude.{ℕ, zero, suc, ◌^◌, max, ℤ, pos, ◌+ℤ◌, ◌*ℤ◌, int_lt, nat_abs, Bool, not, ◌&&◌, ◌==◌, if◌then◌else◌, List, length, map}
+use Rattle.std.specs.Prelude.{take, get_or}
 use Rattle.std.specs.Int.{int_min, int_max}
 use Rattle.std.specs.List.{list_all}
 use Rattle.dst_spec.specs.Table.{filter_kind}

@@ -1,4 +1,5 @@
-use Rattle.std.proofs.Common.{◌≡◌, ℕ, ◌+◌, ◌-◌, ◌*◌, ◌<◌, ◌≤◌, ◌==◌, length, get_or, take, drop, inl, inr, length-take, length-drop, refl, ap, sym, ◌∙◌, subst, arith}
+use Rattle.std.proofs.Common.{◌≡◌, ℕ, ◌+◌, ◌-◌, ◌*◌, ◌<◌, ◌≤◌, ◌==◌, length, get_or, take, drop, inl, inr, length-take, length-drop, refl, ap, sym}
+use Rattle.std.proofs.Common.{◌∙◌, subst, arith}
 use Rattle.std.proofs.lemmas.Bool.{cases_lt}
 use Rattle.std.proofs.lemmas.List.{take_rest, take_all, get_or_past}
 use Rattle.std.specs.List.{count_by, range_with_len}
@@ -26,7 +27,8 @@ count_codes-requires c =
     let long : length c.write_codes.new.codes ≡ T = ap length c.write_codes.ensures ∙ length-codes f sound ch coefs in
     let part : take (length c.write_codes.new.codes - first) (drop first c.write_codes.new.codes) ≡ drop first (codes f sound ch coefs) =
     take_rest c.write_codes.new.codes first ∙ ap (drop first) c.write_codes.ensures in
-    let many : length (drop first (codes f sound ch coefs)) ≡ T - first = length-drop first (codes f sound ch coefs) ∙ ap (λ n. n - first) (length-codes f sound ch coefs) in
+    let many : length (drop first (codes f sound ch coefs)) ≡ T - first = length-drop first (codes f sound ch coefs)
+    ∙ ap (λ n. n - first) (length-codes f sound ch coefs) in
     record {
       small = subst (λ xs. (k d : ℕ) → k < length xs → get_or xs k d < 128) (sym part) (λ k d h. codes-small f sound ch coefs first k d (omega arith));
       room = λ q h.
@@ -34,7 +36,8 @@ count_codes-requires c =
           let most = count_from-most first f (λ c t. code_at f sound c coefs t == q) (take i c.args.members.now) in
           let few : length (take i c.args.members.now) ≤ 6 = omega (arith, length-take i c.args.members.now, c.requires.few) in
           let row : length (take (length c.write_codes.new.codes - first) (drop first c.write_codes.new.codes)) ≡ T - first = ap length part ∙ many in
-          let product : length (take i c.args.members.now) * T ≤ 6 * 150528 = Rattle.std.proofs.lemmas.Nat.mul-le (length (take i c.args.members.now)) T 6 150528 few short in
+          let product : length (take i c.args.members.now) * T ≤ 6 * 150528 =
+          Rattle.std.proofs.lemmas.Nat.mul-le (length (take i c.args.members.now)) T 6 150528 few short in
           omega arith;
     }
 
@@ -66,7 +69,8 @@ returns c =
     let T = samples f in
     let short : T ≤ 150528 = omega (arith, c.requires.row, c.requires.short) in
     let all : take c.loop-member.member-index members ≡ members = take_all c.loop-member.member-index members (omega arith) in
-    let counts : (q : ℕ) → q < 128 → get_or c.loop-member.counts q 0 ≡ count_from first f (λ c' t. code_at f c.args.sound.now c' c.args.sums.now t == q) members =
+    let counts : (q : ℕ) → q < 128 → get_or c.loop-member.counts q 0 ≡ count_from first f
+    (λ c' t. code_at f c.args.sound.now c' c.args.sums.now t == q) members =
     λ q h. c.loop-member.invariant.1 q h ∙ ap (count_from first f (λ c' t. code_at f c.args.sound.now c' c.args.sums.now t == q)) all in
     let product : length members * T ≤ 6 * 150528 = Rattle.std.proofs.lemmas.Nat.mul-le (length members) T 6 150528 c.requires.few short in
     record {
@@ -74,6 +78,7 @@ returns c =
       counts = counts;
       most = λ q. elim (cases_lt q 128) [
         | inl h ↦ omega (arith, counts q h, count_from-most first f (λ c' t. code_at f c.args.sound.now c' c.args.sums.now t == q) members)
-        | inr h ↦ let past : get_or c.loop-member.counts q 0 ≡ 0 = get_or_past c.loop-member.counts q 0 (omega (arith, c.loop-member.invariant.0)) in omega arith
+        | inr h ↦ let past : get_or c.loop-member.counts q 0 ≡ 0 =
+            get_or_past c.loop-member.counts q 0 (omega (arith, c.loop-member.invariant.0)) in omega arith
       ];
     }

@@ -13,7 +13,8 @@ pub slice_bounds-row-end : goal.slice_bounds-row-end
 slice_bounds-row-end c = sym (front c.multiple.result c.multiple.ensures.most)
 
 pub count_channels-counts-requires-clause-row : goal.count_channels-counts-requires-clause-row
-count_channels-counts-requires-clause-row c = front c.multiple.result c.multiple.ensures.most ∙ (let rate : c.args.channels.octets ≡ 4704 * c.multiple.result = c.multiple.ensures.multiple in omega arith)
+count_channels-counts-requires-clause-row c = front c.multiple.result c.multiple.ensures.most
+    ∙ (let rate : c.args.channels.octets ≡ 4704 * c.multiple.result = c.multiple.ensures.multiple in omega arith)
 
 pub count_channels-counts-requires-clause-short : goal.count_channels-counts-requires-clause-short
 count_channels-counts-requires-clause-short c =

@@ -30,4 +30,6 @@ returns c =
     let octets : f.octets ≡ 8 * length {A = ℕ} (take (588 * m) (replicate 2352 0)) = omega arith in
     let has : HasSamples f sound ch c.pack.new.words = c.pack.ensures f (sym c.count.ensures.count) octets in
     let few : length c.pack.new.words ≡ 588 * m = omega (arith, has.long) in
-    fill_by_all (λ k. joint_correlation f sound (ch ∷ []) k) c.correlate_words.new.lags 129 (pos 0) c.correlate_words.ensures.long (λ k h. c.correlate_words.ensures.lags f sound ch (subst (HasSamples f sound ch) (sym (take-front (588 * m) c.pack.new.words _ few)) has) k h ∙ alone f sound ch k)
+    fill_by_all (λ k. joint_correlation f sound (ch ∷ []) k) c.correlate_words.new.lags 129 (pos 0) c.correlate_words.ensures.long
+    (λ k h. c.correlate_words.ensures.lags f sound ch (subst (HasSamples f sound ch) (sym (take-front (588 * m) c.pack.new.words _ few)) has) k h
+    ∙ alone f sound ch k)

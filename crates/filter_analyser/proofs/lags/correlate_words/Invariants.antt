@@ -9,12 +9,14 @@ invariant-loop-turn l = record {
   long : length l.lags ≡ 129;
   early : l.early ≡ tally (bit_of l.words) 0 (8 * l.turn);
   moved : (t : ℕ) → t < 64 * length l.words → bit_of l.behind t ≡ late l.words (8 * l.turn) t;
-  known : (f : Shape) (sound : List ℕ) (c : ℕ) → HasSamples f sound c l.words → (k : ℕ) → k < 8 * l.turn + 1 → get_or l.lags k (pos 0) ≡ correlation f sound c k;
+  known : (f : Shape) (sound : List ℕ) (c : ℕ) → HasSamples f sound c l.words → (k : ℕ) → k < 8 * l.turn + 1 →
+      get_or l.lags k (pos 0) ≡ correlation f sound c k;
 }
 
 abbrev pub invariant-loop-place : goal.invariant-loop-place
 invariant-loop-place l = record {
   long : length l.lags ≡ 129;
   early : l.early ≡ tally (bit_of l.words) 0 (8 * l.turn + l.place);
-  known : (f : Shape) (sound : List ℕ) (c : ℕ) → HasSamples f sound c l.words → (k : ℕ) → k < 8 * l.turn + l.place + 1 → get_or l.lags k (pos 0) ≡ correlation f sound c k;
+  known : (f : Shape) (sound : List ℕ) (c : ℕ) → HasSamples f sound c l.words → (k : ℕ) → k < 8 * l.turn + l.place + 1 →
+      get_or l.lags k (pos 0) ≡ correlation f sound c k;
 }

@@ -1,4 +1,5 @@
-use Rattle.std.proofs.Common.{◌≡◌, ◌<◌, ◌≤◌, ◌≢◌, ℤ, List, [], ◌∷◌, ◌++◌, length, get_or, set, get_or-set_other, get_or-set_same, length-set, inl, inr, ap, sym, ◌∙◌, subst, arith}
+use Rattle.std.proofs.Common.{◌≡◌, ◌<◌, ◌≤◌, ◌≢◌, ℤ, List, [], ◌∷◌, ◌++◌, length, get_or, set, get_or-set_other, get_or-set_same, length-set, inl}
+use Rattle.std.proofs.Common.{inr, ap, sym, ◌∙◌, subst, arith}
 use Rattle.std.proofs.lemmas.Bool.{cases_lt}
 use Rattle.level_spec.specs.Correlation.{correlations}
 use Rattle.level_spec.specs.Recursion.{solution}
@@ -10,7 +11,8 @@ use Rattle.filter_analyser.proofs.picker.pick_one.Goals as goal
 
 pub solve_filter-requires-clause-correlations : goal.solve_filter-requires-clause-correlations
 solve_filter-requires-clause-correlations c =
-    subst AreCorrelations (sym c.correlate.ensures) (are_correlations c.args.channels c.args.sound.now (c.loop-c.c ∷ []) c.count-c-end.ensures.shape (omega arith) (omega arith))
+    subst AreCorrelations (sym c.correlate.ensures) (are_correlations c.args.channels c.args.sound.now (c.loop-c.c ∷ []) c.count-c-end.ensures.shape
+    (omega arith) (omega arith))
 
 pub loop-c-preserved : goal.loop-c-preserved
 loop-c-preserved c =
@@ -25,7 +27,8 @@ loop-c-preserved c =
         | inl earlier ↦ let ne : k ≢ n = omega arith in rw get_or-set_other (c.loop-c.invariant.1 k earlier)
         | inr here ↦
             let e : k ≡ n = omega arith in
-            let stored : get_or (set c.loop-c.solved n c.solve_filter.result) n [] ≡ H (correlations f sound (n ∷ [])) = rw get_or-set_same (c.solve_filter.ensures ∙ ap H c.correlate.ensures) in
+            let stored : get_or (set c.loop-c.solved n c.solve_filter.result) n [] ≡ H (correlations f sound (n ∷ [])) =
+            rw get_or-set_same (c.solve_filter.ensures ∙ ap H c.correlate.ensures) in
             subst (λ q. get_or (set c.loop-c.solved n c.solve_filter.result) q [] ≡ H (correlations f sound (q ∷ []))) (sym e) stored
       ],
     )
@@ -33,5 +36,6 @@ loop-c-preserved c =
 pub returns-clause-found : goal.returns-clause-found
 unfolding level_picks
 returns-clause-found c =
-    let is : c.per_channel.result ≡ per_channel c.args.channels c.args.sound.now 32 = c.per_channel.ensures.params ∙ ap (λ s. per_channel c.args.channels s 32) c.requires.begun in
+    let is : c.per_channel.result ≡ per_channel c.args.channels c.args.sound.now 32 = c.per_channel.ensures.params
+    ∙ ap (λ s. per_channel c.args.channels s 32) c.requires.begun in
     c.push.ensures.items ∙ ap (λ xs. xs ++ c.per_channel.result ∷ []) c.requires.empty ∙ ap (λ p. p ∷ []) is

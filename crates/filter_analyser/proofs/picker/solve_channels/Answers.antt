@@ -1,4 +1,5 @@
-use Rattle.std.proofs.Common.{◌≡◌, ◌+◌, ◌<◌, ◌≤◌, ◌≢◌, ℤ, pos, ◌+ℤ◌, List, [], ◌∷◌, length, map, get_or, set, get_or-set_other, get_or-set_same, length-set, inl, inr, ap, sym, ◌∙◌, subst, arith}
+use Rattle.std.proofs.Common.{◌≡◌, ◌+◌, ◌<◌, ◌≤◌, ◌≢◌, ℤ, pos, ◌+ℤ◌, List, [], ◌∷◌, length, map, get_or, set, get_or-set_other, get_or-set_same}
+use Rattle.std.proofs.Common.{length-set, inl, inr, ap, sym, ◌∙◌, subst, arith}
 use Rattle.std.proofs.lemmas.Bool.{cases_lt}
 use Rattle.std.proofs.lemmas.List.{get_or_past}
 use Rattle.std.proofs.lemmas.List.FromFn.{length-range_with_len, fill_by_all}
@@ -25,7 +26,8 @@ loop-c-init c = record {
 
 pub solve_all-requires : goal.solve_all-requires
 solve_all-requires c =
-    subst AreCorrelations (sym c.correlate.ensures) (are_correlations c.args.channels c.args.sound.now (c.loop-c.c ∷ []) c.count-c-end.ensures.shape (omega arith) (omega arith))
+    subst AreCorrelations (sym c.correlate.ensures) (are_correlations c.args.channels c.args.sound.now (c.loop-c.c ∷ []) c.count-c-end.ensures.shape
+    (omega arith) (omega arith))
 
 pub add_lags-requires-clause-joint : goal.add_lags-requires-clause-joint
 add_lags-requires-clause-joint c = λ k. elim (cases_lt k 129) [
@@ -46,7 +48,8 @@ add_lags-requires-clause-joint c = λ k. elim (cases_lt k 129) [
 
 pub add_lags-requires-clause-lags : goal.add_lags-requires-clause-lags
 add_lags-requires-clause-lags c = λ k.
-    let corr : AreCorrelations c.correlate.new.lags = subst AreCorrelations (sym c.correlate.ensures) (are_correlations c.args.channels c.args.sound.now (c.loop-c.c ∷ []) c.count-c-end.ensures.shape (omega arith) (omega arith)) in
+    let corr : AreCorrelations c.correlate.new.lags = subst AreCorrelations (sym c.correlate.ensures)
+    (are_correlations c.args.channels c.args.sound.now (c.loop-c.c ∷ []) c.count-c-end.ensures.shape (omega arith) (omega arith)) in
     let small = lags-most c.correlate.new.lags k corr in
     omega arith
 
@@ -65,7 +68,8 @@ loop-c-preserved c =
         | inl earlier ↦ let ne : k ≢ n = omega arith in rw get_or-set_other (c.loop-c.invariant.solved k earlier)
         | inr here ↦
             let e : k ≡ n = omega arith in
-            let stored : get_or (set c.loop-c.solved n c.solve_all.result) n [] ≡ H (correlations f sound (n ∷ [])) = rw get_or-set_same (c.solve_all.ensures ∙ ap H c.correlate.ensures) in
+            let stored : get_or (set c.loop-c.solved n c.solve_all.result) n [] ≡ H (correlations f sound (n ∷ [])) =
+            rw get_or-set_same (c.solve_all.ensures ∙ ap H c.correlate.ensures) in
             subst (λ q. get_or (set c.loop-c.solved n c.solve_all.result) q [] ≡ H (correlations f sound (q ∷ []))) (sym e) stored
       ];
       whole = c.add_lags.ensures.long;

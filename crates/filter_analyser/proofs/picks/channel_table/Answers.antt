@@ -13,4 +13,5 @@ pub returns-clause-table : goal.returns-clause-table
 returns-clause-table c =
     let f = c.args.predictions.now.channels in
     let sound = c.args.predictions.now.sound in
-    c.table_from.ensures ∙ table-is f sound c.args.channel c.args.filter.now c.count_row.new.counts (λ q h. c.count_row.ensures.counts q h ∙ omega (arith, get_or-zeros 128 q))
+    c.table_from.ensures ∙ table-is f sound c.args.channel c.args.filter.now c.count_row.new.counts (λ q h. c.count_row.ensures.counts q h
+    ∙ omega (arith, get_or-zeros 128 q))

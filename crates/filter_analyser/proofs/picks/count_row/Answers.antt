@@ -23,7 +23,8 @@ returns-clause-counts c = λ q h.
     let is : row ≡ codes f sound ch coefs =
     c.codes-codes.ensures.codes ∙ ap (λ f. of f c.row-row.new.self.sound (get_or c.row-row.new.self.rows c.row-row.result nothing)) c.row-row.ensures.channels
     ∙ ap (λ s. of f s (get_or c.row-row.new.self.rows c.row-row.result nothing)) c.row-row.ensures.sound ∙ ap (of f sound) (c.row-row.ensures.is nothing) in
-    let rest : take (length row - L) (drop L row) ≡ drop (length coefs) (codes f sound ch coefs) = take_rest row L ∙ ap (drop L) is ∙ ap (λ n. drop n (codes f sound ch coefs)) long in
+    let rest : take (length row - L) (drop L row) ≡ drop (length coefs) (codes f sound ch coefs) = take_rest row L ∙ ap (drop L) is
+    ∙ ap (λ n. drop n (codes f sound ch coefs)) long in
     c.count_codes.ensures.counts q h
     ∙ ap (λ n. get_or c.args.counts.now q 0 + n) (ap (count_by (λ code. code == q)) rest ∙ count_by-codes f sound ch coefs (length coefs) q)
 
@@ -36,7 +37,8 @@ returns-clause-most c = λ q. elim (cases_lt q 128) [
       let many = count_by-le-length (λ code. code == q) (take (length row - L) (drop L row)) in
       let front = length-take (length row - L) (drop L row) in
       let long : length row ≡ samples c.row-row.new.self.channels = c.codes-codes.ensures.long in
-      let most : samples c.row-row.new.self.channels ≤ 150528 = subst (λ f. samples f ≤ 150528) (sym c.row-row.ensures.channels) (shape_most c.args.predictions.now.channels c.requires.shape) in
+      let most : samples c.row-row.new.self.channels ≤ 150528 =
+      subst (λ f. samples f ≤ 150528) (sym c.row-row.ensures.channels) (shape_most c.args.predictions.now.channels c.requires.shape) in
       omega arith
   | inr h ↦
       let past : get_or c.count_codes.new.counts q 0 ≡ 0 = get_or_past c.count_codes.new.counts q 0 (omega (arith, c.count_codes.ensures.long)) in

@@ -30,7 +30,8 @@ loop-c-preserved c =
     let F : ℕ → List ℤ = λ c. filter_for f sound order (c ∷ []) in
     let G : ℕ → List ℕ = λ c. counted f sound (c ∷ []) (F c) in
     let z : 0 + n ≡ n = omega arith in
-    let filter : c.quantise-filter.result ≡ F n = c.quantise-filter.ensures ∙ filter-is f sound (n ∷ []) order (get_or c.args.solved.now n []) (c.requires.solved n inside) in
+    let filter : c.quantise-filter.result ≡ F n = c.quantise-filter.ensures
+    ∙ filter-is f sound (n ∷ []) order (get_or c.args.solved.now n []) (c.requires.solved n inside) in
     let table : c.channel_table.result ≡ G n =
     c.channel_table.ensures.table ∙ ap (λ g. counted g c.loop-c.predictions.sound (n ∷ []) c.quantise-filter.result) c.loop-c.invariant.channels
     ∙ ap (λ s. counted f s (n ∷ []) c.quantise-filter.result) c.loop-c.invariant.sound ∙ ap (counted f sound (n ∷ [])) filter in
@@ -38,7 +39,8 @@ loop-c-preserved c =
       sound = c.channel_table.ensures.sound ∙ c.loop-c.invariant.sound;
       channels = c.channel_table.ensures.channels ∙ c.loop-c.invariant.channels;
       filters =
-          c.push-in-loop-c.ensures.items ∙ ap (λ xs. xs ++ c.quantise-filter.result ∷ []) c.loop-c.invariant.filters ∙ ap (λ x. map F (range_with_len 0 n) ++ x ∷ []) filter
+          c.push-in-loop-c.ensures.items ∙ ap (λ xs. xs ++ c.quantise-filter.result ∷ []) c.loop-c.invariant.filters
+          ∙ ap (λ x. map F (range_with_len 0 n) ++ x ∷ []) filter
           ∙ sym (map-range_with_len_more F 0 n n z);
       probs =
           c.push.ensures.items ∙ ap (λ xs. xs ++ c.channel_table.result ∷ []) c.loop-c.invariant.probs ∙ ap (λ x. map G (range_with_len 0 n) ++ x ∷ []) table
@@ -52,8 +54,10 @@ parameters-requires c =
     let all : c.loop-c.c ≡ f.channels = omega (arith, c.count-count.ensures.count) in
     let order = c.args.order in
     let F : ℕ → List ℤ = λ c. filter_for f sound order (c ∷ []) in
-    let is = per_channel-is f sound c.args.order (take {A = ℕ} f.channels (0 ∷ 1 ∷ 2 ∷ 3 ∷ 4 ∷ 5 ∷ [])) c.loop-c.filters.items c.loop-c.probs.items (first_numbers f.channels c.count-count.ensures.shape.most)
-    (c.loop-c.invariant.filters ∙ ap (λ n. map F (range_with_len 0 n)) all) (c.loop-c.invariant.probs ∙ ap (λ n. map (λ c. counted f sound (c ∷ []) (F c)) (range_with_len 0 n)) all) in
+    let is = per_channel-is f sound c.args.order (take {A = ℕ} f.channels (0 ∷ 1 ∷ 2 ∷ 3 ∷ 4 ∷ 5 ∷ [])) c.loop-c.filters.items c.loop-c.probs.items
+    (first_numbers f.channels c.count-count.ensures.shape.most)
+    (c.loop-c.invariant.filters ∙ ap (λ n. map F (range_with_len 0 n)) all) (c.loop-c.invariant.probs
+    ∙ ap (λ n. map (λ c. counted f sound (c ∷ []) (F c)) (range_with_len 0 n)) all) in
     record { lawful = subst (IsParams f.channels) (sym is) (IsParams-per_channel f sound c.args.order c.requires.least c.requires.most) }
 
 pub returns-clause-params : goal.returns-clause-params
@@ -63,6 +67,8 @@ returns-clause-params c =
     let all : c.loop-c.c ≡ f.channels = omega (arith, c.count-count.ensures.count) in
     let order = c.args.order in
     let F : ℕ → List ℤ = λ c. filter_for f sound order (c ∷ []) in
-    let is = per_channel-is f sound c.args.order (take {A = ℕ} f.channels (0 ∷ 1 ∷ 2 ∷ 3 ∷ 4 ∷ 5 ∷ [])) c.loop-c.filters.items c.loop-c.probs.items (first_numbers f.channels c.count-count.ensures.shape.most)
-    (c.loop-c.invariant.filters ∙ ap (λ n. map F (range_with_len 0 n)) all) (c.loop-c.invariant.probs ∙ ap (λ n. map (λ c. counted f sound (c ∷ []) (F c)) (range_with_len 0 n)) all) in
+    let is = per_channel-is f sound c.args.order (take {A = ℕ} f.channels (0 ∷ 1 ∷ 2 ∷ 3 ∷ 4 ∷ 5 ∷ [])) c.loop-c.filters.items c.loop-c.probs.items
+    (first_numbers f.channels c.count-count.ensures.shape.most)
+    (c.loop-c.invariant.filters ∙ ap (λ n. map F (range_with_len 0 n)) all) (c.loop-c.invariant.probs
+    ∙ ap (λ n. map (λ c. counted f sound (c ∷ []) (F c)) (range_with_len 0 n)) all) in
     c.parameters.ensures ∙ is

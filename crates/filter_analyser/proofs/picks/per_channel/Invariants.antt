@@ -9,5 +9,6 @@ invariant-loop-c l = record {
   sound : l.predictions.sound ≡ l.initial.predictions.sound;
   channels : l.predictions.channels ≡ l.channels;
   filters : l.filters.items ≡ map (λ c. filter_for l.channels l.initial.predictions.sound l.order (c ∷ [])) (range_with_len 0 l.c);
-  probs : l.probs.items ≡ map (λ c. counted l.channels l.initial.predictions.sound (c ∷ []) (filter_for l.channels l.initial.predictions.sound l.order (c ∷ []))) (range_with_len 0 l.c);
+  probs : l.probs.items ≡ map (λ c. counted l.channels l.initial.predictions.sound (c ∷ [])
+      (filter_for l.channels l.initial.predictions.sound l.order (c ∷ []))) (range_with_len 0 l.c);
 }

@@ -15,7 +15,8 @@ returns c =
     let square : c.share-square.result ≡ whole (f *ℤ f) = c.share-square.ensures.share ∙ ap (λ z. whole (z *ℤ z)) (same_64 f (omega arith)) in
     let small : nat_abs c.share-square.result ≤ 2 ^ 24 = let m = c.share-square.ensures.most in omega (arith, ints) in
     let e : to_z w64 (of_z w64 error) ≡ error = omega (arith, ints) in
-    let is : c.share.result ≡ whole (whole (f *ℤ f) *ℤ error) = c.share.ensures.share ∙ ap (λ z. whole (z *ℤ to_z w64 (of_z w64 error))) (same_64 c.share-square.result (omega arith) ∙ square) ∙ ap (λ z. whole (whole (f *ℤ f) *ℤ z)) e in
+    let is : c.share.result ≡ whole (whole (f *ℤ f) *ℤ error) = c.share.ensures.share
+    ∙ ap (λ z. whole (z *ℤ to_z w64 (of_z w64 error))) (same_64 c.share-square.result (omega arith) ∙ square) ∙ ap (λ z. whole (whole (f *ℤ f) *ℤ z)) e in
     let less : nat_abs c.share.result ≤ 2 ^ 44 = let m = c.share.ensures.most in omega (arith, ints) in
     let new : to_z w64 (of_z w64 (to_z w64 (of_z w64 error) -ℤ to_z w64 (of_z w64 c.share.result))) ≡ error -ℤ c.share.result = omega (arith, ints) in
     let all = new ∙ ap (λ z. error -ℤ z) is in

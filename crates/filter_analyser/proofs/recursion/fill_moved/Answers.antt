@@ -1,4 +1,5 @@
-use Rattle.std.proofs.Common.{◌≡◌, ◌+◌, ◌-◌, ◌<◌, ◌≢◌, pos, ◌-ℤ◌, ◌*ℤ◌, to_z, of_z, length, get_or, set, get_or-set_other, get_or-set_same, inl, inr, subst, ap, sym, ◌∙◌, arith}
+use Rattle.std.proofs.Common.{◌≡◌, ◌+◌, ◌-◌, ◌<◌, ◌≢◌, pos, ◌-ℤ◌, ◌*ℤ◌, to_z, of_z, length, get_or, set, get_or-set_other, get_or-set_same, inl, inr}
+use Rattle.std.proofs.Common.{subst, ap, sym, ◌∙◌, arith}
 use mir.Syntax.{w64}
 use Rattle.std.proofs.lemmas.Int.{ints}
 use Rattle.std.proofs.lemmas.Bool.{cases_lt}
@@ -27,9 +28,12 @@ loop-j-preserved c =
           let one : j ≡ 1 + k = omega arith in
           let inside : j - 1 < length c.loop-j.next = omega arith in
           let place : i - j - 1 ≡ i - (1 + k) - 1 = omega arith in
-          let stored : get_or (set c.loop-j.next (j - 1) (to_z w64 (of_z w64 (to_z w64 (of_z w64 a) -ℤ to_z w64 (of_z w64 c.share.result))))) (j - 1) (pos 0) ≡ value values (1 + k) -ℤ whole (f *ℤ value values (i - (1 + k))) =
-          rw get_or-set_same (new ∙ ap (λ z. a -ℤ z) is ∙ ap (λ q. get_or values q (pos 0) -ℤ whole (f *ℤ b)) (let q : j - 1 ≡ 1 + k - 1 = omega arith in q) ∙ ap (λ q. value values (1 + k) -ℤ whole (f *ℤ get_or values q (pos 0))) place) in
-          subst (λ q. get_or (set c.loop-j.next (j - 1) (to_z w64 (of_z w64 (to_z w64 (of_z w64 a) -ℤ to_z w64 (of_z w64 c.share.result))))) q (pos 0) ≡ value values (1 + k) -ℤ whole (f *ℤ value values (i - (1 + k)))) (sym e) stored
+          let stored : get_or (set c.loop-j.next (j - 1) (to_z w64 (of_z w64 (to_z w64 (of_z w64 a) -ℤ to_z w64 (of_z w64 c.share.result))))) (j - 1)
+          (pos 0) ≡ value values (1 + k) -ℤ whole (f *ℤ value values (i - (1 + k))) =
+          rw get_or-set_same (new ∙ ap (λ z. a -ℤ z) is ∙ ap (λ q. get_or values q (pos 0) -ℤ whole (f *ℤ b)) (let q : j - 1 ≡ 1 + k - 1 = omega arith in q)
+          ∙ ap (λ q. value values (1 + k) -ℤ whole (f *ℤ get_or values q (pos 0))) place) in
+          subst (λ q. get_or (set c.loop-j.next (j - 1) (to_z w64 (of_z w64 (to_z w64 (of_z w64 a) -ℤ to_z w64 (of_z w64 c.share.result))))) q (pos 0)
+          ≡ value values (1 + k) -ℤ whole (f *ℤ value values (i - (1 + k)))) (sym e) stored
     ]
 
 pub returns : goal.returns

@@ -10,7 +10,8 @@ pub loop-j-init : goal.loop-j-init
 unfolding sum_over
 loop-j-init c =
     let small = lags-most c.args.lags.now c.args.place c.requires.correlations in
-    let is : c.product-rest.result ≡ get_or c.args.lags.now c.args.place (pos 0) *ℤ pos 16777216 = c.product-rest.ensures ∙ ap (λ z. z *ℤ pos 16777216) (same_64 (get_or c.args.lags.now c.args.place (pos 0)) (omega arith)) in
+    let is : c.product-rest.result ≡ get_or c.args.lags.now c.args.place (pos 0) *ℤ pos 16777216 = c.product-rest.ensures
+    ∙ ap (λ z. z *ℤ pos 16777216) (same_64 (get_or c.args.lags.now c.args.place (pos 0)) (omega arith)) in
     omega (arith, ints)
 
 pub overflow_sub-rest : goal.overflow_sub-rest
@@ -20,7 +21,8 @@ overflow_sub-rest c =
     let b = get_or c.args.lags.now (c.args.place - j) (pos 0) in
     let small_a = c.requires.values (j - 1) in
     let small_b = lags-most c.args.lags.now (c.args.place - j) c.requires.correlations in
-    let is : c.product-rest-in-loop-j.result ≡ a *ℤ b = c.product-rest-in-loop-j.ensures ∙ ap (λ z. z *ℤ to_z w64 (of_z w64 b)) (same_64 a (omega arith)) ∙ ap (λ z. a *ℤ z) (same_64 b (omega arith)) in
+    let is : c.product-rest-in-loop-j.result ≡ a *ℤ b = c.product-rest-in-loop-j.ensures ∙ ap (λ z. z *ℤ to_z w64 (of_z w64 b)) (same_64 a (omega arith))
+    ∙ ap (λ z. a *ℤ z) (same_64 b (omega arith)) in
     let product = product-most a b (2 ^ 40) (2 ^ 20) small_a small_b in
     let before = left-most c.args.lags.now c.args.values.now c.args.place (j - 1) c.requires.correlations c.requires.values (omega arith) in
     let rest : nat_abs (to_z w128 c.loop-j.rest-bits) ≤ 2 ^ 68 = rw c.loop-j.invariant before in
@@ -34,15 +36,18 @@ loop-j-preserved c =
     let b = get_or c.args.lags.now (c.args.place - j) (pos 0) in
     let small_a = c.requires.values (j - 1) in
     let small_b = lags-most c.args.lags.now (c.args.place - j) c.requires.correlations in
-    let is : c.product-rest-in-loop-j.result ≡ a *ℤ b = c.product-rest-in-loop-j.ensures ∙ ap (λ z. z *ℤ to_z w64 (of_z w64 b)) (same_64 a (omega arith)) ∙ ap (λ z. a *ℤ z) (same_64 b (omega arith)) in
+    let is : c.product-rest-in-loop-j.result ≡ a *ℤ b = c.product-rest-in-loop-j.ensures ∙ ap (λ z. z *ℤ to_z w64 (of_z w64 b)) (same_64 a (omega arith))
+    ∙ ap (λ z. a *ℤ z) (same_64 b (omega arith)) in
     let product = product-most a b (2 ^ 40) (2 ^ 20) small_a small_b in
     let taken : nat_abs c.product-rest-in-loop-j.result ≤ 2 ^ 60 = rw is product in
     let before = left-most c.args.lags.now c.args.values.now c.args.place (j - 1) c.requires.correlations c.requires.values (omega arith) in
     let rest : nat_abs (to_z w128 c.loop-j.rest-bits) ≤ 2 ^ 68 = rw c.loop-j.invariant before in
     let next = left-next c.args.lags.now c.args.values.now c.args.place j (omega arith) in
-    let new : to_z w128 (of_z w128 (to_z w128 c.loop-j.rest-bits -ℤ to_z w128 (of_z w128 c.product-rest-in-loop-j.result))) ≡ to_z w128 c.loop-j.rest-bits -ℤ c.product-rest-in-loop-j.result = omega (arith, ints) in
+    let new : to_z w128 (of_z w128 (to_z w128 c.loop-j.rest-bits -ℤ to_z w128 (of_z w128 c.product-rest-in-loop-j.result)))
+    ≡ to_z w128 c.loop-j.rest-bits -ℤ c.product-rest-in-loop-j.result = omega (arith, ints) in
     new ∙ ap (λ z. z -ℤ c.product-rest-in-loop-j.result) c.loop-j.invariant
-    ∙ ap (λ z. lag c.args.lags.now c.args.place *ℤ pos (2 ^ 24) -ℤ sum_over (λ j. value c.args.values.now j *ℤ lag c.args.lags.now (c.args.place - j)) 1 (j - 1) -ℤ z) is
+    ∙ ap (λ z. lag c.args.lags.now c.args.place *ℤ pos (2 ^ 24) -ℤ sum_over (λ j. value c.args.values.now j *ℤ lag c.args.lags.now (c.args.place - j)) 1
+    (j - 1) -ℤ z) is
     ∙ next
 
 pub returns : goal.returns
@@ -50,5 +55,10 @@ unfolding left_over
 returns c =
     let e : c.loop-j.j ≡ c.args.place = omega arith in
     let is : to_z w128 c.loop-j.rest-bits ≡ left_over c.args.lags.now c.args.values.now c.args.place =
-    c.loop-j.invariant ∙ ap (λ j. lag c.args.lags.now c.args.place *ℤ pos (2 ^ 24) -ℤ sum_over (λ j. value c.args.values.now j *ℤ lag c.args.lags.now (c.args.place - j)) 1 (j - 1)) e in
-    record { left = is; most = rw is (left-most c.args.lags.now c.args.values.now c.args.place (c.args.place - 1) c.requires.correlations c.requires.values (omega arith)) }
+    c.loop-j.invariant ∙ ap (λ j. lag c.args.lags.now c.args.place *ℤ pos (2 ^ 24) -ℤ sum_over
+    (λ j. value c.args.values.now j *ℤ lag c.args.lags.now (c.args.place - j)) 1 (j - 1)) e in
+    record {
+      left = is;
+      most = rw is (left-most c.args.lags.now c.args.values.now c.args.place (c.args.place - 1) c.requires.correlations c.requires.values
+          (omega arith));
+    }

@@ -14,7 +14,8 @@ returns c =
     let unit : to_z w128 (of_z w128 c.from.result) ≡ pos 16777216 = let e : c.from.result ≡ pos 16777216 = c.from.ensures in omega (arith, ints) in
     let raised : to_z w128 (of_z w128 (to_z w128 (of_z w128 left) *ℤ to_z w128 (of_z w128 c.from.result))) ≡ left *ℤ pos 16777216 =
     ap (λ z. to_z w128 (of_z w128 (to_z w128 (of_z w128 left) *ℤ z))) unit ∙ omega (arith, ints) in
-    let error : to_z w128 (of_z w128 c.from-2.result) ≡ c.args.error = let e : c.from-2.result ≡ to_z w64 (of_z w64 c.args.error) = c.from-2.ensures in omega (arith, ints) in
+    let error : to_z w128 (of_z w128 c.from-2.result) ≡ c.args.error = let e : c.from-2.result ≡ to_z w64 (of_z w64 c.args.error) =
+    c.from-2.ensures in omega (arith, ints) in
     let whole : to_z w128 (of_z w128 c.div_euclid.result) ≡ c.div_euclid.result = omega (arith, ints) in
     whole ∙ c.div_euclid.ensures ∙ ap (λ z. int_div_euclid z (to_z w128 (of_z w128 c.from-2.result))) raised
     ∙ ap (λ z. int_div_euclid (left *ℤ pos 16777216) z) error ∙ ap (λ z. int_div_euclid (z *ℤ pos 16777216) c.args.error) is

@@ -1,4 +1,5 @@
-use Rattle.std.proofs.Common.{◌≡◌, ◌<◌, ◌≢◌, ℤ, pos, to_z, of_z, length, map, get_or, take, length-take, length-set, get_or-set_other, get_or-set_same, below_more, ap, sym, ◌∙◌, arith}
+use Rattle.std.proofs.Common.{◌≡◌, ◌<◌, ◌≢◌, ℤ, pos, to_z, of_z, length, map, get_or, take, length-take, length-set, get_or-set_other}
+use Rattle.std.proofs.Common.{get_or-set_same, below_more, ap, sym, ◌∙◌, arith}
 use mir.Syntax.{w16, w64}
 use Rattle.std.proofs.lemmas.Int.{ints}
 use Rattle.std.proofs.lemmas.List.{ext_get_or, get_or-take, length-map}
@@ -30,4 +31,5 @@ returns-clause-coefs c =
     let front = length-take (length values) c.loop-place.coefs in
     let long = length-map values F in
     ext_get_or (pos 0) (take (length values) c.loop-place.coefs) (map F values) (omega (arith, c.loop-place.invariant.0))
-    (λ k h. get_or-take (length values) c.loop-place.coefs k (pos 0) (omega (arith, c.loop-place.invariant.0)) ∙ c.loop-place.invariant.1 k (omega (arith, c.loop-place.invariant.0)) ∙ sym (get_or-mapped F values k (omega (arith, c.loop-place.invariant.0))))
+    (λ k h. get_or-take (length values) c.loop-place.coefs k (pos 0) (omega (arith, c.loop-place.invariant.0))
+    ∙ c.loop-place.invariant.1 k (omega (arith, c.loop-place.invariant.0)) ∙ sym (get_or-mapped F values k (omega (arith, c.loop-place.invariant.0))))

@@ -3,7 +3,8 @@ use Rattle.std.specs.List.{list_all}
 use Rattle.level_spec.specs.Scale.{coefficient, is_coefficient, scale}
 use Rattle.filter_analyser.proofs.scale.greatest_scale.Goals as goal
 
-next : (less : ℕ) (values : List ℤ) → less < 8 → scale (8 - less) values ≡ cond (list_all (λ a. is_coefficient (coefficient (8 - less) a)) values) (8 - less) (scale (8 - (less + 1)) values)
+next : (less : ℕ) (values : List ℤ) → less < 8 → scale (8 - less) values ≡ cond (list_all (λ a. is_coefficient (coefficient (8 - less) a)) values)
+    (8 - less) (scale (8 - (less + 1)) values)
 unfolding scale
 next less values h =
     let e : 8 - less ≡ suc (8 - (less + 1)) = omega arith in
@@ -17,13 +18,15 @@ pub returns-then-all_are_coefficients-clause-scale : goal.returns-then-all_are_c
 returns-then-all_are_coefficients-clause-scale c =
     let values = c.args.values.now in
     let less = c.loop-less.less in
-    sym (c.loop-less.invariant ∙ next less values (omega arith) ∙ ap (λ b. cond b (8 - less) (scale (8 - (less + 1)) values)) (sym c.all_are_coefficients.ensures ∙ c.if-all_are_coefficients.true))
+    sym (c.loop-less.invariant ∙ next less values (omega arith)
+    ∙ ap (λ b. cond b (8 - less) (scale (8 - (less + 1)) values)) (sym c.all_are_coefficients.ensures ∙ c.if-all_are_coefficients.true))
 
 pub loop-less-preserved : goal.loop-less-preserved
 loop-less-preserved c =
     let values = c.args.values.now in
     let less = c.loop-less.less in
-    c.loop-less.invariant ∙ next less values (omega arith) ∙ ap (λ b. cond b (8 - less) (scale (8 - (less + 1)) values)) (sym c.all_are_coefficients.ensures ∙ c.if-all_are_coefficients.false)
+    c.loop-less.invariant ∙ next less values (omega arith) ∙ ap (λ b. cond b (8 - less) (scale (8 - (less + 1)) values)) (sym c.all_are_coefficients.ensures
+    ∙ c.if-all_are_coefficients.false)
 
 pub returns-clause-scale : goal.returns-clause-scale
 returns-clause-scale c =

@@ -20,7 +20,8 @@ loop-place-preserved c =
     let fits : SFits w16 z = search rules in
     elim c.if-coefs-place-ne0.branch [
       | then-coefs-place-ne0 w ↦ w.length-is ∙ sym (next ∙ ap (λ b. cond b (place + 1) (last_place test place)) (not_zero_test z w.if-coefs-place-ne0.true))
-      | else-coefs-place-ne0 w ↦ w.length-is ∙ c.loop-place.invariant ∙ sym (next ∙ ap (λ b. cond b (place + 1) (last_place test place)) (zero_test z fits w.if-coefs-place-ne0.false))
+      | else-coefs-place-ne0 w ↦ w.length-is ∙ c.loop-place.invariant
+          ∙ sym (next ∙ ap (λ b. cond b (place + 1) (last_place test place)) (zero_test z fits w.if-coefs-place-ne0.false))
     ]
 
 pub returns-clause-most : goal.returns-clause-most

@@ -15,4 +15,6 @@ loop-place-preserved c = compared-more _ _ _ _ _ _ _ _ c.loop-place.invariant (o
 
 pub returns-clause-counts : goal.returns-clause-counts
 unfolding differing
-returns-clause-counts c = λ j h. c.loop-place.invariant.counted j h ∙ (let e : 64 * c.loop-place.place ≡ 64 * length c.args.words.now = omega arith in ap (λ n. tally (λ t. (bit_of c.args.words.now t + late c.args.behind.now (j + 1) t) % 2) 0 n) e)
+returns-clause-counts c = λ j h. c.loop-place.invariant.counted j h
+    ∙ (let e : 64 * c.loop-place.place ≡ 64 * length c.args.words.now =
+    omega arith in ap (λ n. tally (λ t. (bit_of c.args.words.now t + late c.args.behind.now (j + 1) t) % 2) 0 n) e)

@@ -1,4 +1,5 @@
-use Rattle.std.proofs.Common.{◌≡◌, ℕ, ◌+◌, ◌-◌, ◌/◌, ◌%◌, ◌^◌, ◌<◌, ◌≤◌, ◌≢◌, length, get_or, bit_xor, count_ones, below_more, get_or-set_other, get_or-set_same, length-set, rules, arith}
+use Rattle.std.proofs.Common.{◌≡◌, ℕ, ◌+◌, ◌-◌, ◌/◌, ◌%◌, ◌^◌, ◌<◌, ◌≤◌, ◌≢◌, length, get_or, bit_xor, count_ones, below_more, get_or-set_other}
+use Rattle.std.proofs.Common.{get_or-set_same, length-set, rules, arith}
 use Rattle.std.proofs.lemmas.Nat.{ones-le, xor_lt}
 use Rattle.filter_analyser.specs.Words.{passed, tally}
 use Rattle.filter_analyser.proofs.Differing.{ones-differing}
@@ -11,7 +12,8 @@ overflow_add-counts c =
     let least = c.requires place (omega arith) in
     let fits : c.args.word < 2 ^ 64 = search rules in
     let moved_fits : c.moved.result < 2 ^ 64 = search rules in
-    let bound : count_ones (bit_xor c.args.word c.moved.result) ≤ 64 = ones-le 64 (bit_xor c.args.word c.moved.result) (xor_lt 64 c.args.word c.moved.result fits moved_fits) in
+    let bound : count_ones (bit_xor c.args.word c.moved.result) ≤ 64 =
+    ones-le 64 (bit_xor c.args.word c.moved.result) (xor_lt 64 c.args.word c.moved.result fits moved_fits) in
     omega arith
 
 pub loop-place-preserved : goal.loop-place-preserved
@@ -26,6 +28,7 @@ loop-place-preserved c =
       omega (arith, length-set {A = ℕ}, c.loop-place.invariant.0),
       below_more _ _
           (λ j h. let ne : j ≢ place = omega arith in rw get_or-set_other (c.loop-place.invariant.1 j h))
-          (let e : get_or c.loop-place.counts place 0 + count_ones (bit_xor c.args.word c.moved.result) ≡ get_or c.args.counts.now place 0 + tally (λ i. (c.args.word / 2 ^ (63 - i) % 2 + F i) % 2) 0 64 = omega arith in rw get_or-set_same e),
+          (let e : get_or c.loop-place.counts place 0 + count_ones (bit_xor c.args.word c.moved.result) ≡ get_or c.args.counts.now place 0 + tally
+          (λ i. (c.args.word / 2 ^ (63 - i) % 2 + F i) % 2) 0 64 = omega arith in rw get_or-set_same e),
       λ j h. let ne : j ≢ place = omega arith in rw get_or-set_other (c.loop-place.invariant.2 j (omega arith)),
     )

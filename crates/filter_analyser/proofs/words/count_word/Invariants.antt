@@ -5,5 +5,6 @@ use Rattle.filter_analyser.proofs.words.count_word.Given as goal
 abbrev pub invariant-loop-place : goal.invariant-loop-place
 invariant-loop-place l =
     (length l.counts ≡ 8)
-    × ((j : ℕ) → j < l.place → get_or l.counts j 0 ≡ get_or l.initial.counts j 0 + tally (λ i. (l.word / 2 ^ (63 - i) % 2 + passed l.here l.before (j + 1) i) % 2) 0 64)
+    × ((j : ℕ) → j < l.place → get_or l.counts j 0 ≡ get_or l.initial.counts j 0 + tally
+    (λ i. (l.word / 2 ^ (63 - i) % 2 + passed l.here l.before (j + 1) i) % 2) 0 64)
     × ((j : ℕ) → l.place ≤ j → get_or l.counts j 0 ≡ get_or l.initial.counts j 0)

@@ -1,4 +1,5 @@
-use Rattle.std.proofs.Common.{◌≡◌, ℕ, ◌+◌, ◌-◌, ◌<◌, ◌≤◌, ℤ, pos, List, ◌++◌, length, get_or, take, replicate, length-take, length-append, inl, inr, refl, ap, sym, ◌∙◌, arith}
+use Rattle.std.proofs.Common.{◌≡◌, ℕ, ◌+◌, ◌-◌, ◌<◌, ◌≤◌, ℤ, pos, List, ◌++◌, length, get_or, take, replicate, length-take, length-append, inl, inr}
+use Rattle.std.proofs.Common.{refl, ap, sym, ◌∙◌, arith}
 use Rattle.std.proofs.lemmas.List.{ext_get_or, get_or_append_left, get_or-append_right, length-replicate}
 use Rattle.std.proofs.lemmas.Bool.{cases_lt}
 use Rattle.filter_analyser.specs.Run.{padded}
@@ -23,6 +24,8 @@ loop-place-init c = (refl, λ k h. absurd (omega arith), λ k h. zeros-at 128 k)
 pub returns : goal.returns
 returns c =
     let is : take c.self.inside.steps c.self.inside.values ≡ c.args.self.now.values = ap (λ s. s.values) c.self.view_is in
-    let cut : length (take c.self.inside.steps c.self.inside.values) ≡ c.self.inside.steps = omega (arith, length-take c.self.inside.steps c.self.inside.values, c.self.told, c.self.invariant.0) in
+    let cut : length (take c.self.inside.steps c.self.inside.values) ≡ c.self.inside.steps =
+    omega (arith, length-take c.self.inside.steps c.self.inside.values, c.self.told, c.self.invariant.0) in
     let few : length c.args.self.now.values ≡ c.self.inside.steps = sym (ap length is) ∙ cut in
-    padded-is c.loop-place.all c.args.self.now.values c.loop-place.invariant.0 (omega (arith, few, c.self.invariant.0)) (λ k h. c.loop-place.invariant.1 k (omega arith)) (λ k h. c.loop-place.invariant.2 k (omega arith))
+    padded-is c.loop-place.all c.args.self.now.values c.loop-place.invariant.0 (omega (arith, few, c.self.invariant.0))
+    (λ k h. c.loop-place.invariant.1 k (omega arith)) (λ k h. c.loop-place.invariant.2 k (omega arith))

@@ -15,7 +15,8 @@ returns-then-unsigned_abs-clause-state c =
     let s : State = record { error = error; values = values } in
     let F = c.next_value-next_value.result in
     let held : to_z w64 (of_z w64 error) ≡ error = omega (arith, ints, c.self.invariant.1.most, c.self.invariant.1.positive) in
-    let is : F ≡ reflection lags s (length values + 1) = c.next_value-next_value.ensures ∙ ap (λ e. reflection lags (record { error = e; values = values }) (length values + 1)) held in
+    let is : F ≡ reflection lags s (length values + 1) = c.next_value-next_value.ensures
+    ∙ ap (λ e. reflection lags (record { error = e; values = values }) (length values + 1)) held in
     let same : to_z w128 (of_z w128 F) ≡ F = omega (arith, ints) in
     let great : 2 ^ 24 ≤ nat_abs F = let v : c.unsigned_abs.result ≡ nat_abs F = c.unsigned_abs.ensures.value ∙ ap nat_abs same in omega arith in
     let stop : step lags s ≡ s = stop-by_value lags s (rw (← is) great) in
@@ -37,9 +38,11 @@ returns-then-has_large-clause-state c =
     let long : length values ≡ c.self.inside.steps = omega (arith, length-take c.self.inside.steps c.self.inside.values, c.self.told, c.self.invariant.0) in
     let next : take (c.self.inside.steps + 1) c.moved-next.result ≡ moved values F n =
     ap (λ k. take (k + 1) c.moved-next.result) (sym long) ∙ c.moved-next.ensures ∙ ap (λ z. moved values z n) cut in
-    let large : c.has_large.result ≡ list_any (λ b. nat_lt (2 ^ 40) (nat_abs b)) (moved values F n) = c.has_large.ensures ∙ ap (list_any (λ b. nat_lt (2 ^ 40) (nat_abs b))) next in
+    let large : c.has_large.result ≡ list_any (λ b. nat_lt (2 ^ 40) (nat_abs b)) (moved values F n) = c.has_large.ensures
+    ∙ ap (list_any (λ b. nat_lt (2 ^ 40) (nat_abs b))) next in
     let stop = stop-by_large lags s F c.has_large.result is small large in
-    sym (subst (λ t. step lags t ≡ t) c.self.view_is (stop ∙ ap (λ b. cond b s (record { error = fallen error F; values = moved values F n })) c.if-has_large.true))
+    sym (subst (λ t. step lags t ≡ t) c.self.view_is (stop ∙ ap
+    (λ b. cond b s (record { error = fallen error F; values = moved values F n })) c.if-has_large.true))
 
 pub invariant_of-self : goal.invariant_of-self
 invariant_of-self c =
@@ -77,7 +80,8 @@ returns-clause-state c =
     let long : length values ≡ c.self.inside.steps = omega (arith, length-take c.self.inside.steps c.self.inside.values, c.self.told, c.self.invariant.0) in
     let next : take (c.self.inside.steps + 1) c.moved-next.result ≡ moved values F n =
     ap (λ k. take (k + 1) c.moved-next.result) (sym long) ∙ c.moved-next.ensures ∙ ap (λ z. moved values z n) cut in
-    let large : c.has_large.result ≡ list_any (λ b. nat_lt (2 ^ 40) (nat_abs b)) (moved values F n) = c.has_large.ensures ∙ ap (list_any (λ b. nat_lt (2 ^ 40) (nat_abs b))) next in
+    let large : c.has_large.result ≡ list_any (λ b. nat_lt (2 ^ 40) (nat_abs b)) (moved values F n) = c.has_large.ensures
+    ∙ ap (list_any (λ b. nat_lt (2 ^ 40) (nat_abs b))) next in
     let stop = stop-by_large lags s F c.has_large.result is small large in
     let less = c.fallen-self-inside.ensures.most in
     let least = c.fallen-self-inside.ensures.least in
