@@ -62,8 +62,8 @@ one_more_dropped place xs ys zs e g =
     ap (λ n. drop n xs) same ∙ sym (drop-drop place 1 xs) ∙ ap (drop place) e ∙ g
 
 -- the byte is finished
-pub byte_ends : (f : Shape) (P : Params) (reserved : Bool) (m : ℕ) (before after bytes : List ℕ) (later : ℕ →
-    List ℕ) (decoder : Decoding) (states new : List ChannelState) →
+pub byte_ends : (f : Shape) (P : Params) (reserved : Bool) (m : ℕ) (before after bytes : List ℕ) (later : ℕ → List ℕ)
+    (decoder : Decoding) (states new : List ChannelState) →
     IsUnderway f P reserved (8 * m + 8) 8 later decoder states → ((c : ℕ) → c < f.channels → drop 8 (later c) ≡ earlier f before c (8 * m)) →
     ((k : ℕ) → k < m * f.channels → get_or after k 0 ≡ get_or before k 0) →
     ((c : ℕ) → c < f.channels → get_or after (m * f.channels + c) 0 ≡ get_or bytes c 0) →

@@ -16,8 +16,8 @@ use Rattle.dst_frames.specs.Underway.{earlier, IsUnderway}
 use Rattle.dst_frames.proofs.History.{Predicts, earlier-suc, pair_is}
 
 -- the next samples of the first channels are taken, those of the others not
-pub record IsRow (f : Shape) (P : Params) (reserved : Bool) (t place : ℕ) (samples : ℕ →
-    List ℕ) (done : ℕ) (decoder : Decoding) (states : List ChannelState) : Type 0 where
+pub record IsRow (f : Shape) (P : Params) (reserved : Bool) (t place : ℕ) (samples : ℕ → List ℕ)
+    (done : ℕ) (decoder : Decoding) (states : List ChannelState) : Type 0 where
   pub taken : List Bool
   pub count : length taken ≡ done
   pub behind : (c : ℕ) (other : ChannelState) → c < done →
@@ -38,8 +38,8 @@ row_begins f P reserved t place samples decoder states u = record {
 }
 
 -- one channel more
-pub row_goes_on : Predicts → (f : Shape) (P : Params) (reserved : Bool) (t place : ℕ) (samples : ℕ →
-    List ℕ) (done : ℕ) (decoder new : Decoding) (states : List ChannelState) (state : ChannelState) (early s : Bool) →
+pub row_goes_on : Predicts → (f : Shape) (P : Params) (reserved : Bool) (t place : ℕ) (samples : ℕ → List ℕ)
+    (done : ℕ) (decoder new : Decoding) (states : List ChannelState) (state : ChannelState) (early s : Bool) →
     IsRow f P reserved t place samples done decoder states → done < f.channels → done < length states →
     early ≡ (get_or P.half_prob done false && nat_lt t (length (filter_of P done))) → length (filter_of P done) ≤ 128 →
     IsReady (filter_of P done) (probs_of P done) (place + 1) (bit_of s ∷ samples done) state →
@@ -82,8 +82,8 @@ row_goes_on law f P reserved t place samples done decoder new states state early
     }
 
 -- all channels
-pub row_ends : (f : Shape) (P : Params) (reserved : Bool) (t place : ℕ) (samples : ℕ →
-    List ℕ) (done : ℕ) (decoder : Decoding) (states : List ChannelState) → done ≡ f.channels →
+pub row_ends : (f : Shape) (P : Params) (reserved : Bool) (t place : ℕ) (samples : ℕ → List ℕ)
+    (done : ℕ) (decoder : Decoding) (states : List ChannelState) → done ≡ f.channels →
     IsRow f P reserved t place samples done decoder states →
     (later : ℕ → List ℕ) × ((c : ℕ) → c < f.channels → drop 1 (later c) ≡ samples c) × IsUnderway f P reserved (t + 1) (place + 1) later decoder states
 row_ends f P reserved t place samples done decoder states all row =

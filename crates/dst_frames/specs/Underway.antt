@@ -18,8 +18,8 @@ earlier f sound c (suc t) = sample f sound c (pos t) ∷ earlier f sound c t
 
 -- These are the samples of each channel before sample t: each channel has come so far, and the decoder stands for the symbols
 -- of every sound that has them.
-pub record IsUnderway (f : Shape) (P : Params) (reserved : Bool) (t place : ℕ) (samples : ℕ →
-    List ℕ) (decoder : Decoding) (states : List ChannelState) : Type 0 where
+pub record IsUnderway (f : Shape) (P : Params) (reserved : Bool) (t place : ℕ) (samples : ℕ → List ℕ)
+    (decoder : Decoding) (states : List ChannelState) : Type 0 where
   pub ready : (c : ℕ) (other : ChannelState) → c < f.channels → IsReady (filter_of P c) (probs_of P c) place (samples c) (get_or states c other)
   pub code : (sound : List ℕ) → ((c : ℕ) → c < f.channels → earlier f sound c t ≡ samples c) → StandsFor decoder (symbols_before f P sound reserved t)
 
