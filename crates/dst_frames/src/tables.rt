@@ -20,7 +20,10 @@ pub(crate) struct ChannelTables {
 }
 
 impl ChannelTables {
-    pub(crate) fn new() -> ChannelTables {
+    /// Of no filter yet, and without early samples.
+    pub(crate) fn new() -> ChannelTables
+        ensures { result.early ≡ 0 }
+    {
         ChannelTables {
             filter: RowFilter::new(),
             entries: [0; 65536],
