@@ -15,12 +15,12 @@ use Rattle.dsdiff_spec.specs.Walk.{in_dst, frame_heads, frame_fault, walk_fault,
 use Rattle.dsdiff_spec.specs.Words.{Command, decode, frame, check}
 use Rattle.dsdiff_spec.specs.Refusal.{no_frame, not_coded, not_walked, command_fault, form_refusal, refusal}
 use Rattle.dsdiff_spec.specs.Outcome.{Answer, NoneRefused, nth_frame, indexed_frame, run, IsStopped, WritesSound, Does, IsDone, OfCommand}
-use Rattle.dsdiff_spec.specs.Laws.{SameByIndexLaw, AnyWorkersLaw}
+use Rattle.dsdiff_spec.specs.Laws.{SameByIndexLaw}
 use Rattle.dsdiff_spec.specs.declared.faults.FileFault.{FileFault}
 use Rattle.dsdiff_spec.specs.declared.faults.FileFault.TheVariants.{IndexBad, Range}
 use Rattle.dsdiff_spec.proofs.Finding.{Stands, found_stand}
 use Rattle.dsdiff_spec.proofs.Lawful.{first_gives_none, later_gives_none, when_not}
-use Rattle.dsdiff_spec.proofs.CodedFiles.{no_rule_fails, count_is_told, form_by, refused_by}
+use Rattle.dsdiff_spec.proofs.CodedFiles.{no_rule_fails, count_is_right, form_by, refused_by}
 
 -- ---- a rule that fails for none of a list
 of_both : {B : Type 0} (o later : Option B) → ◌≡◌ {A = Option B} (elim o [ Some y ↦ Some y | None ↦ later ]) None → (o ≡ None) × (later ≡ None)
@@ -190,23 +190,23 @@ same_ends a b k file o e (inr h) =
 pub same_by_index : SameByIndexLaw
 same_by_index k file coded indexes o =
     let form = accepted file in
-    let rules = no_rule_fails 1 file coded.1 in
+    let rules = no_rule_fails file coded.1 in
     let is_coded = first_gives_none (not_coded form) (walk_fault file form) rules.1 in
     let walked = later_gives_none (not_coded form) (walk_fault file form) rules.1 in
-    let count = count_is_told file form walked in
+    let count = count_is_right file form walked in
     go (either_way k form.frames) (by_walk file k rules.0 rules.1) (by_index file k rules.0 is_coded)
   where
     there : k < (accepted file).frames → by_index_fault file (accepted file) k ≡ None
     there l =
-        let rules = no_rule_fails 1 file coded.1 in
+        let rules = no_rule_fails file coded.1 in
         let walked = later_gives_none (not_coded (accepted file)) (walk_fault file (accepted file)) rules.1 in
-        found_by_index file (accepted file) k walked indexes.1 indexes.0 (count_is_told file (accepted file) walked) l
+        found_by_index file (accepted file) k walked indexes.1 indexes.0 (count_is_right file (accepted file) walked) l
 
     same_frame : k < (accepted file).frames → indexed_frame file (accepted file) k ≡ nth_frame file (accepted file) k
     same_frame l =
-        let rules = no_rule_fails 1 file coded.1 in
+        let rules = no_rule_fails file coded.1 in
         let walked = later_gives_none (not_coded (accepted file)) (walk_fault file (accepted file)) rules.1 in
-        let long : k < length (entries file (accepted file)) = omega (arith, l, count_is_told file (accepted file) walked, length-map (frame_heads file (accepted file)) entry_of) in
+        let long : k < length (entries file (accepted file)) = omega (arith, l, count_is_right file (accepted file) walked, length-map (frame_heads file (accepted file)) entry_of) in
         ap (frame_at file) (index_is_walk file (accepted file) k long indexes.1)
 
     go : (no_frame k (accepted file).frames ≡ None) ⊎ (no_frame k (accepted file).frames ≡ Some (Range k (accepted file).frames)) →
@@ -227,20 +227,3 @@ same_by_index k file coded indexes o =
           (λ h. subst (λ r. OfCommand (frame k false) file r o) (sym f) (same_ends true false k file o e (subst (λ r. OfCommand (frame k true) file r o) t h))),
           (λ h. subst (λ r. OfCommand (frame k true) file r o) (sym t) (same_ends false true k file o (sym e) (subst (λ r. OfCommand (frame k false) file r o) f h))),
         )
-
--- ---- workers
-ends_alike : (v w : ℕ) (file : List ℕ) (o : Answer) (r : Option FileFault) → (OfCommand (decode v) file r o → OfCommand (decode w) file r o) × (OfCommand (check v) file r o → OfCommand (check w) file r o)
-ends_alike v w file o (Some fault) = ((λ h. h), (λ h. h))
-ends_alike v w file o None = (decodes, checks)
-  where
-    decodes : OfCommand (decode v) file None o → OfCommand (decode w) file None o
-    decodes (inl s) = inl (record { before = s.before; stop = s.stop; behind = s.behind; is_run = s.is_run; fault = s.fault; refuses = s.refuses; first = s.first; out = s.out; written = s.written; answer = s.answer })
-    decodes (inr h) = inr h
-
-    checks : OfCommand (check v) file None o → OfCommand (check w) file None o
-    checks (inl s) = inl (record { before = s.before; stop = s.stop; behind = s.behind; is_run = s.is_run; fault = s.fault; refuses = s.refuses; first = s.first; out = s.out; written = s.written; answer = s.answer })
-    checks (inr h) = inr h
-
-pub any_workers : AnyWorkersLaw
-unfolding refusal
-any_workers v w file o = ((ends_alike v w file o (refusal (decode v) file)).0, (ends_alike v w file o (refusal (check v) file)).1)

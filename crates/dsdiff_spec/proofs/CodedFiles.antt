@@ -11,11 +11,11 @@ use Rattle.dst_spec.specs.Sample.{Shape, IsShape, sound_bytes}
 use Rattle.dsdiff_spec.specs.Faults.{◌when◌, ◌otherwise◌, first_some}
 use Rattle.dsdiff_spec.specs.Bytes.{◌above◌}
 use Rattle.dsdiff_spec.specs.Chunks.{Head}
-use Rattle.dsdiff_spec.specs.Form.{Kind, plain, coded, is_plain, Kept, Form, shape, shape_of, frame_bytes, frames_for, kept_size, size_of_sound}
-use Rattle.dsdiff_spec.specs.Parts.{all, prop, kind, told, channel_count, multiple, bytes_of_frame}
-use Rattle.dsdiff_spec.specs.Kept.{kept_of, is_bad_kept}
+use Rattle.dsdiff_spec.specs.Form.{Kind, plain, coded, is_plain, Origin, Form, shape, shape_of, sound_bytes_of, frames_for, plain_size, size_of_sound}
+use Rattle.dsdiff_spec.specs.Parts.{all, prop, kind, frame_count, channel_count, multiple, sound_bytes_in}
+use Rattle.dsdiff_spec.specs.Origin.{origin_of, is_bad_origin}
 use Rattle.dsdiff_spec.specs.Chunks.{body_of}
-use Rattle.dsdiff_spec.specs.Rules.{opening_fault, version_fault, prop_fault, sound_fault, kind_fault, form_fault, coded_fault, accepted, form_of_kind, has_bad_kept, kept_in}
+use Rattle.dsdiff_spec.specs.Rules.{opening_fault, version_fault, prop_fault, sound_fault, kind_fault, form_fault, coded_fault, accepted, form_of_kind, has_bad_origin, origin_in}
 use Rattle.dsdiff_spec.specs.Walk.{Entry, entry_of, frame_heads, entries, frame_at, in_dst, frame_fault, walk_fault}
 use Rattle.dsdiff_spec.specs.Decoded.{frames_of}
 use Rattle.dsdiff_spec.specs.Words.{Command, decode}
@@ -29,8 +29,8 @@ pub record IsDecodable (file : List ℕ) (form : Form) : Type 0 where
   pub shape : IsShape (shape form)
   pub most : form.frames ≤ 1000000
   pub frames : length (frames_of file form) ≡ form.frames
-  pub fits : size_of_sound form ≤ form.frames * frame_bytes form
-  pub reached : (k : ℕ) → k < form.frames → k * frame_bytes form ≤ size_of_sound form
+  pub fits : size_of_sound form ≤ form.frames * sound_bytes_of form
+  pub reached : (k : ℕ) → k < form.frames → k * sound_bytes_of form ≤ size_of_sound form
 
 -- ---- no rule refuses the file
 abbrev pub form_by : Option FileFault → List ℕ → Result Form FileFault
@@ -39,12 +39,12 @@ form_by o file = elim o [ Some fault ↦ Err fault | None ↦ Ok (accepted file)
 abbrev pub refused_by : Result Form FileFault → Command → List ℕ → Option FileFault
 refused_by r c file = elim r [ Err fault ↦ Some fault | Ok f ↦ command_fault c file f ]
 
-pub no_rule_fails : (workers : ℕ) (file : List ℕ) → refusal (decode workers) file ≡ None → (form_fault file ≡ None) × (not_walked file (accepted file) ≡ None)
+pub no_rule_fails : (file : List ℕ) → refusal decode file ≡ None → (form_fault file ≡ None) × (not_walked file (accepted file) ≡ None)
 unfolding refusal
-no_rule_fails workers file h = go (form_fault file) refl h
+no_rule_fails file h = go (form_fault file) refl h
   where
     go : (o : Option FileFault) → form_fault file ≡ o →
-        refused_by (form_by o file) (decode workers) file ≡ None →
+        refused_by (form_by o file) decode file ≡ None →
         (form_fault file ≡ None) × (not_walked file (accepted file) ≡ None)
     go (Some fault) e k = absurd cc
     go None e k = (e, k)
@@ -70,9 +70,9 @@ not_false true q = refl
 not_false false q = absurd cc
 
 -- ---- the frames are as many as are told
-pub count_is_told : (file : List ℕ) (form : Form) → walk_fault file form ≡ None → length (frame_heads file form) ≡ form.frames
+pub count_is_right : (file : List ℕ) (form : Form) → walk_fault file form ≡ None → length (frame_heads file form) ≡ form.frames
 unfolding walk_fault
-count_is_told file form h =
+count_is_right file form h =
     let count = CountDiffers form.frames (length (frame_heads file form)) when not (length (frame_heads file form) == form.frames) in
     let none = later_gives_none (in_dst file form).fault count (later_gives_none (first_some (frame_fault form) _) ((in_dst file form).fault otherwise count) h) in
     eqb-true (length (frame_heads file form)) form.frames (not_false _ (when_not _ _ none))
@@ -86,58 +86,58 @@ needed n size frames h e =
     let whole : n * frames + (size + n - 1) % n ≡ size + n - 1 = ap (λ m. n * m + (size + n - 1) % n) (sym e) ∙ div-add-mod (size + n - 1) n in
     (omega arith, λ k l. let more = mul-le-mul_right n l in omega arith)
 
-size_is_needed : (kept : Option Kept) (n frames : ℕ) → 0 < n → ((k : Kept) → kept ≡ Some k → frames_for n k.sound ≡ frames) →
-    (kept_size kept (frames * n) ≤ frames * n) × ((k : ℕ) → k < frames → k * n ≤ kept_size kept (frames * n))
+size_is_needed : (origin : Option Origin) (n frames : ℕ) → 0 < n → ((k : Origin) → origin ≡ Some k → frames_for n k.sound ≡ frames) →
+    (plain_size origin (frames * n) ≤ frames * n) × ((k : ℕ) → k < frames → k * n ≤ plain_size origin (frames * n))
 size_is_needed None n frames h e = (omega arith, λ k l. let more = mul-le-mul_right n l in omega arith)
-size_is_needed (Some kept) n frames h e = needed n kept.sound frames h (e kept refl)
+size_is_needed (Some origin) n frames h e = needed n origin.sound frames h (e origin refl)
 
 abbrev pub bad_among : List ℕ → List Head → Bool
 bad_among file heads = elim heads [
   | [] ↦ false
-  | h ∷ [] ↦ is_bad_kept (channel_count (prop file)) (bytes_of_frame (prop file)) (told file) (body_of file h)
+  | h ∷ [] ↦ is_bad_origin (channel_count (prop file)) (sound_bytes_in (prop file)) (frame_count file) (body_of file h)
   | h ∷ i ∷ hs ↦ true
 ]
 
-pub no_bad_kept : (file : List ℕ) → coded_fault file ≡ None → has_bad_kept file ≡ false
-no_bad_kept file h =
-    let last = KeptBad when has_bad_kept file in
-    let middle = (TooManyFrames when told file above 1000000) otherwise last in
-    when_not KeptBad (has_bad_kept file) (later_gives_none (TooManyFrames when told file above 1000000) last (later_gives_none _ middle h))
+pub no_bad_origin : (file : List ℕ) → coded_fault file ≡ None → has_bad_origin file ≡ false
+no_bad_origin file h =
+    let last = KeptBad when has_bad_origin file in
+    let middle = (TooManyFrames when frame_count file above 1000000) otherwise last in
+    when_not KeptBad (has_bad_origin file) (later_gives_none (TooManyFrames when frame_count file above 1000000) last (later_gives_none _ middle h))
 
-at_most_told : (k : Kind) (file : List ℕ) → k ≡ coded → kind_fault k file ≡ None → (form_of_kind k file).frames ≤ 1000000
-at_most_told plain file e h = absurd cc
-at_most_told coded file e h =
-    let last = KeptBad when has_bad_kept file in
-    let middle = (TooManyFrames when told file above 1000000) otherwise last in
-    let not_above = when_not TooManyFrames (told file above 1000000) (first_gives_none (TooManyFrames when told file above 1000000) last (later_gives_none _ middle h)) in
-    ltb-false 1000000 (told file) not_above
+at_most_a_million : (k : Kind) (file : List ℕ) → k ≡ coded → kind_fault k file ≡ None → (form_of_kind k file).frames ≤ 1000000
+at_most_a_million plain file e h = absurd cc
+at_most_a_million coded file e h =
+    let last = KeptBad when has_bad_origin file in
+    let middle = (TooManyFrames when frame_count file above 1000000) otherwise last in
+    let not_above = when_not TooManyFrames (frame_count file above 1000000) (first_gives_none (TooManyFrames when frame_count file above 1000000) last (later_gives_none _ middle h)) in
+    ltb-false 1000000 (frame_count file) not_above
 
-kept_is_lawful : (file : List ℕ) (heads : List Head) (kept : Kept) → kept_in file heads ≡ Some kept →
+origin_is_lawful : (file : List ℕ) (heads : List Head) (origin : Origin) → origin_in file heads ≡ Some origin →
     bad_among file heads ≡ false →
-    frames_for (bytes_of_frame (prop file)) kept.sound ≡ told file
-kept_is_lawful file [] kept e h = absurd cc
-kept_is_lawful file (a ∷ []) kept e h =
-    let same : kept_of (body_of file a) ≡ kept = cc in
-    ap (λ k. frames_for (bytes_of_frame (prop file)) k.sound) (sym same)
-    ∙ eqb-true (frames_for (bytes_of_frame (prop file)) (kept_of (body_of file a)).sound) (told file) (not_false _ (last_is_false _ _ h))
-kept_is_lawful file (a ∷ b ∷ hs) kept e h = absurd cc
+    frames_for (sound_bytes_in (prop file)) origin.sound ≡ frame_count file
+origin_is_lawful file [] origin e h = absurd cc
+origin_is_lawful file (a ∷ []) origin e h =
+    let same : origin_of (body_of file a) ≡ origin = cc in
+    ap (λ k. frames_for (sound_bytes_in (prop file)) k.sound) (sym same)
+    ∙ eqb-true (frames_for (sound_bytes_in (prop file)) (origin_of (body_of file a)).sound) (frame_count file) (not_false _ (last_is_false _ _ h))
+origin_is_lawful file (a ∷ b ∷ hs) origin e h = absurd cc
 
-sound_is_needed : (file : List ℕ) → 0 < bytes_of_frame (prop file) → (k : Kind) → k ≡ coded → kind_fault k file ≡ None →
-    (size_of_sound (form_of_kind k file) ≤ (form_of_kind k file).frames * bytes_of_frame (prop file))
-    × ((i : ℕ) → i < (form_of_kind k file).frames → i * bytes_of_frame (prop file) ≤ size_of_sound (form_of_kind k file))
+sound_is_needed : (file : List ℕ) → 0 < sound_bytes_in (prop file) → (k : Kind) → k ≡ coded → kind_fault k file ≡ None →
+    (size_of_sound (form_of_kind k file) ≤ (form_of_kind k file).frames * sound_bytes_in (prop file))
+    × ((i : ℕ) → i < (form_of_kind k file).frames → i * sound_bytes_in (prop file) ≤ size_of_sound (form_of_kind k file))
 sound_is_needed file h plain e none = absurd cc
 sound_is_needed file h coded e none =
-    let n = bytes_of_frame (prop file) in
-    size_is_needed (kept_in file (all "KEPT" file)) n (told file) h (λ kept is. kept_is_lawful file (all "KEPT" file) kept is (no_bad_kept file none))
+    let n = sound_bytes_in (prop file) in
+    size_is_needed (origin_in file (all "KEPT" file)) n (frame_count file) h (λ kept is. origin_is_lawful file (all "KEPT" file) kept is (no_bad_origin file none))
 
-pub is_decodable : (workers : ℕ) (file : List ℕ) → refusal (decode workers) file ≡ None → IsDecodable file (accepted file)
-is_decodable workers file h =
-    let none = no_rule_fails workers file h in
+pub is_decodable : (file : List ℕ) → refusal decode file ≡ None → IsDecodable file (accepted file)
+is_decodable file h =
+    let none = no_rule_fails file h in
     let walked = later_gives_none (not_coded (accepted file)) (walk_fault file (accepted file)) none.1 in
     let is_coded = is_coded_kind (kind file) (when_not _ _ (first_gives_none (not_coded (accepted file)) (walk_fault file (accepted file)) none.1)) in
     let shape = form_has_a_shape file none.0 in
     let size = sound_is_needed file (some_bytes (shape_of (channel_count (prop file)) (multiple (prop file))) shape) (kind file) is_coded (kind_gives_none file none.0) in
-    record { coded = is_coded; shape = shape; most = at_most_told (kind file) file is_coded (kind_gives_none file none.0); frames = length-frames file (accepted file) ∙ count_is_told file (accepted file) walked; fits = size.0; reached = size.1 }
+    record { coded = is_coded; shape = shape; most = at_most_a_million (kind file) file is_coded (kind_gives_none file none.0); frames = length-frames file (accepted file) ∙ count_is_right file (accepted file) walked; fits = size.0; reached = size.1 }
   where
     some_bytes : (f : Shape) → IsShape f → 0 < sound_bytes f
     some_bytes f s = elim s.rate [
@@ -157,7 +157,7 @@ longest_sound_of_frame f s = elim s.rate [
 pub longest_sound : (file : List ℕ) (form : Form) → IsDecodable file form → size_of_sound form ≤ 112896000000
 longest_sound file form d =
     let frame = longest_sound_of_frame (shape form) d.shape in
-    let product = mul-le-mul {n₁ = form.frames} {m₁ = frame_bytes form} {n₂ = 1000000} {m₂ = 112896} d.most frame in
+    let product = mul-le-mul {n₁ = form.frames} {m₁ = sound_bytes_of form} {n₂ = 1000000} {m₂ = 112896} d.most frame in
     omega (arith, d.fits)
 
 -- ---- the frames are bytes, as parts of the file

@@ -2,7 +2,7 @@
 use Rattle.std.proofs.Common.{◌≡◌, ℕ, ◌++◌, List, [], ◌∷◌, take, drop, map, replicate, refl, true, false, Some, None, Err}
 use Rattle.std.specs.Prelude.{codes}
 use Rattle.byteorder.specs.Endian.{big_bytes}
-use Rattle.dsdiff_spec.specs.Kept.{kept_of, is_bad_kept}
+use Rattle.dsdiff_spec.specs.Origin.{origin_of, is_bad_origin}
 use Rattle.dsdiff_spec.specs.Rules.{form}
 use Rattle.dsdiff_spec.specs.Written.{cmpr_plain}
 use Rattle.dsdiff_spec.proofs.Files.{tailed_coded}
@@ -12,10 +12,10 @@ use Rattle.dsdiff_spec.proofs.Built.{piece, file_of, version, cmpr, prop, dst, m
 use Rattle.dsdiff_spec.proofs.Opening.{faults}
 use Rattle.dsdiff_spec.specs.declared.faults.FileFault.TheVariants.{KeptBad}
 
-pub version_1_is_read : kept_of (take 41 (drop 164 kept_one)) ≡ record { version = 1; sound = 0; pad = 0; cmpr = cmpr_plain; tail = [] }
+pub version_1_is_read : origin_of (take 41 (drop 164 kept_one)) ≡ record { version = 1; sound = 0; pad = 0; cmpr = cmpr_plain; kept = [] }
 version_1_is_read = refl
 
-pub version_2_is_read : kept_of (take 49 (drop 164 tailed_coded)) ≡ record { version = 2; sound = 0; pad = 0; cmpr = cmpr_plain; tail = 1 ∷ 2 ∷ 3 ∷ [] }
+pub version_2_is_read : origin_of (take 49 (drop 164 tailed_coded)) ≡ record { version = 2; sound = 0; pad = 0; cmpr = cmpr_plain; kept = 1 ∷ 2 ∷ 3 ∷ [] }
 version_2_is_read = refl
 
 pub even_sound_has_no_pad_byte : form (but 173 1 tailed_coded) ≡ Err KeptBad
@@ -43,15 +43,15 @@ abbrev one : List ℕ → List ℕ
 one rest = 1 ∷ replicate 8 0 ++ rest
 
 abbrev two : List ℕ → List ℕ → List ℕ
-two kept_bytes rest = 2 ∷ replicate 9 0 ++ kept_bytes ++ rest
+two kept_length rest = 2 ∷ replicate 9 0 ++ kept_length ++ rest
 
-pub versions : map (is_bad_kept 1 4704 0) ([] ∷ (0 ∷ replicate 8 0 ++ cmpr "DSD ") ∷ one (cmpr "DSD ") ∷ two (replicate 4 0) (cmpr "DSD ") ∷ (3 ∷ replicate 13 0 ++ cmpr "DSD ") ∷ [])
+pub versions : map (is_bad_origin 1 4704 0) ([] ∷ (0 ∷ replicate 8 0 ++ cmpr "DSD ") ∷ one (cmpr "DSD ") ∷ two (replicate 4 0) (cmpr "DSD ") ∷ (3 ∷ replicate 13 0 ++ cmpr "DSD ") ∷ [])
     ≡ true ∷ true ∷ false ∷ false ∷ true ∷ []
 versions = refl
 
 -- a whole chunk `CMPR` of plain sound, with its pad byte and nothing behind it
 pub compression_of_version_1 :
-    map (λ rest. is_bad_kept 1 4704 0 (one rest)) (
+    map (λ rest. is_bad_origin 1 4704 0 (one rest)) (
     [] ∷ (piece "CMPR" (codes "DSD") ++ 0 ∷ []) ∷ piece "CMPr" (codes "DSD ") ∷ cmpr "DST " ∷ (cmpr "DSD " ++ 0 ∷ [])
     ∷ piece "CMPR" (codes "DSD x") ∷ (piece "CMPR" (codes "DSD x") ++ 0 ∷ []) ∷ [])
     ≡ true ∷ true ∷ true ∷ true ∷ true ∷ true ∷ false ∷ []
@@ -59,11 +59,11 @@ compression_of_version_1 = refl
 
 -- in version 2 as many kept bytes as are told stand behind it
 pub kept_bytes_of_version_2 :
-    is_bad_kept 1 4704 0 (two (0 ∷ 0 ∷ 0 ∷ 1 ∷ []) (cmpr "DSD "))
-    ∷ is_bad_kept 1 4704 0 (two (0 ∷ 0 ∷ 0 ∷ 1 ∷ []) (cmpr "DSD " ++ 9 ∷ []))
-    ∷ is_bad_kept 1 4704 0 (two (0 ∷ 0 ∷ 0 ∷ 1 ∷ []) (cmpr "DSD " ++ 9 ∷ 9 ∷ []))
-    ∷ is_bad_kept 1 4704 0 (two (0 ∷ 1 ∷ 0 ∷ 0 ∷ []) (cmpr "DSD " ++ replicate 65536 9))
-    ∷ is_bad_kept 1 4704 0 (two (0 ∷ 1 ∷ 0 ∷ 1 ∷ []) (cmpr "DSD " ++ replicate 65537 9)) ∷ []
+    is_bad_origin 1 4704 0 (two (0 ∷ 0 ∷ 0 ∷ 1 ∷ []) (cmpr "DSD "))
+    ∷ is_bad_origin 1 4704 0 (two (0 ∷ 0 ∷ 0 ∷ 1 ∷ []) (cmpr "DSD " ++ 9 ∷ []))
+    ∷ is_bad_origin 1 4704 0 (two (0 ∷ 0 ∷ 0 ∷ 1 ∷ []) (cmpr "DSD " ++ 9 ∷ 9 ∷ []))
+    ∷ is_bad_origin 1 4704 0 (two (0 ∷ 1 ∷ 0 ∷ 0 ∷ []) (cmpr "DSD " ++ replicate 65536 9))
+    ∷ is_bad_origin 1 4704 0 (two (0 ∷ 1 ∷ 0 ∷ 1 ∷ []) (cmpr "DSD " ++ replicate 65537 9)) ∷ []
     ≡ true ∷ false ∷ true ∷ false ∷ true ∷ []
 kept_bytes_of_version_2 = refl
 
@@ -72,7 +72,7 @@ abbrev long : ℕ → List ℕ
 long n = piece "CMPR" (codes "DSD " ++ replicate n 0)
 
 pub longest_compression :
-    map (is_bad_kept 1 4704 0) (
+    map (is_bad_origin 1 4704 0) (
     one (long 65520) ∷ one (long 65522) ∷ two (replicate 4 0) (long 65520) ∷ two (replicate 4 0) (long 65522)
     ∷ two (0 ∷ 1 ∷ 0 ∷ 0 ∷ []) (long 65520 ++ replicate 65536 9) ∷ two (0 ∷ 0 ∷ 0 ∷ 2 ∷ []) (long 65522 ++ replicate 2 9) ∷ [])
     ≡ false ∷ true ∷ false ∷ true ∷ false ∷ true ∷ []
@@ -82,16 +82,16 @@ longest_compression = refl
 abbrev of_sound : ℕ → ℕ → List ℕ
 of_sound size pad = 2 ∷ big_bytes 8 size ++ pad ∷ replicate 4 0 ++ cmpr "DSD "
 
-pub pad_bytes_of_sound : map (is_bad_kept 1 4704 1) (of_sound 1 7 ∷ of_sound 2 0 ∷ of_sound 2 7 ∷ []) ≡ false ∷ false ∷ true ∷ []
+pub pad_bytes_of_sound : map (is_bad_origin 1 4704 1) (of_sound 1 7 ∷ of_sound 2 0 ∷ of_sound 2 7 ∷ []) ≡ false ∷ false ∷ true ∷ []
 pad_bytes_of_sound = refl
 
-pub groups_of_sound : map (is_bad_kept 6 28224 1) (of_sound 6 0 ∷ of_sound 8 0 ∷ []) ≡ false ∷ true ∷ []
+pub groups_of_sound : map (is_bad_origin 6 28224 1) (of_sound 6 0 ∷ of_sound 8 0 ∷ []) ≡ false ∷ true ∷ []
 groups_of_sound = refl
 
 pub frames_of_sound :
-    is_bad_kept 1 4704 0 (of_sound 0 0) ∷ is_bad_kept 1 4704 1 (of_sound 0 0) ∷ is_bad_kept 1 4704 0 (of_sound 1 0)
-    ∷ is_bad_kept 1 4704 1 (of_sound 4704 0) ∷ is_bad_kept 1 4704 1 (of_sound 4705 0) ∷ is_bad_kept 1 4704 2 (of_sound 4705 0)
-    ∷ is_bad_kept 1 4704 2 (of_sound 4704 0) ∷ []
+    is_bad_origin 1 4704 0 (of_sound 0 0) ∷ is_bad_origin 1 4704 1 (of_sound 0 0) ∷ is_bad_origin 1 4704 0 (of_sound 1 0)
+    ∷ is_bad_origin 1 4704 1 (of_sound 4704 0) ∷ is_bad_origin 1 4704 1 (of_sound 4705 0) ∷ is_bad_origin 1 4704 2 (of_sound 4705 0)
+    ∷ is_bad_origin 1 4704 2 (of_sound 4704 0) ∷ []
     ≡ false ∷ true ∷ true ∷ false ∷ true ∷ false ∷ true ∷ []
 frames_of_sound = refl
 

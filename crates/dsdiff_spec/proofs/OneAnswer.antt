@@ -1,14 +1,14 @@
 -- Words and a file have one outcome.
-use Rattle.std.proofs.Common.{◌≡◌, ◌⊎◌, ℕ, Bool, true, false, if◌then◌else◌, List, [], ◌∷◌, refl, subst, ◌∙◌, Option, Some, None}
-use Rattle.std.specs.Prelude.{⊤, bytes_eq, codes}
+use Rattle.std.proofs.Common.{◌≡◌, ◌⊎◌, ℕ, Bool, true, false, if◌then◌else◌, List, [], ◌∷◌, refl, ap, subst, ◌∙◌, Option, Some, None}
+use Rattle.std.specs.Prelude.{⊤, bytes_eq, codes, option_map}
 use Rattle.std.specs.List.{AllByRecursion}
 use Rattle.dst_spec.specs.Bits.{AreBytes}
 use Rattle.dsdiff_spec.specs.Faults.{first_some}
 use Rattle.dsdiff_spec.specs.Form.{Form, Kind, plain, coded, shape}
 use Rattle.dsdiff_spec.specs.Rules.{form_fault, accepted}
 use Rattle.dsdiff_spec.specs.Walk.{Entry, frame_at}
-use Rattle.dsdiff_spec.specs.Words.{Word, Command, encode, decode, cut, frame, check, show, show_frame, index, make, make_run, encode_dsf, decode_dsf, range, read_slots}
-use Rattle.dsdiff_spec.specs.Rows.{Row, rows, row_command, command_behind, frame_of, show_frame_of, command_of}
+use Rattle.dsdiff_spec.specs.Words.{Word, Command, Task, encode, decode, cut, frame, check, show, show_frame, index, make, make_run, encode_dsf, decode_dsf, range, read_slots}
+use Rattle.dsdiff_spec.specs.Rows.{Row, rows, task_with, row_task, task_behind, frame_of, show_frame_of, task_of, command_of}
 use Rattle.dsdiff_spec.specs.Refusal.{form_refusal, refusal}
 use Rattle.dsdiff_spec.specs.Outcome.{not_understood, file_refused, frames_if_coded, nth_frame, indexed_frame, IsStopped, IsDone, OfCommand, OfWords}
 use Rattle.dsdiff_spec.specs.Laws.{OneOutcomeLaw}
@@ -21,18 +21,18 @@ use Rattle.dsdiff_spec.proofs.OneOutcome.{decoding_has_one_outcome}
 
 -- ---- the commands that have rows
 abbrev pub ReadsCoded : Command → Type 0
-ReadsCoded (encode level workers) = ⊥
-ReadsCoded (decode workers) = ⊤
+ReadsCoded (encode level) = ⊥
+ReadsCoded decode = ⊤
 ReadsCoded (cut first last) = ⊥
 ReadsCoded (frame k b) = ⊤
-ReadsCoded (check workers) = ⊤
+ReadsCoded check = ⊤
 ReadsCoded show = ⊤
 ReadsCoded (show_frame k) = ⊤
 ReadsCoded index = ⊤
 ReadsCoded (make start frames channels multiple) = ⊥
 ReadsCoded (make_run start frames channels multiple) = ⊥
-ReadsCoded (encode_dsf level workers) = ⊥
-ReadsCoded (decode_dsf workers) = ⊥
+ReadsCoded (encode_dsf level) = ⊥
+ReadsCoded decode_dsf = ⊥
 ReadsCoded (range pairs) = ⊥
 
 abbrev GivesReading : Row → Type 0
@@ -60,33 +60,52 @@ all_read = (
   ),
 )
 
-of_row : (words : List Word) (r : Row) (c : Command) → GivesReading r → row_command words r ≡ Some c → ReadsCoded c
-of_row [] r c h e = absurd cc
-of_row (name ∷ words) r c h e = named (bytes_eq name (codes r.name)) e
+of_row : (words : List Word) (r : Row) (t : Task) → GivesReading r → row_task words r ≡ Some t → ReadsCoded t.command
+of_row [] r t h e = absurd cc
+of_row (name ∷ words) r t h e = named (bytes_eq name (codes r.name)) e
   where
-    behind : (read : List ℕ × List Word) (o : Option (List (Word × ℕ))) → elim o [ None ↦ None | Some found ↦ r.command read.0 found ] ≡ Some c → ReadsCoded c
-    behind read None k = absurd cc
-    behind read (Some found) k = h read.0 found c k
+    given : (read : List ℕ × List Word) (found : List (Word × ℕ)) (o : Option Command) → r.command read.0 found ≡ o →
+        option_map (task_with found) o ≡ Some t → ReadsCoded t.command
+    given read found None is k = absurd cc
+    given read found (Some c) is k =
+        let same : task_with found c ≡ t = cc in
+        subst ReadsCoded (ap (λ (u : Task). u.command) same) (h read.0 found c is)
 
-    slots : (o : Option (List ℕ × List Word)) → elim o [ None ↦ None | Some read ↦ command_behind r read ] ≡ Some c → ReadsCoded c
+    behind : (read : List ℕ × List Word) (o : Option (List (Word × ℕ))) →
+        elim o [ None ↦ None | Some found ↦ option_map (task_with found) (r.command read.0 found) ] ≡ Some t → ReadsCoded t.command
+    behind read None k = absurd cc
+    behind read (Some found) k = given read found (r.command read.0 found) refl k
+
+    slots : (o : Option (List ℕ × List Word)) → elim o [ None ↦ None | Some read ↦ task_behind r read ] ≡ Some t → ReadsCoded t.command
     slots None k = absurd cc
     slots (Some read) k = behind read _ k
 
-    named : (b : Bool) → (if b then elim (read_slots r.slots words) [ None ↦ None | Some read ↦ command_behind r read ] else None) ≡ Some c → ReadsCoded c
+    named : (b : Bool) → (if b then elim (read_slots r.slots words) [ None ↦ None | Some read ↦ task_behind r read ] else None) ≡ Some t →
+        ReadsCoded t.command
     named true k = slots (read_slots r.slots words) k
     named false k = absurd cc
 
-of_rows : (words : List Word) (rs : List Row) (c : Command) → AllByRecursion GivesReading rs → first_some (row_command words) rs ≡ Some c → ReadsCoded c
-of_rows words [] c h e = absurd cc
-of_rows words (r ∷ rs) c h e = go (λ k. of_rows words rs c h.1 k) (row_command words r) refl e
+of_rows : (words : List Word) (rs : List Row) (t : Task) → AllByRecursion GivesReading rs → first_some (row_task words) rs ≡ Some t → ReadsCoded t.command
+of_rows words [] t h e = absurd cc
+of_rows words (r ∷ rs) t h e = go (λ k. of_rows words rs t h.1 k) (row_task words r) refl e
   where
-    go : (first_some (row_command words) rs ≡ Some c → ReadsCoded c) → (o : Option Command) → row_command words r ≡ o → elim o [ Some x ↦ Some x | None ↦ first_some (row_command words) rs ] ≡ Some c → ReadsCoded c
-    go later (Some x) is k = of_row words r c h.0 (is ∙ k)
+    go : (first_some (row_task words) rs ≡ Some t → ReadsCoded t.command) → (o : Option Task) → row_task words r ≡ o →
+        elim o [ Some x ↦ Some x | None ↦ first_some (row_task words) rs ] ≡ Some t → ReadsCoded t.command
+    go later (Some x) is k = of_row words r t h.0 (is ∙ k)
     go later None is k = later k
 
+of_task : (words : List Word) (t : Task) → task_of words ≡ Some t → ReadsCoded t.command
+unfolding task_of
+of_task words t e = of_rows words rows t all_read e
+
 pub words_read_coded : (words : List Word) (c : Command) → command_of words ≡ Some c → ReadsCoded c
-unfolding command_of
-words_read_coded words c e = of_rows words rows c all_read e
+words_read_coded words c e = go (task_of words) refl e
+  where
+    go : (o : Option Task) → task_of words ≡ o → option_map (λ (t : Task). t.command) o ≡ Some c → ReadsCoded c
+    go None is k = absurd cc
+    go (Some t) is k =
+        let same : t.command ≡ c = cc in
+        subst ReadsCoded same (of_task words t is)
 
 -- ---- each of them has one outcome
 form_is_accepted : (c : Command) (file : List ℕ) → form_refusal c file ≡ None → form_fault file ≡ None
@@ -116,13 +135,13 @@ checked_frames_are_bytes : (k : Kind) (file : List ℕ) (form : Form) → AreByt
 checked_frames_are_bytes plain file form h = tt
 checked_frames_are_bytes coded file form h = frames_are_bytes file form h
 
-checking_has_one_outcome : (workers : ℕ) (file : List ℕ) → AreBytes file → One (OfCommand (check workers) file (refusal (check workers) file))
+checking_has_one_outcome : (file : List ℕ) → AreBytes file → One (OfCommand check file (refusal check file))
 unfolding refusal
-checking_has_one_outcome workers file bytes = answered (check workers) file (form_refusal (check workers) file) (λ none.
+checking_has_one_outcome file bytes = answered check file (form_refusal check file) (λ none.
     let form = accepted file in
     let frames = frames_if_coded form.kind file form in
-    one_of_run (check workers) file form (checked_are_settled workers form 0 frames) (λ j. (refl, λ out e. e))
-    (λ never. one_check form frames (one_list (shape form) 0 frames (form_has_a_shape file (form_is_accepted (check workers) file none)) (checked_frames_are_bytes form.kind file form bytes) never)))
+    one_of_run check file form (checked_are_settled form 0 frames) (λ j. (refl, λ out e. e))
+    (λ never. one_check form frames (one_list (shape form) 0 frames (form_has_a_shape file (form_is_accepted check file none)) (checked_frames_are_bytes form.kind file form bytes) never)))
 
 showing_has_one_outcome : (file : List ℕ) → AreBytes file → One (OfCommand show file (refusal show file))
 unfolding refusal
@@ -139,18 +158,18 @@ unfolding refusal
 listing_has_one_outcome file bytes = answered index file (form_refusal index file) (λ none. one_of_run index file (accepted file) tt (λ j. (refl, λ out e. e)) (λ never. (_, refl, λ other e. e)))
 
 pub command_has_one_outcome : (c : Command) (file : List ℕ) → ReadsCoded c → AreBytes file → One (OfCommand c file (refusal c file))
-command_has_one_outcome (decode workers) file h bytes = decoding_has_one_outcome workers file bytes
+command_has_one_outcome decode file h bytes = decoding_has_one_outcome file bytes
 command_has_one_outcome (frame k b) file h bytes = writing_has_one_outcome k b file bytes
-command_has_one_outcome (check workers) file h bytes = checking_has_one_outcome workers file bytes
+command_has_one_outcome check file h bytes = checking_has_one_outcome file bytes
 command_has_one_outcome show file h bytes = showing_has_one_outcome file bytes
 command_has_one_outcome (show_frame k) file h bytes = showing_a_frame_has_one_outcome k file bytes
 command_has_one_outcome index file h bytes = listing_has_one_outcome file bytes
-command_has_one_outcome (encode level workers) file h bytes = absurd h
+command_has_one_outcome (encode level) file h bytes = absurd h
 command_has_one_outcome (cut first last) file h bytes = absurd h
 command_has_one_outcome (make start frames channels multiple) file h bytes = absurd h
 command_has_one_outcome (make_run start frames channels multiple) file h bytes = absurd h
-command_has_one_outcome (encode_dsf level workers) file h bytes = absurd h
-command_has_one_outcome (decode_dsf workers) file h bytes = absurd h
+command_has_one_outcome (encode_dsf level) file h bytes = absurd h
+command_has_one_outcome decode_dsf file h bytes = absurd h
 command_has_one_outcome (range pairs) file h bytes = absurd h
 
 -- ---- of words

@@ -33,10 +33,10 @@ take-numbered (suc k) n [] = refl
 take-numbered (suc k) n (x ∷ xs) = ap {A = List (ℕ × List ℕ)} (λ rest. (n, x) ∷ rest) (take-numbered k (n + 1) xs)
 
 -- the first frame that is refused, by its number
-pub record IsStoppedAt (workers : ℕ) (file : List ℕ) (form : Form) (o : Answer) : Type 0 where
+pub record IsStoppedAt (file : List ℕ) (form : Form) (o : Answer) : Type 0 where
   pub k : ℕ
   pub fault : FrameFault
-  pub stops : StopsAt (decode workers) (shape form) (frames_of file form) k fault
+  pub stops : StopsAt decode (shape form) (frames_of file form) k fault
   pub out : List ℕ
   pub written : Before file form k out
   pub answer : o ≡ frame_refused k fault out
@@ -51,8 +51,8 @@ number_of_stop n frames before stop behind e =
     let here : (n + k, get_or frames k stop.1) ≡ stop = sym (get_or-enumerate_from n frames k stop within) ∙ there in
     (within, sym (ap (λ p. p.0) here), sym (ap (λ p. p.1) here) ∙ get_or_default frames k stop.1 [] within)
 
-pub to_number : (workers : ℕ) (file : List ℕ) (form : Form) (o : Answer) → IsStopped (decode workers) file form o → IsStoppedAt workers file form o
-to_number workers file form o s =
+pub to_number : (file : List ℕ) (form : Form) (o : Answer) → IsStopped decode file form o → IsStoppedAt file form o
+to_number file form o s =
     let frames = frames_of file form in
     let k = length s.before in
     let at = number_of_stop 0 frames s.before s.stop s.behind s.is_run in
@@ -63,16 +63,16 @@ to_number workers file form o s =
       fault = s.fault;
       stops = record {
         within = at.0;
-        first = none_of_numbered (decode workers) form 0 (take k frames) (subst (NoneRefused (decode workers) form) front s.first);
-        refuses = subst (λ frame. Refuses (decode workers) (shape form) frame s.fault) at.2 s.refuses;
+        first = none_of_numbered decode form 0 (take k frames) (subst (NoneRefused decode form) front s.first);
+        refuses = subst (λ frame. Refuses decode (shape form) frame s.fault) at.2 s.refuses;
       };
       out = s.out;
       written = subst (λ i. Before file form i s.out) number s.written;
       answer = s.answer ∙ ap (λ i. frame_refused i s.fault s.out) number;
     }
 
-pub by_number : (workers : ℕ) (file : List ℕ) (form : Form) (o : Answer) → IsStoppedAt workers file form o → IsStopped (decode workers) file form o
-by_number workers file form o s =
+pub by_number : (file : List ℕ) (form : Form) (o : Answer) → IsStoppedAt file form o → IsStopped decode file form o
+by_number file form o s =
     let frames = frames_of file form in
     let k = s.k in
     let all = enumerate_from 0 frames in
@@ -85,86 +85,86 @@ by_number workers file form o s =
       is_run = sym (take-append-drop k all) ∙ ap (λ l. take k all ++ l) (drop-cons all k (0, []) within ∙ ap (λ p. p ∷ drop (suc k) all) here);
       fault = s.fault;
       refuses = s.stops.refuses;
-      first = subst (NoneRefused (decode workers) form) (sym (take-numbered k 0 frames)) (none_numbered (decode workers) form 0 (take k frames) s.stops.first);
+      first = subst (NoneRefused decode form) (sym (take-numbered k 0 frames)) (none_numbered decode form 0 (take k frames) s.stops.first);
       out = s.out;
       written = s.written;
       answer = s.answer;
     }
 
 -- ---- what is written in front of a frame is one list of bytes, and so is what is written of all frames
-pub one_before : (workers : ℕ) (file : List ℕ) (form : Form) (k : ℕ) (out other : List ℕ) → AreAnswered (decode workers) (shape form) (frames_of file form) →
-    NoneOf (decode workers) (shape form) (take k (frames_of file form)) → Before file form k out → Before file form k other → out ≡ other
-one_before workers file form k out other answered none a b =
+pub one_before : (file : List ℕ) (form : Form) (k : ℕ) (out other : List ℕ) → AreAnswered decode (shape form) (frames_of file form) →
+    NoneOf decode (shape form) (take k (frames_of file form)) → Before file form k out → Before file form k other → out ≡ other
+one_before file form k out other answered none a b =
     let frames = take k (frames_of file form) in
-    let same = one_list (decode workers) (shape form) frames a.sounds b.sounds (all_taken (IsAnswered (decode workers) (shape form)) k (frames_of file form) answered) none a.each b.each in
+    let same = one_list decode (shape form) frames a.sounds b.sounds (all_taken (IsAnswered decode (shape form)) k (frames_of file form) answered) none a.each b.each in
     a.written ∙ ap (λ sounds. decoded_before_frame sounds file form) same ∙ sym b.written
 
-pub one_plain : (workers : ℕ) (file : List ℕ) (form : Form) (out other : List ℕ) → AreAnswered (decode workers) (shape form) (frames_of file form) →
-    NoneOf (decode workers) (shape form) (frames_of file form) → Plain file form out → Plain file form other → out ≡ other
-one_plain workers file form out other answered none a b =
-    let same = one_list (decode workers) (shape form) (frames_of file form) a.sounds b.sounds answered none a.each b.each in
+pub one_plain : (file : List ℕ) (form : Form) (out other : List ℕ) → AreAnswered decode (shape form) (frames_of file form) →
+    NoneOf decode (shape form) (frames_of file form) → Plain file form out → Plain file form other → out ≡ other
+one_plain file form out other answered none a b =
+    let same = one_list decode (shape form) (frames_of file form) a.sounds b.sounds answered none a.each b.each in
     a.written ∙ ap (λ sounds. decoded sounds file form) same ∙ sym b.written
 
 -- ---- of an accepted file
 abbrev pub One : (Answer → Type 0) → Type 0
 One P = (o : Answer) × P o × ((other : Answer) → P other → other ≡ o)
 
-abbrev IsOutcome : ℕ → List ℕ → Form → Answer → Type 0
-IsOutcome workers file form o = IsStopped (decode workers) file form o ⊎ IsDone (decode workers) file form o
+abbrev IsOutcome : List ℕ → Form → Answer → Type 0
+IsOutcome file form o = IsStopped decode file form o ⊎ IsDone decode file form o
 
-same_stop : (workers : ℕ) (file : List ℕ) (form : Form) (a b : Answer) → AreAnswered (decode workers) (shape form) (frames_of file form) →
-    IsStoppedAt workers file form a → IsStoppedAt workers file form b → a ≡ b
-same_stop workers file form a b answered s t =
-    let c = decode workers in
+same_stop : (file : List ℕ) (form : Form) (a b : Answer) → AreAnswered decode (shape form) (frames_of file form) →
+    IsStoppedAt file form a → IsStoppedAt file form b → a ≡ b
+same_stop file form a b answered s t =
+    let c = decode in
     let f = shape form in
     let frames = frames_of file form in
     let number = one_stop c f frames s.k t.k s.fault t.fault s.stops t.stops in
     let moved = subst (λ k. StopsAt c f frames k s.fault) number s.stops in
     let fault = one_fault c f (get_or frames t.k []) s.fault t.fault (one_of_all (IsAnswered c f) frames t.k [] answered t.stops.within) moved.refuses t.stops.refuses in
-    let out = one_before workers file form t.k s.out t.out answered t.stops.first (subst (λ k. Before file form k s.out) number s.written) t.written in
+    let out = one_before file form t.k s.out t.out answered t.stops.first (subst (λ k. Before file form k s.out) number s.written) t.written in
     s.answer
     ∙ ap (λ k. frame_refused k s.fault s.out) number
     ∙ ap (λ fault. frame_refused t.k fault s.out) fault
     ∙ ap (λ out. frame_refused t.k t.fault out) out
     ∙ sym t.answer
 
-never_both : (workers : ℕ) (file : List ℕ) (form : Form) (o : Answer) → IsStoppedAt workers file form o → NoneOf (decode workers) (shape form) (frames_of file form) → ⊥
-never_both workers file form o s none = one_of_all (NotRefused (decode workers) (shape form)) (frames_of file form) s.k [] none s.stops.within s.fault s.stops.refuses
+never_both : (file : List ℕ) (form : Form) (o : Answer) → IsStoppedAt file form o → NoneOf decode (shape form) (frames_of file form) → ⊥
+never_both file form o s none = one_of_all (NotRefused decode (shape form)) (frames_of file form) s.k [] none s.stops.within s.fault s.stops.refuses
 
-one_outcome_of_form : (workers : ℕ) (file : List ℕ) (form : Form) (a b : Answer) → AreAnswered (decode workers) (shape form) (frames_of file form) →
-    IsOutcome workers file form a → IsOutcome workers file form b → a ≡ b
-one_outcome_of_form workers file form a b answered (inl s) (inl t) = same_stop workers file form a b answered (to_number workers file form a s) (to_number workers file form b t)
-one_outcome_of_form workers file form a b answered (inl s) (inr t) = absurd (never_both workers file form a (to_number workers file form a s) (none_of_numbered (decode workers) form 0 (frames_of file form) t.0))
-one_outcome_of_form workers file form a b answered (inr s) (inl t) = absurd (never_both workers file form b (to_number workers file form b t) (none_of_numbered (decode workers) form 0 (frames_of file form) s.0))
-one_outcome_of_form workers file form a b answered (inr s) (inr t) =
-    let none = none_of_numbered (decode workers) form 0 (frames_of file form) s.0 in
-    let out = one_plain workers file form s.1.0 t.1.0 answered none s.1.1 t.1.1 in
+one_outcome_of_form : (file : List ℕ) (form : Form) (a b : Answer) → AreAnswered decode (shape form) (frames_of file form) →
+    IsOutcome file form a → IsOutcome file form b → a ≡ b
+one_outcome_of_form file form a b answered (inl s) (inl t) = same_stop file form a b answered (to_number file form a s) (to_number file form b t)
+one_outcome_of_form file form a b answered (inl s) (inr t) = absurd (never_both file form a (to_number file form a s) (none_of_numbered decode form 0 (frames_of file form) t.0))
+one_outcome_of_form file form a b answered (inr s) (inl t) = absurd (never_both file form b (to_number file form b t) (none_of_numbered decode form 0 (frames_of file form) s.0))
+one_outcome_of_form file form a b answered (inr s) (inr t) =
+    let none = none_of_numbered decode form 0 (frames_of file form) s.0 in
+    let out = one_plain file form s.1.0 t.1.0 answered none s.1.1 t.1.1 in
     s.1.2 ∙ ap (λ out. done out (decoded_line form.frames (size_of_sound form) ∷ [])) out ∙ sym t.1.2
 
-some_outcome : (workers : ℕ) (file : List ℕ) (form : Form) → AreAnswered (decode workers) (shape form) (frames_of file form) → (o : Answer) × IsOutcome workers file form o
-some_outcome workers file form answered = elim (verdict (decode workers) (shape form) (frames_of file form) answered) [
+some_outcome : (file : List ℕ) (form : Form) → AreAnswered decode (shape form) (frames_of file form) → (o : Answer) × IsOutcome file form o
+some_outcome file form answered = elim (verdict decode (shape form) (frames_of file form) answered) [
   | inl s ↦
       let out = decoded_before_frame s.sounds file form in
       let o = frame_refused s.k s.fault out in
-      (o, inl (by_number workers file form o (record { k = s.k; fault = s.fault; stops = s.stops; out = out; written = record { sounds = s.sounds; each = s.each; written = refl }; answer = refl })))
+      (o, inl (by_number file form o (record { k = s.k; fault = s.fault; stops = s.stops; out = out; written = record { sounds = s.sounds; each = s.each; written = refl }; answer = refl })))
   | inr g ↦
       let out = decoded g.sounds file form in
-      (done out (decoded_line form.frames (size_of_sound form) ∷ []), inr (none_numbered (decode workers) form 0 (frames_of file form) g.none, (out, record { sounds = g.sounds; each = g.each; written = refl }, refl)))
+      (done out (decoded_line form.frames (size_of_sound form) ∷ []), inr (none_numbered decode form 0 (frames_of file form) g.none, (out, record { sounds = g.sounds; each = g.each; written = refl }, refl)))
 ]
 
-all_answered : (workers : ℕ) (f : Shape) (frames : List (List ℕ)) → IsShape f → AllByRecursion AreBytes frames → AreAnswered (decode workers) f frames
-all_answered workers f [] lawful h = tt
-all_answered workers f (x ∷ xs) lawful h = (frame_is_answered workers f x lawful h.0, all_answered workers f xs lawful h.1)
+all_answered : (f : Shape) (frames : List (List ℕ)) → IsShape f → AllByRecursion AreBytes frames → AreAnswered decode f frames
+all_answered f [] lawful h = tt
+all_answered f (x ∷ xs) lawful h = (frame_is_answered f x lawful h.0, all_answered f xs lawful h.1)
 
-pub frames_are_answered : (workers : ℕ) (file : List ℕ) → AreBytes file → refusal (decode workers) file ≡ None → AreAnswered (decode workers) (shape (accepted file)) (frames_of file (accepted file))
-frames_are_answered workers file bytes h = all_answered workers (shape (accepted file)) (frames_of file (accepted file)) (is_decodable workers file h).shape (frames_are_bytes file (accepted file) bytes)
+pub frames_are_answered : (file : List ℕ) → AreBytes file → refusal decode file ≡ None → AreAnswered decode (shape (accepted file)) (frames_of file (accepted file))
+frames_are_answered file bytes h = all_answered (shape (accepted file)) (frames_of file (accepted file)) (is_decodable file h).shape (frames_are_bytes file (accepted file) bytes)
 
-pub decoding_has_one_outcome : (workers : ℕ) (file : List ℕ) → AreBytes file → One (OfCommand (decode workers) file (refusal (decode workers) file))
-decoding_has_one_outcome workers file bytes = go (refusal (decode workers) file) refl
+pub decoding_has_one_outcome : (file : List ℕ) → AreBytes file → One (OfCommand decode file (refusal decode file))
+decoding_has_one_outcome file bytes = go (refusal decode file) refl
   where
-    go : (r : Option FileFault) → refusal (decode workers) file ≡ r → One (OfCommand (decode workers) file r)
+    go : (r : Option FileFault) → refusal decode file ≡ r → One (OfCommand decode file r)
     go (Some fault) e = (file_refused fault, refl, λ other o. o)
     go None e =
-        let answered = frames_are_answered workers file bytes e in
-        let o = some_outcome workers file (accepted file) answered in
-        (o.0, o.1, λ other p. one_outcome_of_form workers file (accepted file) other o.0 answered p o.1)
+        let answered = frames_are_answered file bytes e in
+        let o = some_outcome file (accepted file) answered in
+        (o.0, o.1, λ other p. one_outcome_of_form file (accepted file) other o.0 answered p o.1)

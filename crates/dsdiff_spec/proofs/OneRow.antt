@@ -4,8 +4,8 @@ use Rattle.std.proofs.lemmas.Bool.Decides.{Decides-eqb}
 use Rattle.std.proofs.lemmas.Slice.Eq.{bytes_eq-Decides}
 use Rattle.std.specs.Option.{option_map}
 use Rattle.std.specs.Prelude.{not, ◌&&◌, ◌||◌, bytes_eq, codes}
-use Rattle.dsdiff_spec.specs.Words.{Word, Command, Slot, slot_numbers, read_slots, Setting, read_settings}
-use Rattle.dsdiff_spec.specs.Rows.{Row, rows, command_behind, row_command}
+use Rattle.dsdiff_spec.specs.Words.{Word, Task, Slot, slot_numbers, read_slots, Setting, read_settings}
+use Rattle.dsdiff_spec.specs.Rows.{Row, rows, task_with, task_behind, row_task}
 use Rattle.dsdiff_spec.specs.Laws.{OneRowLaw}
 use Rattle.dst_spec.proofs.Lists.{both_true}
 
@@ -67,25 +67,26 @@ none_behind n settings [] found z e = refl
 none_behind zero settings (w ∷ ws) found z e = absurd cc
 none_behind (suc n) settings (w ∷ ws) found z e = absurd (omega arith)
 
-behind_slots : (r : Row) (read : List ℕ × List Word) (c : Command) → command_behind r read ≡ Some c → length r.settings ≡ 0 → length read.1 ≡ 0
+behind_slots : (r : Row) (read : List ℕ × List Word) (c : Task) → task_behind r read ≡ Some c → length r.settings ≡ 0 → length read.1 ≡ 0
 behind_slots r read c e none = go (read_settings (length r.settings) r.settings read.1) refl e
   where
-    go : (o : Option (List (Word × ℕ))) → read_settings (length r.settings) r.settings read.1 ≡ o → elim o [ None ↦ None | Some found ↦ r.command read.0 found ] ≡ Some c → length read.1 ≡ 0
+    go : (o : Option (List (Word × ℕ))) → read_settings (length r.settings) r.settings read.1 ≡ o →
+        elim o [ None ↦ None | Some found ↦ option_map (task_with found) (r.command read.0 found) ] ≡ Some c → length read.1 ≡ 0
     go None is h = absurd cc
     go (Some found) is h = none_behind (length r.settings) r.settings read.1 found none is
 
 -- words of a row have its name, and without options as many words behind it as it has slots
-suits_row : (name : Word) (words : List Word) (r : Row) (c : Command) → row_command (name ∷ words) r ≡ Some c → (name ≡ codes r.name) × (length r.settings ≡ 0 → length words ≡ length r.slots)
+suits_row : (name : Word) (words : List Word) (r : Row) (c : Task) → row_task (name ∷ words) r ≡ Some c → (name ≡ codes r.name) × (length r.settings ≡ 0 → length words ≡ length r.slots)
 suits_row name words r c e = named (bytes_eq name (codes r.name)) refl e
   where
-    counted : (o : Option (List ℕ × List Word)) → read_slots r.slots words ≡ o → elim o [ None ↦ None | Some read ↦ command_behind r read ] ≡ Some c → length r.settings ≡ 0 → length words ≡ length r.slots
+    counted : (o : Option (List ℕ × List Word)) → read_slots r.slots words ≡ o → elim o [ None ↦ None | Some read ↦ task_behind r read ] ≡ Some c → length r.settings ≡ 0 → length words ≡ length r.slots
     counted None is h none = absurd cc
     counted (Some read) is h none =
         let all = as_many r.slots words read is in
         let rest = behind_slots r read c h none in
         omega (arith, all, rest)
 
-    named : (b : Bool) → bytes_eq name (codes r.name) ≡ b → (if b then elim (read_slots r.slots words) [ None ↦ None | Some read ↦ command_behind r read ] else None) ≡ Some c →
+    named : (b : Bool) → bytes_eq name (codes r.name) ≡ b → (if b then elim (read_slots r.slots words) [ None ↦ None | Some read ↦ task_behind r read ] else None) ≡ Some c →
         (name ≡ codes r.name) × (length r.settings ≡ 0 → length words ≡ length r.slots)
     named true is h = ((bytes_eq-Decides name (codes r.name)).0 is, counted (read_slots r.slots words) refl h)
     named false is h = absurd cc

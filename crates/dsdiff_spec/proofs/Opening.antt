@@ -2,7 +2,7 @@
 -- files that it just accepts.
 use Rattle.std.proofs.Common.{◌≡◌, ℕ, ◌++◌, List, [], ◌∷◌, take, drop, map, replicate, refl, Some, None, Option}
 use Rattle.std.specs.Prelude.{codes}
-use Rattle.dsdiff_spec.specs.Form.{frame_bytes}
+use Rattle.dsdiff_spec.specs.Form.{sound_bytes_of}
 use Rattle.dsdiff_spec.specs.Rules.{form_fault, accepted}
 use Rattle.dsdiff_spec.specs.declared.faults.FileFault.{FileFault}
 use Rattle.dsdiff_spec.specs.declared.faults.FileFault.TheVariants.{NotForm, FormTooLarge, FormType, Overrun, Version, PropMissing, PropTwice, PropType, Rate, Channels, Compression, SoundMissing, SoundTwice}
@@ -120,8 +120,8 @@ sound_chunks = refl
 
 -- ---- bytes of a frame's sound at each rate, in one and in six channels
 pub bytes_of_frames :
-    map (λ n. frame_bytes (accepted (file_of (version ∷ prop 1 n "DSD " ∷ dsd 0 ∷ [])))) (2822400 ∷ 5644800 ∷ 11289600 ∷ [])
-    ++ map (λ n. frame_bytes (accepted (file_of (version ∷ prop 6 n "DST " ∷ dst 0 [] ∷ [])))) (2822400 ∷ 5644800 ∷ 11289600 ∷ [])
+    map (λ n. sound_bytes_of (accepted (file_of (version ∷ prop 1 n "DSD " ∷ dsd 0 ∷ [])))) (2822400 ∷ 5644800 ∷ 11289600 ∷ [])
+    ++ map (λ n. sound_bytes_of (accepted (file_of (version ∷ prop 6 n "DST " ∷ dst 0 [] ∷ [])))) (2822400 ∷ 5644800 ∷ 11289600 ∷ [])
     ≡ 4704 ∷ 9408 ∷ 18816 ∷ 28224 ∷ 56448 ∷ 112896 ∷ []
 unfolding forms_open
 bytes_of_frames = refl

@@ -13,7 +13,7 @@ use Rattle.dst_spec.proofs.Certain.{mono}
 use Rattle.dst_spec.proofs.Frames.{plain_frame_means_its_bytes, frame_with_code_of_zeros}
 use Rattle.dst_spec.proofs.Refusals.{fields_open, at}
 use Rattle.dst_spec.proofs.Understood.{decoding_law}
-use Rattle.dsdiff_spec.specs.Rows.{command_of}
+use Rattle.dsdiff_spec.specs.Rows.{task_of}
 use Rattle.dsdiff_spec.specs.Refusal.{refusal}
 use Rattle.dsdiff_spec.specs.Outcome.{Answer, Outcome}
 use Rattle.dsdiff_spec.proofs.Files.{example, empty, empty_coded, two, two_coded}
@@ -25,7 +25,7 @@ use Rattle.dsdiff_spec.proofs.Restoring.{written_open, example_plain, example_is
 
 -- what outcomes compute with, named once
 unfoldable pub outcome_open : ⊤
-unfolding written_open command_of refusal digits
+unfolding written_open task_of refusal digits
 outcome_open = tt
 
 abbrev pub says : ℕ → List ℕ → List String → Answer

@@ -9,7 +9,7 @@ use Rattle.dsdiff_spec.specs.Bytes.{◌is◌, ◌below◌, ◌above◌}
 use Rattle.dsdiff_spec.specs.Chunks.{Head}
 use Rattle.dsdiff_spec.specs.Form.{Form, whole_chunk}
 use Rattle.dsdiff_spec.specs.Written.{prop_with}
-use Rattle.dsdiff_spec.specs.Decoded.{decoded_before, kept_cmpr}
+use Rattle.dsdiff_spec.specs.Decoded.{decoded_before, plain_cmpr}
 use Rattle.dsdiff_spec.specs.Pieces.{decoded_behind}
 
 -- what is written of chunks, each of which may be left out
@@ -24,7 +24,7 @@ abbrev pub goes_behind : Form → Head → Bool
 goes_behind form h = h.place above form.sound.place && not (h.id is "DSTI" || h.id is "KEPT")
 
 abbrev pub passed_chunk : List ℕ → Form → Head → List ℕ
-passed_chunk file form h = if h.id is "PROP" then prop_with form.prop (kept_cmpr form.kept) else whole_chunk file form h
+passed_chunk file form h = if h.id is "PROP" then prop_with form.prop (plain_cmpr form.origin) else whole_chunk file form h
 
 pub before_is_passed : (file : List ℕ) (form : Form) → concat (decoded_before file form) ≡ passed (goes_before form) (passed_chunk file form) form.chunks
 before_is_passed file form = refl

@@ -8,9 +8,9 @@ use Rattle.std.specs.Prelude.{codes}
 use Rattle.std.specs.List.{concat, AllByRecursion}
 use Rattle.byteorder.specs.Endian.{big_bytes}
 use Rattle.byteorder.specs.Numbers.{length-bytes_high_first}
-use Rattle.dsdiff_spec.specs.Form.{Form, frame_bytes, size_of_sound}
-use Rattle.dsdiff_spec.specs.Decoded.{decoded_with, decoded, decoded_before, decoded_before_frame, with_zeros, place_of_sound, kept_pad, kept_tail}
-use Rattle.dsdiff_spec.specs.Pieces.{decoded_behind, decoded_size, opening, sound_opening, decoded_head, sound_pad, decoded_end}
+use Rattle.dsdiff_spec.specs.Form.{Form, sound_bytes_of, size_of_sound}
+use Rattle.dsdiff_spec.specs.Decoded.{decoded_with, decoded, decoded_before, decoded_before_frame, with_zeros, place_of_sound, plain_pad, kept_bytes}
+use Rattle.dsdiff_spec.specs.Pieces.{decoded_behind, decoded_size, opening, sound_opening, decoded_front, sound_pad, decoded_end}
 use Rattle.dsdiff_spec.specs.Rules.{accepted}
 use Rattle.dsdiff_spec.proofs.Files.{two, two_coded}
 use Rattle.dsdiff_spec.proofs.Restoring.{written_open}
@@ -24,7 +24,7 @@ pad_is_long n pad = go (n % 2 == 1) refl
     go false e = let not_one = eqb-false (n % 2) 1 e in omega arith
 
 pub length-sound_pad : (n : ℕ) (form : Form) → length (sound_pad n form) ≡ n % 2
-length-sound_pad n form = pad_is_long n (kept_pad form.kept)
+length-sound_pad n form = pad_is_long n (plain_pad form.origin)
 
 pub length-opening : (n : ℕ) (file : List ℕ) (form : Form) → length (opening n file form) ≡ 16
 length-opening n file form = omega (arith, length-append (codes "FRM8" ++ big_bytes 8 (decoded_size n file form)) (codes "DSD "), length-append (codes "FRM8") (big_bytes 8 (decoded_size n file form)), length-bytes_high_first 8 (decoded_size n file form))
@@ -32,21 +32,21 @@ length-opening n file form = omega (arith, length-append (codes "FRM8" ++ big_by
 pub length-sound_opening : (n : ℕ) → length (sound_opening n) ≡ 12
 length-sound_opening n = omega (arith, length-append (codes "DSD ") (big_bytes 8 n), length-bytes_high_first 8 n)
 
-pub length-decoded_head : (n : ℕ) (file : List ℕ) (form : Form) → length (decoded_head n file form) ≡ place_of_sound file form
+pub length-decoded_head : (n : ℕ) (file : List ℕ) (form : Form) → length (decoded_front n file form) ≡ place_of_sound file form
 length-decoded_head n file form =
     let chunks = concat (decoded_before file form) in
     omega (arith, length-append (opening n file form ++ chunks) (sound_opening n), length-append (opening n file form) chunks, length-opening n file form, length-sound_opening n)
 
-pub length-decoded_end : (n : ℕ) (file : List ℕ) (form : Form) → length (decoded_end n file form) ≡ n % 2 + length (concat (decoded_behind file form)) + length (kept_tail form.kept)
+pub length-decoded_end : (n : ℕ) (file : List ℕ) (form : Form) → length (decoded_end n file form) ≡ n % 2 + length (concat (decoded_behind file form)) + length (kept_bytes form.origin)
 length-decoded_end n file form =
     let chunks = concat (decoded_behind file form) in
-    omega (arith, length-append (sound_pad n form ++ chunks) (kept_tail form.kept), length-append (sound_pad n form) chunks, length-sound_pad n form)
+    omega (arith, length-append (sound_pad n form ++ chunks) (kept_bytes form.origin), length-append (sound_pad n form) chunks, length-sound_pad n form)
 
 regroup : (o b d t sound pad behind tail : List ℕ) →
     o ++ (b ++ (d ++ t ++ sound ++ pad) ++ behind) ++ tail ≡ o ++ b ++ (d ++ t) ++ sound ++ (pad ++ behind ++ tail)
 regroup o b d t sound pad behind tail = simp append_assoc refl
 
-pub decoded_is_pieces : (sound file : List ℕ) (form : Form) → decoded_with sound file form ≡ decoded_head (length sound) file form ++ sound ++ decoded_end (length sound) file form
+pub decoded_is_pieces : (sound file : List ℕ) (form : Form) → decoded_with sound file form ≡ decoded_front (length sound) file form ++ sound ++ decoded_end (length sound) file form
 unfolding decoded_with
 decoded_is_pieces sound file form =
     let n = length sound in
@@ -60,9 +60,9 @@ decoded_is_pieces sound file form =
     omega (arith, length-append (codes "DSD " ++ big_bytes 8 n ++ sound) pad, length-append (codes "DSD " ++ big_bytes 8 n) sound, length-sound_opening n, length-sound_pad n form) in
     let size : 4 + length (concat (before ++ middle ∷ [] ++ behind)) ≡ decoded_size n file form =
     omega (arith, ap length same, length-append (concat before ++ middle) (concat behind), length-append (concat before) middle, long) in
-    ap (λ m. codes "FRM8" ++ big_bytes 8 m ++ codes "DSD " ++ concat (before ++ middle ∷ [] ++ behind) ++ kept_tail form.kept) size
-    ∙ ap (λ w. opening n file form ++ w ++ kept_tail form.kept) same
-    ∙ regroup (opening n file form) (concat before) (codes "DSD ") (big_bytes 8 n) sound pad (concat behind) (kept_tail form.kept)
+    ap (λ m. codes "FRM8" ++ big_bytes 8 m ++ codes "DSD " ++ concat (before ++ middle ∷ [] ++ behind) ++ kept_bytes form.origin) size
+    ∙ ap (λ w. opening n file form ++ w ++ kept_bytes form.origin) same
+    ∙ regroup (opening n file form) (concat before) (codes "DSD ") (big_bytes 8 n) sound pad (concat behind) (kept_bytes form.origin)
 
 -- ---- of sounds of frames, each of the bytes of a frame
 abbrev pub AreWhole : ℕ → List (List ℕ) → Type 0
@@ -78,12 +78,12 @@ length-sounds n (s ∷ ss) h =
 
 -- a size that these sounds have room for is the size of the sound
 pub decoded_of_sounds : (sounds : List (List ℕ)) (file : List ℕ) (form : Form) → size_of_sound form ≤ length (concat sounds) →
-    decoded sounds file form ≡ decoded_head (size_of_sound form) file form ++ take (size_of_sound form) (concat sounds) ++ decoded_end (size_of_sound form) file form
+    decoded sounds file form ≡ decoded_front (size_of_sound form) file form ++ take (size_of_sound form) (concat sounds) ++ decoded_end (size_of_sound form) file form
 decoded_of_sounds sounds file form h =
     let n = size_of_sound form in
     let sound = take n (concat sounds) in
     decoded_is_pieces sound file form
-    ∙ ap (λ m. decoded_head m file form ++ sound ++ decoded_end m file form) (length-take-le n (concat sounds) h)
+    ∙ ap (λ m. decoded_front m file form ++ sound ++ decoded_end m file form) (length-take-le n (concat sounds) h)
 
 -- zeros stand for the sounds of the frames from k on
 zeros_are_whole : (m n : ℕ) → AreWhole n (replicate m (replicate n 0))
@@ -103,11 +103,11 @@ cut_at_seam head a b end size place k h l fits =
     ∙ ap (λ w. head ++ take k w) (append_assoc a (take (size - k) b) end)
     ∙ ap (λ w. head ++ w) (take_at a (take (size - k) b ++ end) k l)
 
-pub written_before_frame : (sounds : List (List ℕ)) (file : List ℕ) (form : Form) → AreWhole (frame_bytes form) sounds → length sounds ≤ form.frames →
-    length sounds * frame_bytes form ≤ size_of_sound form → size_of_sound form ≤ form.frames * frame_bytes form →
-    decoded_before_frame sounds file form ≡ decoded_head (size_of_sound form) file form ++ concat sounds
+pub written_before_frame : (sounds : List (List ℕ)) (file : List ℕ) (form : Form) → AreWhole (sound_bytes_of form) sounds → length sounds ≤ form.frames →
+    length sounds * sound_bytes_of form ≤ size_of_sound form → size_of_sound form ≤ form.frames * sound_bytes_of form →
+    decoded_before_frame sounds file form ≡ decoded_front (size_of_sound form) file form ++ concat sounds
 written_before_frame sounds file form whole few reached fits =
-    let n = frame_bytes form in
+    let n = sound_bytes_of form in
     let k = length sounds in
     let m = form.frames - k in
     let zeros : List (List ℕ) = replicate m (replicate n 0) in
@@ -119,14 +119,14 @@ written_before_frame sounds file form whole few reached fits =
     let all : length (concat (with_zeros sounds form)) ≡ form.frames * n =
     ap length joined ∙ length-append (concat sounds) (concat zeros) ∙ shared k m (form.frames) n (length (concat sounds)) (length (concat zeros)) long (rest ∙ ap (λ c. c * n) count) (omega arith) in
     let room : size ≤ length (concat (with_zeros sounds form)) = omega (arith, all, fits) in
-    ap (take (place_of_sound file form + k * n)) (decoded_of_sounds (with_zeros sounds form) file form room ∙ ap (λ w. decoded_head size file form ++ take size w ++ decoded_end size file form) joined)
-    ∙ cut_at_seam (decoded_head size file form) (concat sounds) (concat zeros) (decoded_end size file form) size (place_of_sound file form) (k * n) (length-decoded_head size file form) long reached
+    ap (take (place_of_sound file form + k * n)) (decoded_of_sounds (with_zeros sounds form) file form room ∙ ap (λ w. decoded_front size file form ++ take size w ++ decoded_end size file form) joined)
+    ∙ cut_at_seam (decoded_front size file form) (concat sounds) (concat zeros) (decoded_end size file form) size (place_of_sound file form) (k * n) (length-decoded_head size file form) long reached
   where
     shared : (k m all n a b : ℕ) → a ≡ k * n → b ≡ m * n → k + m ≡ all → a + b ≡ all * n
     shared k m all n a b p q r = let product = ap (λ x. x * n) r in omega (arith, p, q, product)
 
 -- ---- the pieces of a file of two frames
-pub two_in_pieces : (decoded_head 4705 two_coded (accepted two_coded) ≡ take 126 two) × (decoded_end 4705 two_coded (accepted two_coded) ≡ drop 4831 two)
+pub two_in_pieces : (decoded_front 4705 two_coded (accepted two_coded) ≡ take 126 two) × (decoded_end 4705 two_coded (accepted two_coded) ≡ drop 4831 two)
 unfolding written_open
 two_in_pieces = (refl, refl)
 

@@ -15,23 +15,23 @@ unfoldable refusing_open : ⊤
 unfolding forms_open cut_chunks refusal
 refusing_open = tt
 
-pub coded_file_is_not_encoded : refusal (encode 1 1) empty_coded ≡ Some NotPlain
+pub coded_file_is_not_encoded : refusal (encode 1) empty_coded ≡ Some NotPlain
 unfolding refusing_open
 coded_file_is_not_encoded = refl
 
-pub plain_file_is_encoded : refusal (encode 1 1) empty ≡ None
+pub plain_file_is_encoded : refusal (encode 1) empty ≡ None
 unfolding refusing_open
 plain_file_is_encoded = refl
 
-pub plain_file_is_not_decoded : refusal (decode 1) empty ≡ Some NotCoded
+pub plain_file_is_not_decoded : refusal decode empty ≡ Some NotCoded
 unfolding refusing_open
 plain_file_is_not_decoded = refl
 
-pub coded_file_is_decoded : refusal (decode 1) two_coded ≡ None
+pub coded_file_is_decoded : refusal decode two_coded ≡ None
 unfolding refusing_open
 coded_file_is_decoded = refl
 
-pub no_form_is_decoded : refusal (decode 1) [] ≡ Some NotForm
+pub no_form_is_decoded : refusal decode [] ≡ Some NotForm
 unfolding refusing_open
 no_form_is_decoded = refl
 
@@ -84,11 +84,11 @@ unfolding refusing_open
 index_names_no_frame = refl
 
 -- ---- an index that isn't the walk is refused in checking alone
-pub checking_compares_the_index : refusal (check 1) (but 9611 96 two_coded) ≡ Some (IndexBad 1)
+pub checking_compares_the_index : refusal check (but 9611 96 two_coded) ≡ Some (IndexBad 1)
 unfolding refusing_open
 checking_compares_the_index = refl
 
-pub decoding_looks_at_no_index : refusal (decode 1) (but 9611 96 two_coded) ≡ None
+pub decoding_looks_at_no_index : refusal decode (but 9611 96 two_coded) ≡ None
 unfolding refusing_open
 decoding_looks_at_no_index = refl
 

@@ -48,11 +48,11 @@ frame_is_settled k b f w = elim (offends_or_not f w) [
   | inr none ↦ inr none
 ]
 
-pub checked_are_settled : (workers : ℕ) (form : Form) (n : ℕ) (frames : List (List ℕ)) → AreSettled (check workers) form (enumerate_from n frames)
-checked_are_settled workers form n [] = tt
-checked_are_settled workers form n (w ∷ ws) = (one (offends_or_not (shape form) w), checked_are_settled workers form (n + 1) ws)
+pub checked_are_settled : (form : Form) (n : ℕ) (frames : List (List ℕ)) → AreSettled check form (enumerate_from n frames)
+checked_are_settled form n [] = tt
+checked_are_settled form n (w ∷ ws) = (one (offends_or_not (shape form) w), checked_are_settled form (n + 1) ws)
   where
-    one : OffendsOnce (shape form) w ⊎ OffendsNever (shape form) w → IsSettled (check workers) (shape form) w
+    one : OffendsOnce (shape form) w ⊎ OffendsNever (shape form) w → IsSettled check (shape form) w
     one (inl (fault, o, only)) = inl (record { fault = fault; refuses = o; only = only })
     one (inr none) = inr none
 

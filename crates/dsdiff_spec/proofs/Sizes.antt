@@ -8,19 +8,19 @@ use Rattle.byteorder.specs.Numbers.{length-bytes_high_first}
 use Rattle.dsdiff_spec.specs.Faults.{◌when◌}
 use Rattle.dsdiff_spec.specs.Bytes.{number_at, between, ◌is◌, ◌above◌}
 use Rattle.dsdiff_spec.specs.Chunks.{Head, next_place, body_place, body_of}
-use Rattle.dsdiff_spec.specs.Form.{Kind, plain, coded, Kept, Form, whole_chunk, size_of_sound}
-use Rattle.dsdiff_spec.specs.Parts.{kind, form_size, form_end, all, prop_head, prop, in_prop, told, channel_count, bytes_of_frame}
-use Rattle.dsdiff_spec.specs.Kept.{kept_version, kept_bytes, kept_of, bad_version_1, bad_version_2, is_bad_kept}
-use Rattle.dsdiff_spec.specs.Rules.{opening_fault, version_fault, prop_fault, prop_chunk_fault, kind_fault, form_fault, form_of_kind, accepted, kept_in}
+use Rattle.dsdiff_spec.specs.Form.{Kind, plain, coded, Origin, Form, whole_chunk, size_of_sound}
+use Rattle.dsdiff_spec.specs.Parts.{kind, form_size, form_end, all, prop_head, prop, in_prop, frame_count, channel_count, sound_bytes_in}
+use Rattle.dsdiff_spec.specs.Origin.{origin_version, kept_length, origin_of, bad_version_1, bad_version_2, is_bad_origin}
+use Rattle.dsdiff_spec.specs.Rules.{opening_fault, version_fault, prop_fault, prop_chunk_fault, kind_fault, form_fault, form_of_kind, accepted, origin_in}
 use Rattle.dsdiff_spec.specs.Written.{part_of_prop, prop_with}
-use Rattle.dsdiff_spec.specs.Decoded.{kept_cmpr}
+use Rattle.dsdiff_spec.specs.Decoded.{plain_cmpr}
 use Rattle.dsdiff_spec.specs.Pieces.{decoded_size}
 use Rattle.dsdiff_spec.specs.Words.{decode}
 use Rattle.dsdiff_spec.specs.Refusal.{refusal}
 use Rattle.dsdiff_spec.specs.declared.faults.FileFault.TheVariants.{FormTooLarge, PropTooLong}
 use Rattle.dsdiff_spec.proofs.Lawful.{first_gives_none, later_gives_none, when_not}
 use Rattle.dsdiff_spec.proofs.Finding.{found_at_most}
-use Rattle.dsdiff_spec.proofs.CodedFiles.{is_decodable, no_rule_fails, kind_gives_none, bad_among, no_bad_kept, longest_sound}
+use Rattle.dsdiff_spec.proofs.CodedFiles.{is_decodable, no_rule_fails, kind_gives_none, bad_among, no_bad_origin, longest_sound}
 use Rattle.dsdiff_spec.proofs.PassedOn.{passed, passed_chunk, goes_before, goes_behind}
 
 -- ---- bytes between places of a list
@@ -84,17 +84,17 @@ last_is_false : (a b : Bool) → (a || b) ≡ false → b ≡ false
 last_is_false true b p = absurd cc
 last_is_false false b p = p
 
-either_is_short : (b : Bool) (x y : Kept) (n : ℕ) → length x.cmpr ≤ n → length y.cmpr ≤ n → length (if b then x else y).cmpr ≤ n
+either_is_short : (b : Bool) (x y : Origin) (n : ℕ) → length x.cmpr ≤ n → length y.cmpr ≤ n → length (if b then x else y).cmpr ≤ n
 either_is_short true x y n p q = p
 either_is_short false x y n p q = q
 
-cmpr_in_body : (body : List ℕ) → length (kept_of body).cmpr ≤ length body
+cmpr_in_body : (body : List ℕ) → length (origin_of body).cmpr ≤ length body
 cmpr_in_body body =
-    let end = length body - kept_bytes body in
+    let end = length body - kept_length body in
     let one : length (drop 9 body) ≤ length body = omega (arith, length-drop 9 body) in
-    either_is_short (kept_version body == 1)
-    (record { version = 1; sound = number_at body 1 8; pad = 0; cmpr = drop 9 body; tail = [] })
-    (record { version = kept_version body; sound = number_at body 1 8; pad = get_or body 9 0; cmpr = between body 14 end; tail = drop end body })
+    either_is_short (origin_version body == 1)
+    (record { version = 1; sound = number_at body 1 8; pad = 0; cmpr = drop 9 body; kept = [] })
+    (record { version = origin_version body; sound = number_at body 1 8; pad = get_or body 9 0; cmpr = between body 14 end; kept = drop end body })
     (length body) one (length-between_all body 14 end)
 
 body_is_short : (one two : Bool) (body : List ℕ) → not (one || two) ≡ false → (one && bad_version_1 body) ≡ false → (two && bad_version_2 body) ≡ false → length body ≤ 131086
@@ -104,21 +104,21 @@ body_is_short true two body neither first second =
 body_is_short false true body neither first second = ltb-false 131086 (length body) (last_is_false _ _ (first_is_false _ _ (first_is_false _ _ (first_is_false _ _ second))))
 body_is_short false false body neither first second = absurd cc
 
-kept_is_short : (channels frame_bytes told : ℕ) (body : List ℕ) → is_bad_kept channels frame_bytes told body ≡ false → length (kept_of body).cmpr ≤ 131086
-kept_is_short channels frame_bytes told body h =
+cmpr_is_short : (channels bytes frame_count : ℕ) (body : List ℕ) → is_bad_origin channels bytes frame_count body ≡ false → length (origin_of body).cmpr ≤ 131086
+cmpr_is_short channels bytes frame_count body h =
     let three = first_is_false _ _ (first_is_false _ _ (first_is_false _ _ (first_is_false _ _ (first_is_false _ _ h)))) in
-    let short = body_is_short (kept_version body == 1) (kept_version body == 2) body (first_is_false _ _ (first_is_false _ _ three)) (last_is_false _ _ (first_is_false _ _ three)) (last_is_false _ _ three) in
+    let short = body_is_short (origin_version body == 1) (origin_version body == 2) body (first_is_false _ _ (first_is_false _ _ three)) (last_is_false _ _ (first_is_false _ _ three)) (last_is_false _ _ three) in
     let inside = cmpr_in_body body in
     omega arith
 
-cmpr_among : (file : List ℕ) (heads : List Head) → bad_among file heads ≡ false → length (kept_cmpr (kept_in file heads)) ≤ 131086
+cmpr_among : (file : List ℕ) (heads : List Head) → bad_among file heads ≡ false → length (plain_cmpr (origin_in file heads)) ≤ 131086
 cmpr_among file [] h = omega arith
-cmpr_among file (a ∷ []) h = kept_is_short (channel_count (prop file)) (bytes_of_frame (prop file)) (told file) (body_of file a) h
+cmpr_among file (a ∷ []) h = cmpr_is_short (channel_count (prop file)) (sound_bytes_in (prop file)) (frame_count file) (body_of file a) h
 cmpr_among file (a ∷ b ∷ hs) h = absurd cc
 
-cmpr_of_kind : (k : Kind) (file : List ℕ) → k ≡ coded → kind_fault k file ≡ None → length (kept_cmpr (form_of_kind k file).kept) ≤ 131086
+cmpr_of_kind : (k : Kind) (file : List ℕ) → k ≡ coded → kind_fault k file ≡ None → length (plain_cmpr (form_of_kind k file).origin) ≤ 131086
 cmpr_of_kind plain file e h = absurd cc
-cmpr_of_kind coded file e h = cmpr_among file (all "KEPT" file) (no_bad_kept file h)
+cmpr_of_kind coded file e h = cmpr_among file (all "KEPT" file) (no_bad_origin file h)
 
 -- ---- a chunk that is passed on, and all of them
 length-prop_with : (w cmpr : List ℕ) → length w ≤ 65536 → length cmpr ≤ 131086 → length (prop_with w cmpr) ≤ 8590852113
@@ -147,18 +147,18 @@ length-prop_with w cmpr p c =
     pad_is_short true = omega arith
     pad_is_short false = omega arith
 
-passed_is_short : (file : List ℕ) (form : Form) → form.end ≤ 2 ^ 50 + 12 → length form.prop ≤ 65536 → length (kept_cmpr form.kept) ≤ 131086 → (h : Head) → length (passed_chunk file form h) ≤ 2 ^ 51
+passed_is_short : (file : List ℕ) (form : Form) → form.end ≤ 2 ^ 50 + 12 → length form.prop ≤ 65536 → length (plain_cmpr form.origin) ≤ 131086 → (h : Head) → length (passed_chunk file form h) ≤ 2 ^ 51
 passed_is_short file form e p c h = either (h.id is "PROP")
   where
-    either : (b : Bool) → length (if b then prop_with form.prop (kept_cmpr form.kept) else whole_chunk file form h) ≤ 2 ^ 51
-    either true = omega (arith, length-prop_with form.prop (kept_cmpr form.kept) p c)
+    either : (b : Bool) → length (if b then prop_with form.prop (plain_cmpr form.origin) else whole_chunk file form h) ≤ 2 ^ 51
+    either true = omega (arith, length-prop_with form.prop (plain_cmpr form.origin) p c)
     either false = omega (arith, length-between file h.place (min (next_place h) form.end))
 
-pub decoded_size_fits : (workers : ℕ) (file : List ℕ) → refusal (decode workers) file ≡ None → decoded_size (size_of_sound (accepted file)) file (accepted file) < 2 ^ 63
-decoded_size_fits workers file none =
+pub decoded_size_fits : (file : List ℕ) → refusal decode file ≡ None → decoded_size (size_of_sound (accepted file)) file (accepted file) < 2 ^ 63
+decoded_size_fits file none =
     let form = accepted file in
-    let rules = no_rule_fails workers file none in
-    let d = is_decodable workers file none in
+    let rules = no_rule_fails file none in
+    let d = is_decodable file none in
     let cmpr = cmpr_of_kind (kind file) file d.coded (kind_gives_none file rules.0) in
     let each = passed_is_short file form (form_ends file rules.0) (prop_is_short file rules.0) cmpr in
     let count : length form.chunks ≤ 1024 = found_at_most (λ id. not (id is "DSD ")) file (form_end file) 1024 16 in

@@ -29,8 +29,8 @@ abbrev pub IsAnswered : Command → Shape → List ℕ → Type 0
 IsAnswered c f frame = IsRefusedOnce c f frame ⊎ IsUnderstoodOnce c f frame
 
 -- a frame is refused with one fault, or isn't refused and means one sound
-pub frame_is_answered : (workers : ℕ) (f : Shape) (frame : List ℕ) → IsShape f → AreBytes frame → IsAnswered (decode workers) f frame
-frame_is_answered workers f frame shape bytes = elim (decoding_law f frame shape bytes) [
+pub frame_is_answered : (f : Shape) (frame : List ℕ) → IsShape f → AreBytes frame → IsAnswered decode f frame
+frame_is_answered f frame shape bytes = elim (decoding_law f frame shape bytes) [
   | inl (fault, o, one, none) ↦ inl (record { fault = fault; refuses = o; only = one })
   | inr (sound, m, one, none) ↦ inr (record { sound = sound; means = m; only = one; not_refused = none })
 ]

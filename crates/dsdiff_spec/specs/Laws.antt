@@ -10,8 +10,8 @@ use Rattle.dsdiff_spec.specs.Coded.{Picks, stored_frames, coded}
 use Rattle.dsdiff_spec.specs.Decoded.{Plain, frames_of}
 use Rattle.dsdiff_spec.specs.Cut as cutting
 use Rattle.dsdiff_spec.specs.Dsf.{dsf_fault, dsdiff, ToDsf, bare}
-use Rattle.dsdiff_spec.specs.Words.{Word, Command, encode, decode, cut, frame, check}
-use Rattle.dsdiff_spec.specs.Rows.{Row, rows, row_command}
+use Rattle.dsdiff_spec.specs.Words.{Word, Command, Task, encode, decode, cut, frame}
+use Rattle.dsdiff_spec.specs.Rows.{Row, rows, row_task}
 use Rattle.dsdiff_spec.specs.Refusal.{refusal}
 use Rattle.dsdiff_spec.specs.Outcome.{Answer, OfCommand, Outcome}
 
@@ -20,10 +20,10 @@ abbrev pub IsAccepted : Command → List ℕ → Type 0
 IsAccepted c file = AreBytes file × (refusal c file ≡ None)
 
 abbrev pub IsPlainFile : List ℕ → Type 0
-IsPlainFile file = IsAccepted (encode 1 1) file
+IsPlainFile file = IsAccepted (encode 1) file
 
 abbrev pub IsCodedFile : List ℕ → Type 0
-IsCodedFile file = IsAccepted (decode 1) file
+IsCodedFile file = IsAccepted decode file
 
 -- an encoder tries at most eight parameters for a sound, and each is lawful for its channels
 abbrev pub ArePicks : Picks → Type 0
@@ -80,8 +80,8 @@ DsfLaw =
 -- no words have two rows
 abbrev pub OneRowLaw : Type 0
 OneRowLaw =
-    (words : List Word) (before between behind : List Row) (r s : Row) (c d : Command) →
-    rows ≡ before ++ r ∷ between ++ s ∷ behind → row_command words r ≡ Some c → row_command words s ≡ Some d → ⊥
+    (words : List Word) (before between behind : List Row) (r s : Row) (t u : Task) →
+    rows ≡ before ++ r ∷ between ++ s ∷ behind → row_task words r ≡ Some t → row_task words s ≡ Some u → ⊥
 
 -- words and a file have one outcome
 abbrev pub OneOutcomeLaw : Type 0
@@ -94,10 +94,3 @@ abbrev pub SameByIndexLaw : Type 0
 SameByIndexLaw =
     (k : ℕ) (file : List ℕ) → IsCodedFile file → (1 ≤ length (index_heads (accepted file))) × (compare_fault file (accepted file) ≡ None) →
     (o : Answer) → OfCommand (frame k true) file (refusal (frame k true) file) o ↔ OfCommand (frame k false) file (refusal (frame k false) file) o
-
--- how many work at a time changes no outcome
-abbrev pub AnyWorkersLaw : Type 0
-AnyWorkersLaw =
-    (v w : ℕ) (file : List ℕ) (o : Answer) →
-    (OfCommand (decode v) file (refusal (decode v) file) o → OfCommand (decode w) file (refusal (decode w) file) o)
-    × (OfCommand (check v) file (refusal (check v) file) o → OfCommand (check w) file (refusal (check w) file) o)

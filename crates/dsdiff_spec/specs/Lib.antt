@@ -3,7 +3,7 @@ pub mod Faults
 pub mod Chunks
 pub mod Form
 pub mod Parts
-pub mod Kept
+pub mod Origin
 pub mod Rules
 pub mod Walk
 pub mod Written
@@ -16,7 +16,7 @@ pub mod Dsf
 pub mod Words
 pub mod Rows
 pub mod Refusal
-pub mod Told
+pub mod Texts
 pub mod Lines
 pub mod Ranges
 pub mod Outcome

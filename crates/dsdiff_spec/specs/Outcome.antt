@@ -48,10 +48,10 @@ frames_if_coded plain file form = []
 frames_if_coded coded file form = frames_of file form
 
 abbrev pub run : Command → List ℕ → Form → List (ℕ × List ℕ)
-run (decode workers) file form = enumerate_from 0 (frames_of file form)
+run decode file form = enumerate_from 0 (frames_of file form)
 run (frame k false) file form = (k, nth_frame file form k) ∷ []
 run (frame k true) file form = (k, indexed_frame file form k) ∷ []
-run (check workers) file form = enumerate_from 0 (frames_if_coded form.kind file form)
+run check file form = enumerate_from 0 (frames_if_coded form.kind file form)
 run (show_frame k) file form = (k, nth_frame file form k) ∷ []
 run c file form = []
 
@@ -65,7 +65,7 @@ NoneRefused c form frames = AllByRecursion (λ f. (fault : FrameFault) → Refus
 
 -- what is written in front of the refused frame, which is frame k
 abbrev pub WrittenBefore : Command → List ℕ → Form → ℕ → List ℕ → Type 0
-WrittenBefore (decode workers) file form k out = Before file form k out
+WrittenBefore decode file form k out = Before file form k out
 WrittenBefore c file form k out = out ≡ []
 
 -- the first frame of the run that is refused
@@ -95,11 +95,11 @@ WritesSound form k w o = (sound : List ℕ) × Means (shape form) w sound × (o 
 
 -- the commands so far; of the others nothing is done
 abbrev pub Does : Command → List ℕ → Form → Answer → Type 0
-Does (decode workers) file form o =
+Does decode file form o =
     (out : List ℕ) × Plain file form out × (o ≡ done out (decoded_line form.frames (size_of_sound form) ∷ []))
 Does (frame k false) file form o = WritesSound form k (nth_frame file form k) o
 Does (frame k true) file form o = WritesSound form k (indexed_frame file form k) o
-Does (check workers) file form o =
+Does check file form o =
     (sounds : List (List ℕ × ℕ)) × AllZip (λ f s. MeansWithTail (shape form) f s.0 s.1) (frames_if_coded form.kind file form) sounds
     × (o ≡ done [] (check_line form.frames (sum (map (λ s. s.1) sounds)) ∷ []))
 Does show file form o = o ≡ done [] (show_lines form (entries file form))

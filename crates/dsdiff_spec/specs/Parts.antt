@@ -21,7 +21,7 @@ top_level file = chunks_from (λ id. not (id is "DSD ")) file (form_end file) 10
 abbrev pub all : String → List ℕ → List Head
 all name file = named name (top_level file).heads
 
--- `PROP`, and what its body tells: the chunks in it, which stand behind `SND `, and their fields. A body has room for
+-- `PROP`, and what its body says: the chunks in it, which stand behind `SND `, and their fields. A body has room for
 -- fewer than 65,536 chunks.
 abbrev pub prop_head : List ℕ → Head
 prop_head file = the_first (all "PROP" file)
@@ -57,8 +57,8 @@ compression body = bytes_at body (body_place (cmpr_head body)) 4
 abbrev pub multiple : List ℕ → ℕ
 multiple body = rate body / 2822400
 
-abbrev pub bytes_of_frame : List ℕ → ℕ
-bytes_of_frame body = sound_bytes (shape_of (channel_count body) (multiple body))
+abbrev pub sound_bytes_in : List ℕ → ℕ
+sound_bytes_in body = sound_bytes (shape_of (channel_count body) (multiple body))
 
 -- the sound chunk
 abbrev pub sounds : List ℕ → List Head
@@ -72,17 +72,17 @@ kind file = if (sound_head file).id is "DSD " then plain else coded
 
 -- of a plain form: how many frames its sound needs, its pad byte, the bytes behind the form
 abbrev pub frames_needed : List ℕ → ℕ
-frames_needed file = frames_for (bytes_of_frame (prop file)) (sound_head file).size
+frames_needed file = frames_for (sound_bytes_in (prop file)) (sound_head file).size
 
 abbrev pub pad_byte : List ℕ → ℕ
 pad_byte file = if (sound_head file).size % 2 == 1 then get_or file (body_end (sound_head file)) 0 else 0
 
-abbrev pub tail : List ℕ → List ℕ
-tail file = drop (form_end file) file
+abbrev pub behind_form : List ℕ → List ℕ
+behind_form file = drop (form_end file) file
 
--- of a coded form: how many frames `FRTE` tells, and how many of them stand for a second of sound
-abbrev pub told : List ℕ → ℕ
-told file = number_at file (body_place (sound_head file) + 12) 4
+-- of a coded form: the frame count in `FRTE`, and how many frames stand for a second of sound
+abbrev pub frame_count : List ℕ → ℕ
+frame_count file = number_at file (body_place (sound_head file) + 12) 4
 
 abbrev pub frame_rate : List ℕ → ℕ
 frame_rate file = number_at file (body_place (sound_head file) + 16) 2

@@ -1,9 +1,9 @@
 -- The rows of commands: name, words, options, and the command of their numbers and settings. Those that read coded files
--- have rows yet.
-use Rattle.std.specs.Prelude.{ℕ, Bool, ◌==◌, if◌then◌else◌, List, [], ◌∷◌, length, Option, Some, None}
+-- have rows yet. How many work at a command is an option of its row, and one does else.
+use Rattle.std.specs.Prelude.{ℕ, Bool, ◌==◌, if◌then◌else◌, List, [], ◌∷◌, length, Option, Some, None, option_map}
 use Rattle.dsdiff_spec.specs.Bytes.{◌is◌}
 use Rattle.dsdiff_spec.specs.Faults.{first_some}
-use Rattle.dsdiff_spec.specs.Words.{Word, Command, decode, frame, check, show, show_frame, index, Slot, file, number, read_slots, Setting, workers, by_index, read_settings, set_or}
+use Rattle.dsdiff_spec.specs.Words.{Word, Command, Task, decode, frame, check, show, show_frame, index, Slot, file, number, read_slots, Setting, workers, by_index, read_settings, set_or}
 use Prim.Native.String.{String}
 
 pub record Row : Type 0 where
@@ -33,26 +33,32 @@ row name slots settings command = record { name = name; slots = slots; settings 
 
 abbrev pub rows : List Row
 rows =
-    row "decode" (file ∷ file ∷ []) (workers ∷ []) (λ n o. Some (decode (workers_of o)))
+    row "decode" (file ∷ file ∷ []) (workers ∷ []) (λ n o. Some decode)
     ∷ row "frame" (file ∷ file ∷ number ∷ []) (by_index ∷ []) (λ n o. frame_of (is_set "--by-index" o) n)
-    ∷ row "check" (file ∷ []) (workers ∷ []) (λ n o. Some (check (workers_of o)))
+    ∷ row "check" (file ∷ []) (workers ∷ []) (λ n o. Some check)
     ∷ row "show" (file ∷ []) [] (λ n o. Some show)
     ∷ row "show" (file ∷ number ∷ []) [] (λ n o. show_frame_of n)
     ∷ row "index" (file ∷ []) [] (λ n o. Some index)
     ∷ []
 
--- the command of words that are a row
-abbrev pub command_behind : Row → List ℕ × List Word → Option Command
-command_behind row read = elim (read_settings (length row.settings) row.settings read.1) [
+-- the task of words that are a row
+abbrev pub task_with : List (Word × ℕ) → Command → Task
+task_with o c = record { command = c; workers = workers_of o }
+
+abbrev pub task_behind : Row → List ℕ × List Word → Option Task
+task_behind row read = elim (read_settings (length row.settings) row.settings read.1) [
   | None ↦ None
-  | Some o ↦ row.command read.0 o
+  | Some o ↦ option_map (task_with o) (row.command read.0 o)
 ]
 
-abbrev pub row_command : List Word → Row → Option Command
-row_command [] row = None
-row_command (name ∷ words) row =
-    if name is row.name then elim (read_slots row.slots words) [ None ↦ None | Some read ↦ command_behind row read ] else None
+abbrev pub row_task : List Word → Row → Option Task
+row_task [] row = None
+row_task (name ∷ words) row =
+    if name is row.name then elim (read_slots row.slots words) [ None ↦ None | Some read ↦ task_behind row read ] else None
 
--- the command of the row that has these words; no two rows have the same
-unfoldable pub command_of : List Word → Option Command
-command_of words = first_some (row_command words) rows
+-- the task of the row that has these words, and its command; no two rows have the same words
+unfoldable pub task_of : List Word → Option Task
+task_of words = first_some (row_task words) rows
+
+abbrev pub command_of : List Word → Option Command
+command_of words = option_map (λ t. t.command) (task_of words)

@@ -3,9 +3,9 @@ use Rattle.std.specs.Prelude.{ℕ, ◌+◌, ◌*◌, ◌%◌, ◌^◌, Bool, tru
 use Rattle.dsdiff_spec.specs.Bytes.{bytes_at, number_at, ◌is◌, ◌below◌, ◌above◌}
 use Rattle.dsdiff_spec.specs.Faults.{◌when◌, ◌otherwise◌}
 use Rattle.dsdiff_spec.specs.Chunks.{Head, the_first, body_place, body_of}
-use Rattle.dsdiff_spec.specs.Form.{Kind, plain, coded, Kept, Form}
-use Rattle.dsdiff_spec.specs.Parts.{form_size, form_end, top_level, all, prop_head, prop, in_prop, local, rate_head, channels_head, cmpr_head, rate, channel_count, compression, multiple, bytes_of_frame, sounds, sound_head, kind, frames_needed, pad_byte, tail, told, frame_rate}
-use Rattle.dsdiff_spec.specs.Kept.{kept_of, is_bad_kept, outside}
+use Rattle.dsdiff_spec.specs.Form.{Kind, plain, coded, Origin, Form}
+use Rattle.dsdiff_spec.specs.Parts.{form_size, form_end, top_level, all, prop_head, prop, in_prop, local, rate_head, channels_head, cmpr_head, rate, channel_count, compression, multiple, sound_bytes_in, sounds, sound_head, kind, frames_needed, pad_byte, behind_form, frame_count, frame_rate}
+use Rattle.dsdiff_spec.specs.Origin.{origin_of, is_bad_origin, outside}
 use Rattle.dsdiff_spec.specs.declared.faults.FileFault.{FileFault}
 use Rattle.dsdiff_spec.specs.declared.faults.FileFault.TheVariants.{NotForm, FormType, Overrun, Version, PropMissing, PropTwice, PropType, PropTooLong, Rate, Channels, Compression, SoundMissing, SoundTwice, SoundUneven, FrameRate, TooManyFrames, TooManyChunks, KeptBad, FormTooLarge, CodedChunk, TailTooLong}
 
@@ -72,7 +72,7 @@ abbrev pub prop_fault : List ℕ → Option FileFault
 prop_fault file =
     prop_chunk_fault file otherwise local_fault (body_place (prop_head file)) (prop file)
 
--- there is one sound chunk, of the told compression, behind `PROP`
+-- there is one sound chunk, of the compression in `CMPR`, behind `PROP`
 abbrev pub sound_fault : List ℕ → Option FileFault
 sound_fault file =
     SoundMissing when length (sounds file) == 0
@@ -96,16 +96,16 @@ plain_fault file =
     otherwise TooManyFrames when frames_needed file above 1000000
     otherwise CodedChunk (the_first (coded_chunks file)).place when not (length (coded_chunks file) == 0)
     otherwise room_fault (length (top_level file).heads) (prop_head file).size (form_size file)
-    otherwise TailTooLong (length (tail file)) when length (tail file) above 65536
+    otherwise TailTooLong (length (behind_form file)) when length (behind_form file) above 65536
 
 -- a coded form begins with `FRTE`, and what it keeps of a plain file is lawful
 abbrev pub is_frte : List ℕ → ℕ → Bool
 is_frte file place = bytes_at file place 4 is "FRTE" && number_at file (place + 4) 8 == 6
 
-abbrev pub has_bad_kept : List ℕ → Bool
-has_bad_kept file = elim (all "KEPT" file) [
+abbrev pub has_bad_origin : List ℕ → Bool
+has_bad_origin file = elim (all "KEPT" file) [
   | [] ↦ false
-  | h ∷ [] ↦ is_bad_kept (channel_count (prop file)) (bytes_of_frame (prop file)) (told file) (body_of file h)
+  | h ∷ [] ↦ is_bad_origin (channel_count (prop file)) (sound_bytes_in (prop file)) (frame_count file) (body_of file h)
   | h ∷ i ∷ hs ↦ true
 ]
 
@@ -113,8 +113,8 @@ abbrev pub coded_fault : List ℕ → Option FileFault
 coded_fault file =
     FrameRate when
     (sound_head file).size below 18 || not (is_frte file (body_place (sound_head file))) || not (frame_rate file == 75)
-    otherwise TooManyFrames when told file above 1000000
-    otherwise KeptBad when has_bad_kept file
+    otherwise TooManyFrames when frame_count file above 1000000
+    otherwise KeptBad when has_bad_origin file
 
 -- all rules in order
 abbrev pub kind_fault : Kind → List ℕ → Option FileFault
@@ -130,9 +130,9 @@ form_fault file =
     otherwise kind_fault (kind file) file
 
 -- the form of a file that keeps all rules
-abbrev pub kept_in : List ℕ → List Head → Option Kept
-kept_in file [] = None
-kept_in file (h ∷ hs) = Some (kept_of (body_of file h))
+abbrev pub origin_in : List ℕ → List Head → Option Origin
+origin_in file [] = None
+origin_in file (h ∷ hs) = Some (origin_of (body_of file h))
 
 abbrev pub form_of_kind : Kind → List ℕ → Form
 form_of_kind k file = record {
@@ -143,10 +143,10 @@ form_of_kind k file = record {
   chunks = (top_level file).heads;
   prop = prop file;
   sound = sound_head file;
-  frames = elim k [ plain ↦ frames_needed file | coded ↦ told file ];
-  kept = elim k [ plain ↦ None | coded ↦ kept_in file (all "KEPT" file) ];
+  frames = elim k [ plain ↦ frames_needed file | coded ↦ frame_count file ];
+  origin = elim k [ plain ↦ None | coded ↦ origin_in file (all "KEPT" file) ];
   pad = elim k [ plain ↦ pad_byte file | coded ↦ 0 ];
-  tail = elim k [ plain ↦ tail file | coded ↦ [] ];
+  behind = elim k [ plain ↦ behind_form file | coded ↦ [] ];
 }
 
 abbrev pub accepted : List ℕ → Form

@@ -2,27 +2,32 @@
 use Rattle.std.specs.Prelude.{ℕ, zero, suc, ◌+◌, ◌-◌, ◌*◌, Bool, true, false, not, ◌&&◌, ◌||◌, ◌==◌, if◌then◌else◌, List, [], ◌∷◌, ◌++◌, length, fold, filter, find, Option, Some, None, option_map}
 use Rattle.std.specs.List.{list_all}
 use Rattle.dsdiff_spec.specs.Bytes.{◌is◌, ◌above◌}
-use Rattle.dsdiff_spec.specs.Kept.{outside}
+use Rattle.dsdiff_spec.specs.Origin.{outside}
 use Prim.Native.String.{String}
 
 abbrev pub Word : Type 0
 Word = List ℕ
 
--- what is asked for; file names stand at words 1 and 2 and aren't kept
+-- What is done; file names stand at words 1 and 2, and are no part of it. Nor is how many work at it.
 pub data Command : Type 0 where
-  encode : (level workers : ℕ) → Command
-  decode : (workers : ℕ) → Command
+  encode : (level : ℕ) → Command
+  decode : Command
   cut : (first last : ℕ) → Command
   frame : (number : ℕ) (by_index : Bool) → Command
-  check : (workers : ℕ) → Command
+  check : Command
   show : Command
   show_frame : (number : ℕ) → Command
   index : Command
   make : (start frames channels multiple : ℕ) → Command
   make_run : (start frames channels multiple : ℕ) → Command
-  encode_dsf : (level workers : ℕ) → Command
-  decode_dsf : (workers : ℕ) → Command
+  encode_dsf : (level : ℕ) → Command
+  decode_dsf : Command
   range : (pairs : List (ℕ × ℕ)) → Command
+
+-- what words ask for: a command, and how many work at it side by side
+pub record Task : Type 0 where
+  pub command : Command
+  pub workers : ℕ
 
 -- ---- words of a kind
 abbrev pub is_digit : ℕ → Bool

@@ -38,8 +38,8 @@ entries_from place (frame ∷ frames) =
     record { offset = place + 12; size = length frame } ∷ entries_from (place + length (dstf frame)) frames
 
 -- `KEPT` of version 2: the sound's size and pad byte, how many bytes are kept, the plain file's `CMPR`, the kept bytes
-abbrev pub kept_chunk : ℕ → ℕ → List ℕ → List ℕ → List ℕ
-kept_chunk sound pad cmpr tail = chunk "KEPT" (2 ∷ big_bytes 8 sound ++ pad ∷ big_bytes 4 (length tail) ++ cmpr ++ tail)
+abbrev pub origin_chunk : ℕ → ℕ → List ℕ → List ℕ → List ℕ
+origin_chunk sound pad cmpr kept = chunk "KEPT" (2 ∷ big_bytes 8 sound ++ pad ∷ big_bytes 4 (length kept) ++ cmpr ++ kept)
 
 -- `CMPR` of coded and of plain sound
 abbrev pub cmpr_coded : List ℕ

@@ -35,7 +35,7 @@ pub enum FileFault {
     /// `DST ` doesn't begin with a chunk `FRTE` of 75 frames in a second.
     FrameRate,
     /// `FRTE` tells another number of frames than are found.
-    CountDiffers { told: u32, found: u32 },
+    CountDiffers { count: u32, found: u32 },
     /// A frame is longer than any stored frame needs to be.
     FrameTooLong { frame: u32, length: u64 },
     /// There are more than 1,000,000 frames.

@@ -1,5 +1,5 @@
 // Laws of files. The functions do nothing: their clauses are what is proved.
-ghost use Rattle.dsdiff_spec.specs.Laws.{OneOutcomeLaw, OneRowLaw, SameByIndexLaw, AnyWorkersLaw};
+ghost use Rattle.dsdiff_spec.specs.Laws.{OneOutcomeLaw, OneRowLaw, SameByIndexLaw};
 
 /// No words have two rows.
 pub fn one_row()
@@ -14,9 +14,4 @@ pub fn one_outcome()
 /// Where the index of a coded file is its walk, a frame that is found by the index has the outcome of the walk.
 pub fn same_by_index()
     ensures { SameByIndexLaw }
-{}
-
-/// Decoding and checking have the same outcomes for every number of workers.
-pub fn any_workers()
-    ensures { AnyWorkersLaw }
 {}

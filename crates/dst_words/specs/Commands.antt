@@ -1,22 +1,21 @@
--- Commands as the definitions have them.
-use Rattle.std.specs.Prelude.{◌≤◌, ⊤}
+-- Commands and tasks as the definitions have them.
+use Rattle.std.specs.Prelude.{◌≤◌}
 use Rattle.dsdiff_spec.specs.Words as words
 use Rattle.dst_words.specs.declared.words.Command.{Command}
 use Rattle.dst_words.specs.declared.words.Command.TheVariants.{Decode, Frame, Check, Show, ShowFrame, Index}
+use Rattle.dst_words.specs.declared.words.Task.{Task}
 
 abbrev pub command_seen : Command → words.Command
-command_seen (Decode workers) = words.decode workers
+command_seen Decode = words.decode
 command_seen (Frame frame by_index) = words.frame frame by_index
-command_seen (Check workers) = words.check workers
+command_seen Check = words.check
 command_seen Show = words.show
 command_seen (ShowFrame frame) = words.show_frame frame
 command_seen Index = words.index
 
+abbrev pub task_seen : Task → words.Task
+task_seen t = record { command = command_seen t.command; workers = t.workers }
+
 -- 1 to 16 workers
-abbrev pub HasFewWorkers : Command → Type 0
-HasFewWorkers (Decode workers) = (1 ≤ workers) × (workers ≤ 16)
-HasFewWorkers (Frame frame by_index) = ⊤
-HasFewWorkers (Check workers) = (1 ≤ workers) × (workers ≤ 16)
-HasFewWorkers Show = ⊤
-HasFewWorkers (ShowFrame frame) = ⊤
-HasFewWorkers Index = ⊤
+abbrev pub HasFewWorkers : Task → Type 0
+HasFewWorkers t = (1 ≤ t.workers) × (t.workers ≤ 16)

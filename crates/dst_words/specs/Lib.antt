@@ -1,3 +1,3 @@
 pub mod Commands
-pub mod Told
+pub mod Numbers
 pub mod RowWords

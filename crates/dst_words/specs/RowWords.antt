@@ -1,14 +1,14 @@
 -- What the words behind a row's name ask for.
 use Rattle.std.specs.Prelude.{ℕ, Bool, List, [], ◌∷◌, length, Option, Some, None, option_map}
-use Rattle.dsdiff_spec.specs.Words.{Word, Command, Slot, file, number, show, index, decode, check, read_slots, Setting, workers, by_index, read_settings}
-use Rattle.dsdiff_spec.specs.Rows.{workers_of, is_set, frame_of, show_frame_of}
+use Rattle.dsdiff_spec.specs.Words.{Word, Command, Task, Slot, file, number, show, index, decode, check, read_slots, Setting, workers, by_index, read_settings}
+use Rattle.dsdiff_spec.specs.Rows.{workers_of, is_set, frame_of, show_frame_of, task_with}
 
 -- the numbers in the slots, and what is made of them and of the words behind
-abbrev of_slots : List Slot → (List ℕ → List Word → Option Command) → List Word → Option Command
+abbrev of_slots : List Slot → (List ℕ → List Word → Option Task) → List Word → Option Task
 of_slots slots f words = elim (read_slots slots words) [ None ↦ None | Some read ↦ f read.0 read.1 ]
 
-abbrev of_settings : List Setting → (List (Word × ℕ) → Option Command) → List Word → Option Command
-of_settings settings f words = elim (read_settings (length settings) settings words) [ None ↦ None | Some o ↦ f o ]
+abbrev of_settings : List Setting → (List (Word × ℕ) → Option Command) → List Word → Option Task
+of_settings settings f words = elim (read_settings (length settings) settings words) [ None ↦ None | Some o ↦ option_map (task_with o) (f o) ]
 
 -- the value of the one option of a row
 abbrev pub workers_in : List Word → Option ℕ
@@ -18,20 +18,20 @@ abbrev pub by_index_in : List Word → Option Bool
 by_index_in words = option_map (is_set "--by-index") (read_settings 1 (by_index ∷ []) words)
 
 -- the words of each row; `show` has two
-abbrev pub decode_words : List Word → Option Command
-decode_words = of_slots (file ∷ file ∷ []) (λ n. of_settings (workers ∷ []) (λ o. Some (decode (workers_of o))))
+abbrev pub decode_words : List Word → Option Task
+decode_words = of_slots (file ∷ file ∷ []) (λ n. of_settings (workers ∷ []) (λ o. Some decode))
 
-abbrev pub frame_words : List Word → Option Command
+abbrev pub frame_words : List Word → Option Task
 frame_words = of_slots (file ∷ file ∷ number ∷ []) (λ n. of_settings (by_index ∷ []) (λ o. frame_of (is_set "--by-index" o) n))
 
-abbrev pub check_words : List Word → Option Command
-check_words = of_slots (file ∷ []) (λ n. of_settings (workers ∷ []) (λ o. Some (check (workers_of o))))
+abbrev pub check_words : List Word → Option Task
+check_words = of_slots (file ∷ []) (λ n. of_settings (workers ∷ []) (λ o. Some check))
 
-abbrev pub show_words : List Word → Option Command
+abbrev pub show_words : List Word → Option Task
 show_words words = elim (of_slots (file ∷ []) (λ n. of_settings [] (λ o. Some show)) words) [
-  | Some c ↦ Some c
+  | Some t ↦ Some t
   | None ↦ of_slots (file ∷ number ∷ []) (λ n. of_settings [] (λ o. show_frame_of n)) words
 ]
 
-abbrev pub index_words : List Word → Option Command
+abbrev pub index_words : List Word → Option Task
 index_words = of_slots (file ∷ []) (λ n. of_settings [] (λ o. Some index))

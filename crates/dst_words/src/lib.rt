@@ -2,8 +2,8 @@
 //!
 //! ```text
 //! match read_words(&words) {
-//!     Some(Command::Decode { workers }) => .., // `decode IN OUT --workers 4`: files are named by words 1 and 2
-//!     Some(Command::Show) => report.append(lines::told_word("kind ", "coded").as_bytes()),
+//!     Some(Task { command: Command::Decode, workers }) => .., // `decode IN OUT --workers 4`: words 1 and 2 name the files
+//!     Some(Task { command: Command::Show, .. }) => report.append(lines::with_word("kind ", "coded").as_bytes()),
 //!     None => report.append(lines::words_not_understood().as_bytes()),
 //!     ..
 //! }
@@ -16,7 +16,7 @@ pub mod lines;
 mod slots;
 #[cfg(test)]
 mod tests;
-mod told;
+mod texts;
 mod words;
 
-pub use words::{Command, read_words};
+pub use words::{Command, Task, read_words};

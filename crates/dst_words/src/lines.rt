@@ -2,9 +2,9 @@
 ghost use Rattle.std.specs.Prelude.{◌≡◌, ◌+◌, ◌<◌, ◌≤◌, ◌∷◌, ◌++◌, [], length, decimal, codes, flat_map};
 ghost use Rattle.arrayvec.specs.ArrayString.{array_string_len};
 ghost use Rattle.dsdiff_spec.specs.Lines.{report, words_line, read_fault_line, write_fault_line, memory_line, file_line, frame_fault_line, decoded_line, frame_line, check_line, plain_frame_line, coded_frame_line};
-ghost use Rattle.dst_words.specs.Told.{kept_numbers};
+ghost use Rattle.dst_words.specs.Numbers.{numbers_seen};
 
-use crate::told::{Kept, told_of_file, told_of_frame};
+use crate::texts::{Numbers, text_of_file, text_of_frame};
 use arrayvec::ArrayString;
 use dsdiff_spec::FileFault;
 use dst_spec::FrameFault;
@@ -44,16 +44,16 @@ pub fn memory() -> Line
     ended(line_of("memory"))
 }
 
-/// A file is refused: the fault's number, its name and its kept numbers in the order of its fields.
+/// A file is refused: the fault's number, its name and the numbers of its fields in their order.
 pub fn file_refused(fault: FileFault) -> Line
     ensures { result.bytes ≡ report (file_line fault ∷ []) }
 {
-    let told = told_of_file(fault);
+    let text = text_of_file(fault);
     let mut line = line_of("file refused: ");
-    push_number(&mut line, told.number);
+    push_number(&mut line, text.number);
     line.push_str(" ");
-    line.push_str(told.name);
-    push_kept(&mut line, told.kept);
+    line.push_str(text.name);
+    push_numbers(&mut line, text.numbers);
     ended(line)
 }
 
@@ -62,13 +62,13 @@ pub fn file_refused(fault: FileFault) -> Line
 pub fn frame_refused(frame: u32, fault: FrameFault) -> Line
     ensures { result.bytes ≡ report (frame_fault_line frame fault ∷ []) }
 {
-    let told = told_of_frame(fault.reason);
+    let text = text_of_frame(fault.reason);
     let mut line = line_of("frame ");
     push_number(&mut line, frame);
     line.push_str(" refused: ");
-    push_number(&mut line, told.number);
+    push_number(&mut line, text.number);
     line.push_str(" ");
-    line.push_str(told.name);
+    line.push_str(text.name);
     line.push_str(" at bit ");
     push_number(&mut line, fault.bit);
     ended(line)
@@ -150,8 +150,8 @@ pub fn entry(frame: u32, offset: u64, size: u32) -> Line
     ended(line)
 }
 
-/// A word or a number behind the name of what it tells, as in the summary of a file.
-pub fn told_word(name: &str, word: &str) -> Line
+/// A word behind the name of what it says, as in the summary of a file.
+pub fn with_word(name: &str, word: &str) -> Line
     requires { length name.now + length word.now < 32 }
     ensures { result.bytes ≡ report ((name.now ++ word.now) ∷ []) }
 {
@@ -161,7 +161,7 @@ pub fn told_word(name: &str, word: &str) -> Line
 }
 
 /// A number behind the name of what it counts.
-pub fn told_number(name: &str, number: u64) -> Line
+pub fn with_number(name: &str, number: u64) -> Line
     requires { length name.now < 32 }
     ensures { result.bytes ≡ report ((name.now ++ decimal number) ∷ []) }
 {
@@ -171,7 +171,7 @@ pub fn told_number(name: &str, number: u64) -> Line
 }
 
 /// A number of bytes behind the name of what has them.
-pub fn told_bytes(name: &str, bytes: u64) -> Line
+pub fn with_bytes(name: &str, bytes: u64) -> Line
     requires { length name.now < 32 }
     ensures { result.bytes ≡ report ((name.now ++ decimal bytes ++ codes " bytes") ∷ []) }
 {
@@ -211,15 +211,15 @@ fn push_number<I: Integer>(line: &mut Line, number: I)
 }
 
 // Each number behind a space.
-fn push_kept(line: &mut Line, kept: Kept)
+fn push_numbers(line: &mut Line, numbers: Numbers)
     requires { array_string_len line.old + 42 ≤ ROOM }
-    ensures text { line.new.bytes ≡ line.old.bytes ++ flat_map (λ n. codes " " ++ decimal n) (kept_numbers kept) }
+    ensures text { line.new.bytes ≡ line.old.bytes ++ flat_map (λ n. codes " " ++ decimal n) (numbers_seen numbers) }
     ensures len { array_string_len line.new ≤ array_string_len line.old + 42 }
 {
-    match kept {
-        Kept::Nothing => {}
-        Kept::One(number) => push_spaced(line, number),
-        Kept::Two(first, second) => {
+    match numbers {
+        Numbers::Nothing => {}
+        Numbers::One(number) => push_spaced(line, number),
+        Numbers::Two(first, second) => {
             push_spaced(line, first);
             push_spaced(line, second);
         }

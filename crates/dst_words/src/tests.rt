@@ -14,13 +14,17 @@ fn split(alloc: Global, text: &str) -> Result<Vec<String>, AllocError> {
     Ok(words)
 }
 
-fn frame(frame: u32, by_index: bool) -> Option<Command> {
-    Some(Command::Frame { frame, by_index })
+fn task(command: Command, workers: u32) -> Option<Task> {
+    Some(Task { command, workers })
+}
+
+fn frame(frame: u32, by_index: bool) -> Option<Task> {
+    task(Command::Frame { frame, by_index }, 1)
 }
 
 #[test]
-fn words_that_are_a_row_are_a_command(rt: HostRuntime) -> Result<(), Fail> {
-    let decode = Some(Command::Decode { workers: 1 });
+fn words_that_are_a_row_are_a_task(rt: HostRuntime) -> Result<(), Fail> {
+    let decode = task(Command::Decode, 1);
     let cases = [
         ("decode a b", decode),
         ("decode a.dff out-b.dff", decode),
@@ -38,10 +42,7 @@ fn words_that_are_a_row_are_a_command(rt: HostRuntime) -> Result<(), Fail> {
         ("decod a b", None),
         ("Decode a b", None),
         ("encode a b", None),
-        (
-            "decode a b --workers 2",
-            Some(Command::Decode { workers: 2 }),
-        ),
+        ("decode a b --workers 2", task(Command::Decode, 2)),
         ("decode a b --workers", None),
         ("decode a b --workers 0", None),
         ("decode a b --workers 17", None),
@@ -57,20 +58,20 @@ fn words_that_are_a_row_are_a_command(rt: HostRuntime) -> Result<(), Fail> {
         ("frame a b 00", None),
         ("frame a b +1", None),
         ("frame a b", None),
-        ("check a", Some(Command::Check { workers: 1 })),
-        ("check a --workers 16", Some(Command::Check { workers: 16 })),
+        ("check a", task(Command::Check, 1)),
+        ("check a --workers 16", task(Command::Check, 16)),
         ("check a b", None),
-        ("show a", Some(Command::Show)),
-        ("show a 12", Some(Command::ShowFrame { frame: 12 })),
+        ("show a", task(Command::Show, 1)),
+        ("show a 12", task(Command::ShowFrame { frame: 12 }, 1)),
         ("show a b", None),
         ("show a 1 2", None),
-        ("index a", Some(Command::Index)),
+        ("index a", task(Command::Index, 1)),
         ("index a b", None),
         ("--help", None),
     ];
-    for (text, command) in cases {
+    for (text, expected) in cases {
         let words = split(rt.alloc(), text)?;
-        assert_eq!(rt; read_words(words.as_slice()), command, "{text}");
+        assert_eq!(rt; read_words(words.as_slice()), expected, "{text}");
     }
     assert_eq!(rt; read_words(&[]), None);
     Ok(())
@@ -104,7 +105,7 @@ fn lines_of_devices_and_frames_are_those_of_reports(rt: HostRuntime) {
 #[test]
 fn lines_of_files_are_those_of_reports(rt: HostRuntime) {
     let overrun = FileFault::Overrun { place: 110 };
-    let differs = FileFault::CountDiffers { told: 2, found: 1 };
+    let differs = FileFault::CountDiffers { count: 2, found: 1 };
     let (frame, length) = (u32::MAX, u64::MAX);
     let too_long = FileFault::FrameTooLong { frame, length };
     let longest = "file refused: 17 FrameTooLong 4294967295 18446744073709551615\n";
@@ -150,9 +151,9 @@ fn lines_of_what_is_done_are_those_of_reports(rt: HostRuntime) {
             longest,
         ),
         (lines::entry(1, 4870, 4705), "1 4870 4705\n"),
-        (lines::told_word("kind ", "coded"), "kind coded\n"),
-        (lines::told_number("channels ", 1), "channels 1\n"),
-        (lines::told_bytes("sound ", 4705), "sound 4705 bytes\n"),
+        (lines::with_word("kind ", "coded"), "kind coded\n"),
+        (lines::with_number("channels ", 1), "channels 1\n"),
+        (lines::with_bytes("sound ", 4705), "sound 4705 bytes\n"),
     ];
     assert_lines(&rt, &cases);
 }

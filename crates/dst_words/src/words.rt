@@ -1,8 +1,8 @@
 // The words of a command line.
 ghost use Rattle.std.specs.Prelude.{◌≡◌, map, option_map, IfSome};
 ghost use Rattle.std.specs.String.{string_bytes};
-ghost use Rattle.dsdiff_spec.specs.Rows.{command_of};
-ghost use Rattle.dst_words.specs.Commands.{command_seen, HasFewWorkers};
+ghost use Rattle.dsdiff_spec.specs.Rows.{task_of};
+ghost use Rattle.dst_words.specs.Commands.{task_seen, HasFewWorkers};
 ghost use Rattle.dst_words.specs.RowWords.{decode_words, frame_words, check_words, show_words, index_words};
 
 use crate::slots::{is_file_word, read_by_index, read_number, read_workers};
@@ -10,13 +10,12 @@ use crate::slots::{is_file_word, read_by_index, read_number, read_workers};
 /// What is asked for. The names of files stay in words 1 and 2, word 0 being the command's name. Frames are numbered from 0.
 #[derive(Clone, Copy, Debug, Drop, PartialEq, Eq)]
 pub enum Command {
-    /// `decode IN OUT [--workers W]`: decode a coded file. So many workers, 1 to 16, decode at a time; one unless words say
-    /// otherwise.
-    Decode { workers: u32 },
+    /// `decode IN OUT [--workers W]`: decode a coded file.
+    Decode,
     /// `frame IN OUT K [--by-index]`: write the sound of one frame, which is found by the file's index or by its chunks.
     Frame { frame: u32, by_index: bool },
     /// `check IN [--workers W]`: decode all frames and compare the index, writing nothing.
-    Check { workers: u32 },
+    Check,
     /// `show IN`: tell what the file is.
     Show,
     /// `show IN K`: tell the header of one frame.
@@ -25,10 +24,18 @@ pub enum Command {
     Index,
 }
 
-/// The command that these words ask for, or nothing where no command has them.
-#[tactic(auto, unfolding(dsdiff_spec::specs::Rows::command_of))]
-pub fn read_words(words: &[String]) -> Option<Command>
-    ensures command { option_map command_seen result ≡ command_of (map string_bytes words.now) }
+/// What words ask for: a command, and how many workers, 1 to 16, work at it side by side; one unless words say otherwise. What
+/// a command answers doesn't depend on their number.
+#[derive(Clone, Copy, Debug, Drop, PartialEq, Eq)]
+pub struct Task {
+    pub command: Command,
+    pub workers: u32,
+}
+
+/// What these words ask for, or nothing where no command has them.
+#[tactic(auto, unfolding(dsdiff_spec::specs::Rows::task_of))]
+pub fn read_words(words: &[String]) -> Option<Task>
+    ensures task { option_map task_seen result ≡ task_of (map string_bytes words.now) }
     ensures workers { IfSome result HasFewWorkers }
 {
     let [name, rest @ ..] = words else {
@@ -44,8 +51,8 @@ pub fn read_words(words: &[String]) -> Option<Command>
     }
 }
 
-fn read_decode(words: &[String]) -> Option<Command>
-    ensures command { option_map command_seen result ≡ decode_words (map string_bytes words.now) }
+fn read_decode(words: &[String]) -> Option<Task>
+    ensures task { option_map task_seen result ≡ decode_words (map string_bytes words.now) }
     ensures workers { IfSome result HasFewWorkers }
 {
     let [input, output, options @ ..] = words else {
@@ -55,11 +62,14 @@ fn read_decode(words: &[String]) -> Option<Command>
         return None;
     }
     let workers = read_workers(options)?;
-    Some(Command::Decode { workers })
+    Some(Task {
+        command: Command::Decode,
+        workers,
+    })
 }
 
-fn read_frame(words: &[String]) -> Option<Command>
-    ensures command { option_map command_seen result ≡ frame_words (map string_bytes words.now) }
+fn read_frame(words: &[String]) -> Option<Task>
+    ensures task { option_map task_seen result ≡ frame_words (map string_bytes words.now) }
     ensures workers { IfSome result HasFewWorkers }
 {
     let [input, output, number, options @ ..] = words else {
@@ -70,11 +80,11 @@ fn read_frame(words: &[String]) -> Option<Command>
     }
     let frame = read_number(number)?;
     let by_index = read_by_index(options)?;
-    Some(Command::Frame { frame, by_index })
+    Some(by_one(Command::Frame { frame, by_index }))
 }
 
-fn read_check(words: &[String]) -> Option<Command>
-    ensures command { option_map command_seen result ≡ check_words (map string_bytes words.now) }
+fn read_check(words: &[String]) -> Option<Task>
+    ensures task { option_map task_seen result ≡ check_words (map string_bytes words.now) }
     ensures workers { IfSome result HasFewWorkers }
 {
     let [input, options @ ..] = words else {
@@ -84,11 +94,14 @@ fn read_check(words: &[String]) -> Option<Command>
         return None;
     }
     let workers = read_workers(options)?;
-    Some(Command::Check { workers })
+    Some(Task {
+        command: Command::Check,
+        workers,
+    })
 }
 
-fn read_show(words: &[String]) -> Option<Command>
-    ensures command { option_map command_seen result ≡ show_words (map string_bytes words.now) }
+fn read_show(words: &[String]) -> Option<Task>
+    ensures task { option_map task_seen result ≡ show_words (map string_bytes words.now) }
     ensures workers { IfSome result HasFewWorkers }
 {
     let [input, rest @ ..] = words else {
@@ -98,25 +111,35 @@ fn read_show(words: &[String]) -> Option<Command>
         return None;
     }
     match rest {
-        [] => Some(Command::Show),
+        [] => Some(by_one(Command::Show)),
         [number] => {
             let frame = read_number(number)?;
-            Some(Command::ShowFrame { frame })
+            Some(by_one(Command::ShowFrame { frame }))
         }
         _ => None,
     }
 }
 
-fn read_index(words: &[String]) -> Option<Command>
-    ensures command { option_map command_seen result ≡ index_words (map string_bytes words.now) }
+fn read_index(words: &[String]) -> Option<Task>
+    ensures task { option_map task_seen result ≡ index_words (map string_bytes words.now) }
     ensures workers { IfSome result HasFewWorkers }
 {
     let [input] = words else {
         return None;
     };
     if is_file_word(input) {
-        Some(Command::Index)
+        Some(by_one(Command::Index))
     } else {
         None
+    }
+}
+
+// A command at which one works.
+fn by_one(command: Command) -> Task
+    ensures { result ≡ record { command = command; workers = 1 } }
+{
+    Task {
+        command,
+        workers: 1,
     }
 }

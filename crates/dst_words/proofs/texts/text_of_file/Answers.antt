@@ -1,5 +1,5 @@
 -- Each name is that of its fault.
-use Rattle.dst_words.proofs.told.told_of_file.Goals as goal
+use Rattle.dst_words.proofs.texts.text_of_file.Goals as goal
 
 pub returns-in-NotForm-clause-name : goal.returns-in-NotForm-clause-name
 returns-in-NotForm-clause-name c = rw c.in-NotForm.is (cc)

@@ -1,5 +1,5 @@
 -- Each name is that of its fault.
-use Rattle.dst_words.proofs.told.told_of_frame.Goals as goal
+use Rattle.dst_words.proofs.texts.text_of_frame.Goals as goal
 
 pub returns-in-Truncated-clause-name : goal.returns-in-Truncated-clause-name
 returns-in-Truncated-clause-name c = rw c.in-Truncated.is (cc)

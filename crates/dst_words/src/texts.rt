@@ -1,32 +1,32 @@
-// What refusals tell.
+// The texts of refusals.
 ghost use Rattle.std.specs.Prelude.{◌≡◌, ◌≤◌, [], ◌∷◌, length, codes};
-ghost use Rattle.dsdiff_spec.specs.Told.{told_of, told_of_reason};
-ghost use Rattle.dst_words.specs.Told.{kept_numbers};
+ghost use Rattle.dsdiff_spec.specs.Texts.{text_of, text_of_reason};
+ghost use Rattle.dst_words.specs.Numbers.{numbers_seen};
 
 use dsdiff_spec::FileFault;
 use dst_spec::Reason;
 
-// The numbers that a refusal keeps.
+// The numbers behind a refusal's name.
 #[derive(Clone, Copy, Drop)]
-pub(crate) enum Kept {
+pub(crate) enum Numbers {
     Nothing,
     One(u64),
     Two(u64, u64),
 }
 
-// A refusal's number, its name and the numbers that it keeps.
+// A refusal's number, its name and the numbers behind it.
 #[derive(Clone, Copy, Drop)]
-pub(crate) struct Told {
+pub(crate) struct Text {
     pub(crate) number: u8,
     pub(crate) name: &'static str,
-    pub(crate) kept: Kept,
+    pub(crate) numbers: Numbers,
 }
 
 // Why a file is refused.
-pub(crate) fn told_of_file(fault: FileFault) -> Told
-    ensures number { result.number ≡ (told_of fault).number }
-    ensures name { result.name.now ≡ codes (told_of fault).name }
-    ensures kept { kept_numbers result.kept ≡ (told_of fault).kept }
+pub(crate) fn text_of_file(fault: FileFault) -> Text
+    ensures number { result.number ≡ (text_of fault).number }
+    ensures name { result.name.now ≡ codes (text_of fault).name }
+    ensures numbers { numbers_seen result.numbers ≡ (text_of fault).numbers }
     ensures short { length result.name.now ≤ 16 }
 {
     use FileFault::*;
@@ -47,7 +47,7 @@ pub(crate) fn told_of_file(fault: FileFault) -> Told
         SoundTwice => bare(13, "SoundTwice"),
         SoundUneven => bare(14, "SoundUneven"),
         FrameRate => bare(15, "FrameRate"),
-        CountDiffers { told, found } => with_two(16, "CountDiffers", told.into(), found.into()),
+        CountDiffers { count, found } => with_two(16, "CountDiffers", count.into(), found.into()),
         FrameTooLong { frame, length } => with_two(17, "FrameTooLong", frame.into(), length),
         TooManyFrames => bare(18, "TooManyFrames"),
         TooManyChunks => bare(19, "TooManyChunks"),
@@ -69,10 +69,10 @@ pub(crate) fn told_of_file(fault: FileFault) -> Told
 }
 
 // Why a frame is refused.
-pub(crate) fn told_of_frame(reason: Reason) -> Told
-    ensures number { result.number ≡ (told_of_reason reason).number }
-    ensures name { result.name.now ≡ codes (told_of_reason reason).name }
-    ensures kept { kept_numbers result.kept ≡ (told_of_reason reason).kept }
+pub(crate) fn text_of_frame(reason: Reason) -> Text
+    ensures number { result.number ≡ (text_of_reason reason).number }
+    ensures name { result.name.now ≡ codes (text_of_reason reason).name }
+    ensures numbers { numbers_seen result.numbers ≡ (text_of_reason reason).numbers }
     ensures short { length result.name.now ≤ 16 }
 {
     match reason {
@@ -89,38 +89,38 @@ pub(crate) fn told_of_frame(reason: Reason) -> Told
     }
 }
 
-fn bare(number: u8, name: &'static str) -> Told
+fn bare(number: u8, name: &'static str) -> Text
     ensures number { result.number ≡ number }
     ensures name { result.name.now ≡ name.now }
-    ensures kept { kept_numbers result.kept ≡ [] }
+    ensures numbers { numbers_seen result.numbers ≡ [] }
 {
-    Told {
+    Text {
         number,
         name,
-        kept: Kept::Nothing,
+        numbers: Numbers::Nothing,
     }
 }
 
-fn with_one(number: u8, name: &'static str, first: u64) -> Told
+fn with_one(number: u8, name: &'static str, first: u64) -> Text
     ensures number { result.number ≡ number }
     ensures name { result.name.now ≡ name.now }
-    ensures kept { kept_numbers result.kept ≡ first ∷ [] }
+    ensures numbers { numbers_seen result.numbers ≡ first ∷ [] }
 {
-    Told {
+    Text {
         number,
         name,
-        kept: Kept::One(first),
+        numbers: Numbers::One(first),
     }
 }
 
-fn with_two(number: u8, name: &'static str, first: u64, second: u64) -> Told
+fn with_two(number: u8, name: &'static str, first: u64, second: u64) -> Text
     ensures number { result.number ≡ number }
     ensures name { result.name.now ≡ name.now }
-    ensures kept { kept_numbers result.kept ≡ first ∷ second ∷ [] }
+    ensures numbers { numbers_seen result.numbers ≡ first ∷ second ∷ [] }
 {
-    Told {
+    Text {
         number,
         name,
-        kept: Kept::Two(first, second),
+        numbers: Numbers::Two(first, second),
     }
 }
