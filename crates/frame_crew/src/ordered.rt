@@ -24,20 +24,22 @@ fn work_and_drain<R: Threads + Sync, W: FrameWork, D: Drain<W::Job>, G: Gate>(
     work: &W,
     drain: &mut D,
     gate: &G,
+    scratches: &mut [W::Scratch],
     jobs: &mut [W::Job],
-    workers: u32,
 ) -> Result<(), D::Fault>
-    requires least { 0 < workers }
-    requires most { workers ≤ 16 }
+    requires least { 0 < length scratches.old }
+    requires most { length scratches.old ≤ 16 }
+    requires scratch_shapes { All (λ scratch. W.Scratch.shape scratch ≡ W.shape work.now) scratches.old }
     requires shapes { All (λ job. W.Job.shape job ≡ W.shape work.now) jobs.old }
     requires drain_shape { D.shape drain.old ≡ W.shape work.now }
     ensures drained { OnOk result (IsDrained D.takes (W.done work.now) jobs.old drain.old drain.new) }
     ensures fault { IfErr result (λ fault.
         FailsAmong D.takes D.failed (W.done work.now) jobs.old drain.old drain.new fault) }
     ensures shapes { All (λ job. W.Job.shape job ≡ W.shape work.now) jobs.new }
+    ensures scratch_shapes { All (λ scratch. W.Scratch.shape scratch ≡ W.shape work.now) scratches.new }
     ensures drain_shape { D.shape drain.new ≡ W.shape work.now }
 {
-    run_batch(rt, work, gate, jobs, workers);
+    run_batch(rt, work, gate, scratches, jobs);
     drain_all(drain, jobs)
 }
 
@@ -48,12 +50,13 @@ pub fn run_ordered<R: Threads + Sync, W: FrameWork, F: Feed<W::Job>, D: Drain<W:
     feed: &mut F,
     drain: &mut D,
     gate: &G,
+    scratches: &mut [W::Scratch],
     jobs: &mut [W::Job],
-    workers: u32,
 ) -> Result<u32, RunFault<F::Fault, D::Fault>>
-    requires least { 0 < workers }
-    requires most { workers ≤ 16 }
+    requires least { 0 < length scratches.old }
+    requires most { length scratches.old ≤ 16 }
     requires some { 0 < length jobs.old }
+    requires scratch_shapes { All (λ scratch. W.Scratch.shape scratch ≡ W.shape work.now) scratches.old }
     requires shapes { All (λ job. W.Job.shape job ≡ W.shape work.now) jobs.old }
     requires feed_shape { F.shape feed.old ≡ W.shape work.now }
     requires drain_shape { D.shape drain.old ≡ W.shape work.now }
@@ -72,13 +75,14 @@ pub fn run_ordered<R: Threads + Sync, W: FrameWork, F: Feed<W::Job>, D: Drain<W:
         feed.old feed.new drain.old drain.new fault) }
 
     ensures shapes { All (λ job. W.Job.shape job ≡ W.shape work.now) jobs.new }
+    ensures scratch_shapes { All (λ scratch. W.Scratch.shape scratch ≡ W.shape work.now) scratches.new }
     ensures feed_shape { F.shape feed.new ≡ W.shape work.now }
     ensures drain_shape { D.shape drain.new ≡ W.shape work.now }
 {
     let mut drained = 0u32;
     loop {
         let (filled, stop) = fill_batch(feed, jobs);
-        match work_and_drain(rt, work, drain, gate, &mut jobs[..filled], workers) {
+        match work_and_drain(rt, work, drain, gate, scratches, &mut jobs[..filled]) {
             Ok(()) => drained += filled as u32,
             Err(fault) => return Err(RunFault::Drain(fault)),
         }

@@ -15,38 +15,51 @@ impl Slot for Number {
     ghost shape = { λ _. 0 };
 }
 
+// How many jobs a worker has worked.
+#[derive(Clone, Copy)]
+struct Worked {
+    count: u32,
+}
+
+impl Slot for Worked {
+    ghost shape = { λ _. 0 };
+}
+
+const IDLE: Worked = Worked { count: 0 };
+
 #[derive(Drop)]
 struct AddOne;
 
-impl FrameWork for AddOne {
+impl JobWork for AddOne {
     type Job = Number;
+
+    type Scratch = Worked;
 
     ghost shape = { λ _. 0 };
 
     ghost done = { λ _ before after. after.value ≡ (before.value + 1) % 2 ^ 32 };
 
-    fn work(&self, job: &mut Number) {
+    fn work_job(&self, scratch: &mut Worked, job: &mut Number) {
+        scratch.count = scratch.count.wrapping_add(1);
         job.value = job.value.wrapping_add(1);
     }
 }
 
-// Holds the first job until the second has passed.
+const ADD_ONE: InTurn<AddOne> = InTurn { each: AddOne };
+
+// Holds each job until all jobs have come.
 #[derive(Drop)]
 struct Holding {
-    second: AtomicBool,
-    ran_out: AtomicBool,
+    jobs: u64,
     passes: AtomicU64,
+    ran_out: AtomicBool,
 }
 
 impl Gate for Holding {
-    fn pass(&self, place: usize) {
+    fn pass(&self, _place: usize) {
         self.passes.fetch_add(1, Ordering::SeqCst);
-        if place == 1 {
-            self.second.store(true, Ordering::SeqCst);
-            return;
-        }
         for _ in 0..100_000_000u64 {
-            if self.second.load(Ordering::SeqCst) {
+            if self.passes.load(Ordering::SeqCst) >= self.jobs {
                 return;
             }
         }
@@ -55,22 +68,89 @@ impl Gate for Holding {
 }
 
 #[test]
-fn two_jobs_are_worked_at_once(rt: HostRuntime) -> Result<(), Fail> {
+fn sixteen_jobs_are_worked_at_once(rt: HostRuntime) -> Result<(), Fail> {
     let gate = Holding {
-        second: AtomicBool::new(false),
-        ran_out: AtomicBool::new(false),
+        jobs: 16,
         passes: AtomicU64::new(0),
+        ran_out: AtomicBool::new(false),
     };
-    let mut jobs = [Number { value: 1 }, Number { value: 2 }];
-    run_batch(&rt, &AddOne, &gate, &mut jobs, 2);
+    let mut scratches = [IDLE; 16];
+    let mut jobs = [Number { value: 1 }; 16];
+    run_batch(&rt, &ADD_ONE, &gate, &mut scratches, &mut jobs);
     assert!(rt; !gate.ran_out.load(Ordering::SeqCst));
-    assert_eq!(rt; gate.passes.load(Ordering::SeqCst), 2);
-    assert_eq!(rt; jobs[0].value, 2);
-    assert_eq!(rt; jobs[1].value, 3);
+    assert_eq!(rt; gate.passes.load(Ordering::SeqCst), 16);
+    for job in &jobs {
+        assert_eq!(rt; job.value, 2);
+    }
+    for scratch in &scratches {
+        assert_eq!(rt; scratch.count, 1);
+    }
     Ok(())
 }
 
-// The numbers below `end`, up to a fault, and how often the end was told.
+// Counts the passes, and adds up the places.
+#[derive(Drop)]
+struct Counting {
+    passes: AtomicU64,
+    places: AtomicU64,
+}
+
+impl Gate for Counting {
+    fn pass(&self, place: usize) {
+        self.passes.fetch_add(1, Ordering::SeqCst);
+        self.places.fetch_add(place as u64, Ordering::SeqCst);
+    }
+}
+
+#[test]
+fn the_jobs_are_shared_out_evenly(rt: HostRuntime) -> Result<(), Fail> {
+    for workers in 1..17usize {
+        for count in 0..65usize {
+            let gate = Counting {
+                passes: AtomicU64::new(0),
+                places: AtomicU64::new(0),
+            };
+            let mut scratches = [IDLE; 16];
+            let mut jobs = [Number { value: 7 }; 64];
+            run_batch(
+                &rt,
+                &ADD_ONE,
+                &gate,
+                &mut scratches[..workers],
+                &mut jobs[..count],
+            );
+            for (place, job) in jobs.iter().enumerate() {
+                let wanted = if place < count { 8 } else { 7 };
+                assert_eq!(rt;
+                    job.value,
+                    wanted,
+                    "job {place} of {count}, {workers} workers"
+                );
+            }
+
+            // The first workers have one job more, where the jobs can't be divided.
+            for (place, scratch) in scratches.iter().enumerate() {
+                let more = usize::from(place < count % workers);
+                let wanted = if place < workers {
+                    count / workers + more
+                } else {
+                    0
+                };
+                assert_eq!(rt;
+                    scratch.count as usize,
+                    wanted,
+                    "worker {place} of {workers}, {count} jobs"
+                );
+            }
+            let all = count.wrapping_mul(count.saturating_sub(1)) / 2;
+            assert_eq!(rt; gate.passes.load(Ordering::SeqCst), count as u64);
+            assert_eq!(rt; gate.places.load(Ordering::SeqCst), all as u64);
+        }
+    }
+    Ok(())
+}
+
+// The numbers below `end`, up to a fault, and how often the end was answered.
 #[derive(Drop)]
 struct Numbers<'a> {
     next: u32,
@@ -138,7 +218,7 @@ impl Drain<Number> for InOrder {
 
 const NEVER: u32 = u32::MAX;
 
-// What one run answers, how many jobs were drained, whether each stood at its place, and how often the end was told.
+// What one run answers, how many jobs were drained, whether each stood at its place, and how often the end was answered.
 #[derive(Debug, Drop, PartialEq, Eq)]
 struct Outcome {
     answer: Result<u32, (&'static str, u32)>,
@@ -152,7 +232,7 @@ fn run_numbers<R: Threads + Sync>(
     end: u32,
     feed_fails_at: u32,
     drain_fails_at: u32,
-    workers: u32,
+    workers: usize,
 ) -> Outcome
     requires { (0 < workers) × (workers ≤ 16) }
 {
@@ -168,9 +248,16 @@ fn run_numbers<R: Threads + Sync>(
         is_in_order: true,
         fails_at: drain_fails_at,
     };
+    let mut scratches = [IDLE; 16];
     let mut jobs = [Number { value: 0 }; 32];
     let answer = match run_ordered(
-        rt, &AddOne, &mut feed, &mut drain, &OpenGate, &mut jobs, workers,
+        rt,
+        &ADD_ONE,
+        &mut feed,
+        &mut drain,
+        &OpenGate,
+        &mut scratches[..workers],
+        &mut jobs,
     ) {
         Ok(count) => Ok(count),
         Err(RunFault::Feed(place)) => Err(("feed", place)),
@@ -186,7 +273,7 @@ fn run_numbers<R: Threads + Sync>(
 
 #[test]
 fn every_number_of_workers_gives_one_answer(rt: HostRuntime) -> Result<(), Fail> {
-    // Numbers, where the feed and the drain fail, the answer, how many jobs were drained, how often the end was told.
+    // Numbers, where the feed and the drain fail, the answer, how many jobs were drained, how often the end was answered.
     let rows = [
         (0, NEVER, NEVER, Ok(0), 0, 1),
         (1, NEVER, NEVER, Ok(1), 1, 1),
@@ -213,7 +300,7 @@ fn every_number_of_workers_gives_one_answer(rt: HostRuntime) -> Result<(), Fail>
             is_in_order: true,
             ends: *ends,
         };
-        for workers in 1..17u32 {
+        for workers in 1..17usize {
             let given = run_numbers(&rt, *end, *feed_fails_at, *drain_fails_at, workers);
             assert_eq!(rt; given, wanted, "{end} numbers, {workers} workers");
         }

@@ -5,6 +5,7 @@ use Rattle.frame_crew.proofs.ordered.run_ordered.Given as goal
 abbrev pub invariant-loop-drained : goal.invariant-loop-drained
 invariant-loop-drained g l = record {
   shapes : All (λ job. g.W.Job.Slot.shape job ≡ g.W.FrameWork.shape l.work) l.jobs;
+  scratch_shapes : All (λ scratch. g.W.Scratch.Slot.shape scratch ≡ g.W.FrameWork.shape l.work) l.scratches;
   long : length l.jobs ≡ length l.initial.jobs;
   feed_shape : g.F.Feed.shape l.feed ≡ g.W.FrameWork.shape l.work;
   bound : g.F.Feed.bound l.feed + l.drained ≤ g.F.Feed.bound l.initial.feed;
