@@ -11,7 +11,7 @@ use Rattle.dsdiff_spec.specs.Faults.{◌otherwise◌}
 use Rattle.dsdiff_spec.specs.Parts.{in_prop, local}
 use Rattle.dsdiff_spec.specs.Rules.{local_fault, moved, type_fault, rate_fault, channels_fault, compression_fault}
 
-moved_none : (start : ℕ) (fault : Option FileFault) → moved start fault ≡ None → fault ≡ None
+pub moved_none : (start : ℕ) (fault : Option FileFault) → moved start fault ≡ None → fault ≡ None
 moved_none start None e = refl
 moved_none start (Some (Overrun place)) e = absurd cc
 moved_none start (Some fault) e = absurd cc

@@ -6,10 +6,10 @@ use Rattle.std.proofs.lemmas.List.{length-take, length-drop}
 use Rattle.dsdiff_spec.specs.Bytes.{bytes_at, number_at, ◌is◌, ◌above◌}
 use Rattle.dsdiff_spec.specs.Chunks.{Head, body_place, body_of}
 use Rattle.dsdiff_spec.specs.Faults.{◌when◌, ◌otherwise◌}
-use Rattle.dsdiff_spec.specs.Kept.{is_bad_kept, kept_version, bad_version_1, bad_version_2, outside}
+use Rattle.dsdiff_spec.specs.Origin.{is_bad_origin, origin_version, bad_version_1, bad_version_2, outside}
 use Rattle.dsdiff_spec.specs.declared.faults.FileFault.TheVariants.{FrameRate, TooManyFrames}
 use Rattle.dsdiff_chunks.specs.Opening.{coded_sound_fault, frte_fault}
-use Rattle.dsdiff_chunks.proofs.Places.{bytes_in_part, number_in_part}
+use Rattle.chunk_view.proofs.InParts.{bytes_in_part, number_in_part}
 
 pub told_in_part : (xs w : List ℕ) (place : ℕ) → w ≡ bytes_at xs place 18 → number_at w 12 4 ≡ number_at xs (place + 12) 4
 told_in_part xs w place at = ap (λ v. number_at v 12 4) at ∙ number_in_part xs place 18 12 4 (omega arith)
@@ -46,15 +46,15 @@ of_either false false x y p q = refl
 or_more : (t a b c d e : Bool) → t ≡ true → (t || a || b || c || d || e) ≡ true
 or_more t a b c d e q = rw q refl
 
-pub too_long_is_bad : (channels frame_bytes told : ℕ) (body : List ℕ) → 131086 < length body → is_bad_kept channels frame_bytes told body ≡ true
+pub too_long_is_bad : (channels frame_bytes told : ℕ) (body : List ℕ) → 131086 < length body → is_bad_origin channels frame_bytes told body ≡ true
 too_long_is_bad channels frame_bytes told body lt =
     let long_1 : nat_lt 65545 (length body) ≡ true = lt-ltb 65545 (length body) (omega arith) in
     let long_2 : nat_lt 131086 (length body) ≡ true = lt-ltb 131086 (length body) lt in
     let outside_1 : bad_version_1 body ≡ true = or_right (nat_lt (length body) 25) (nat_lt 65545 (length body)) long_1 in
     let outside_2 : outside 30 131086 (length body) ≡ true = or_right (nat_lt (length body) 30) (nat_lt 131086 (length body)) long_2 in
     let bad_2 : bad_version_2 body ≡ true = rw outside_2 refl in
-    let bad : (not (kept_version body == 1 || kept_version body == 2) || (kept_version body == 1 && bad_version_1 body) || (kept_version body == 2 && bad_version_2 body)) ≡ true =
-    of_either (kept_version body == 1) (kept_version body == 2) (bad_version_1 body) (bad_version_2 body) outside_1 bad_2 in
+    let bad : (not (origin_version body == 1 || origin_version body == 2) || (origin_version body == 1 && bad_version_1 body) || (origin_version body == 2 && bad_version_2 body)) ≡ true =
+    of_either (origin_version body == 1) (origin_version body == 2) (bad_version_1 body) (bad_version_2 body) outside_1 bad_2 in
     rw bad refl
 
 pub body_is_long : (xs : List ℕ) (h : Head) (n : ℕ) → n ≡ length xs → h.place + 12 + h.size ≤ n → length (body_of xs h) ≡ h.size

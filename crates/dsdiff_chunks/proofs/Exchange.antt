@@ -6,10 +6,10 @@ use Rattle.std.proofs.lemmas.List.{append-nil, length-append, length-drop, lengt
 use Rattle.byteorder.specs.Endian.{big_bytes}
 use Rattle.dsdiff_spec.specs.Bytes.{between, number_at}
 use Rattle.dsdiff_spec.specs.Chunks.{Head, next_place, the_first}
-use Rattle.dsdiff_spec.specs.Kept.{is_one_chunk}
+use Rattle.dsdiff_spec.specs.Origin.{is_one_chunk}
 use Rattle.dsdiff_spec.specs.Parts.{in_prop, local, cmpr_head}
 use Rattle.dsdiff_spec.specs.Written.{prop_with}
-use Rattle.dsdiff_chunks.specs.Lawful.{IsProp}
+use Rattle.dsdiff_chunks.specs.Lawful.{IsPropBody}
 use Rattle.dsdiff_chunks.proofs.Accepted.{is_whole}
 use Rattle.dsdiff_chunks.proofs.Chained.{are_chained, exchanged, is_even, IsExchanged, one_exchanged, part_before}
 
@@ -19,15 +19,15 @@ the_only [] e = absurd cc
 the_only (h ∷ []) e = refl
 the_only (h ∷ i ∷ hs) e = absurd (omega (arith, e))
 
-pub its_cmpr : (prop : List ℕ) → IsProp prop → local "CMPR" prop ≡ cmpr_head prop ∷ []
+pub its_cmpr : (prop : List ℕ) → IsPropBody prop → local "CMPR" prop ≡ cmpr_head prop ∷ []
 its_cmpr prop h = the_only (local "CMPR" prop) (is_whole 0 prop h.rules).one
 
-pub is_exchanged : (prop cmpr : List ℕ) → IsProp prop → IsExchanged prop cmpr 4 (cmpr_head prop) (exchanged prop cmpr (in_prop prop).heads)
+pub is_exchanged : (prop cmpr : List ℕ) → IsPropBody prop → IsExchanged prop cmpr 4 (cmpr_head prop) (exchanged prop cmpr (in_prop prop).heads)
 is_exchanged prop cmpr h =
     let whole = is_whole 0 prop h.rules in
     one_exchanged prop cmpr 4 (cmpr_head prop) (in_prop prop).heads (are_chained prop (length prop) 65536 4 whole.short whole.found) (its_cmpr prop h)
 
-pub is_even_prop : (prop : List ℕ) → IsProp prop → length prop % 2 ≡ 0
+pub is_even_prop : (prop : List ℕ) → IsPropBody prop → length prop % 2 ≡ 0
 is_even_prop prop h =
     let whole = is_whole 0 prop h.rules in
     is_even (length prop) 4 (in_prop prop).heads (are_chained prop (length prop) 65536 4 whole.short whole.found) refl
@@ -48,7 +48,7 @@ body_with prop cmpr = take (cmpr_head prop).place prop ++ (cmpr ++ drop (next_pl
 abbrev pub size_with : List ℕ → List ℕ → ℕ
 size_with prop cmpr = length prop - (next_place (cmpr_head prop) - (cmpr_head prop).place) + length cmpr
 
-body_is : (prop cmpr : List ℕ) → IsProp prop → codes "SND " ++ exchanged prop cmpr (in_prop prop).heads ≡ body_with prop cmpr
+body_is : (prop cmpr : List ℕ) → IsPropBody prop → codes "SND " ++ exchanged prop cmpr (in_prop prop).heads ≡ body_with prop cmpr
 body_is prop cmpr h =
     let x = is_exchanged prop cmpr h in
     let c = cmpr_head prop in
@@ -61,7 +61,7 @@ body_is prop cmpr h =
     ∙ ap (λ w. w ++ rest) (part_before prop 0 4 c.place four x.from)
     ∙ ap (λ n. take n prop ++ rest) all
 
-length_is : (prop cmpr : List ℕ) → IsProp prop → length (body_with prop cmpr) ≡ size_with prop cmpr
+length_is : (prop cmpr : List ℕ) → IsPropBody prop → length (body_with prop cmpr) ≡ size_with prop cmpr
 length_is prop cmpr h =
     let x = is_exchanged prop cmpr h in
     let c = cmpr_head prop in
@@ -78,7 +78,7 @@ even_size n place size cmpr inside p q = omega arith
 abbrev padded : List ℕ → ℕ → List ℕ
 padded body odd = codes "PROP" ++ big_bytes 8 (length body) ++ body ++ (if odd == 1 then 0 ∷ [] else [])
 
-pub prop_with_is : (prop cmpr : List ℕ) → IsProp prop → is_one_chunk "CMPR" cmpr ≡ true →
+pub prop_with_is : (prop cmpr : List ℕ) → IsPropBody prop → is_one_chunk "CMPR" cmpr ≡ true →
     prop_with prop cmpr ≡ (codes "PROP" ++ big_bytes 8 (size_with prop cmpr)) ++ body_with prop cmpr
 prop_with_is prop cmpr h one =
     let c = cmpr_head prop in
@@ -92,7 +92,7 @@ prop_with_is prop cmpr h one =
     ∙ ap (λ n. codes "PROP" ++ big_bytes 8 n ++ body) (length_is prop cmpr h)
 
 -- the pieces that are appended
-pub pieces_are : (prop cmpr : List ℕ) (place end : ℕ) (head : List ℕ) → IsProp prop → is_one_chunk "CMPR" cmpr ≡ true →
+pub pieces_are : (prop cmpr : List ℕ) (place end : ℕ) (head : List ℕ) → IsPropBody prop → is_one_chunk "CMPR" cmpr ≡ true →
     place ≡ (cmpr_head prop).place → end ≡ next_place (cmpr_head prop) →
     head ≡ codes "PROP" ++ big_bytes 8 (length prop - (end - place) + length cmpr) →
     head ++ (take place prop ++ (cmpr ++ (take (length prop - end) (drop end prop) ++ []))) ≡ prop_with prop cmpr

@@ -10,7 +10,7 @@ use Rattle.dsdiff_spec.specs.declared.faults.FileFault.{FileFault}
 use Rattle.dsdiff_spec.specs.declared.faults.FileFault.TheVariants.{NotForm, FormTooLarge, FormType, Overrun}
 use Rattle.dsdiff_chunks.specs.Opening.{head_fault}
 use Rattle.dsdiff_chunks.specs.Steps.{IsExtent}
-use Rattle.dsdiff_chunks.proofs.Places.{bytes_in_part, number_in_part}
+use Rattle.chunk_view.proofs.InParts.{bytes_in_part, number_in_part}
 
 pub too_short : (xs : List ℕ) → length xs < 16 → opening_fault xs ≡ Some NotForm
 too_short xs lt = let e = lt-ltb (length xs) 16 lt in rw e

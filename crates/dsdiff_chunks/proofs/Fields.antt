@@ -10,9 +10,10 @@ use Rattle.dsdiff_spec.specs.declared.faults.FileFault.TheVariants.{Rate, Channe
 use Rattle.dsdiff_spec.specs.Bytes.{bytes_at, number_at, ◌is◌, ◌below◌}
 use Rattle.dsdiff_spec.specs.Chunks.{Head, the_first, body_place, body_of}
 use Rattle.dsdiff_spec.specs.Faults.{◌when◌, ◌otherwise◌}
-use Rattle.dsdiff_spec.specs.Kept.{outside}
+use Rattle.dsdiff_spec.specs.Origin.{outside}
 use Rattle.dsdiff_spec.specs.Parts.{local, rate, channel_count}
 use Rattle.dsdiff_spec.specs.Rules.{is_rate, rate_fault, channels_fault, compression_fault}
+use Rattle.chunk_view.proofs.Reading.{big_from-drop}
 use Rattle.dsdiff_chunks.specs.Local.{is_bad_rate, is_bad_count, is_bad_compression}
 
 -- rules in order
@@ -29,23 +30,16 @@ both_here (Some x) b c f e = e
 both_here None b c f e = here b c f e
 
 -- ---- what is read of a chunk's body, and where it stands in the body of `PROP`
-big_from-behind : (k i n : ℕ) (xs : List ℕ) → big_from i n (drop k xs) ≡ big_from (k + i) n xs
-big_from-behind k i zero xs = refl
-big_from-behind k i (suc n) xs =
-    let byte = get_or-drop k xs i 0 in
-    let next : k + suc i ≡ suc (k + i) = omega arith in
-    rw (byte, big_from-behind k (suc i) n xs, next) refl
-
 -- the number behind so many bytes, as a slice of them shows it
 pub number_behind : (w : List ℕ) (k n : ℕ) → big_number n (take (length w - k) (drop k w)) ≡ number_at w k n
 number_behind w k n =
     ap (big_number n) (take_all (length w - k) (drop k w) (omega (arith, length-drop k w)))
-    ∙ big_from-behind k 0 n w
+    ∙ big_from-drop k 0 n w
     ∙ ap (λ i. big_from i n w) (add-zero k)
 
 pub number_there : (body v : List ℕ) (h : Head) (n : ℕ) → body_of body h ≡ v → n ≤ h.size → number_at body (body_place h) n ≡ big_number n v
 number_there body v h n e le =
-    sym (ap (λ w. big_from 0 n w) (sym e) ∙ big_from-take 0 n h.size (drop (body_place h) body) (omega arith) ∙ big_from-behind (body_place h) 0 n body ∙ ap (λ i. big_from i n body) (add-zero (body_place h)))
+    sym (ap (λ w. big_from 0 n w) (sym e) ∙ big_from-take 0 n h.size (drop (body_place h) body) (omega arith) ∙ big_from-drop (body_place h) 0 n body ∙ ap (λ i. big_from i n body) (add-zero (body_place h)))
 
 pub bytes_there : (body v : List ℕ) (h : Head) (n : ℕ) → body_of body h ≡ v → n ≤ h.size → bytes_at body (body_place h) n ≡ take n v
 bytes_there body v h n e le = sym (ap (take n) (sym e) ∙ take-take n h.size (drop (body_place h) body) le)

@@ -5,7 +5,6 @@ pub mod Fields
 pub mod Pieces
 pub mod Refused
 pub mod Views
-pub mod Places
 pub mod TopLevel
 pub mod Stopping
 pub mod Extents
@@ -14,3 +13,4 @@ pub mod Only
 pub mod CodedParts
 pub mod Chain
 pub mod Whole
+pub mod LawfulForms

@@ -5,8 +5,8 @@ use Rattle.std.proofs.lemmas.Bool.{and_from, and_left, and_right, cases_lt, eq-e
 use Rattle.std.proofs.lemmas.List.{length-drop, take_all}
 use Rattle.std.proofs.lemmas.Nat.{div-add-mod', div-mul-add}
 use Rattle.dsdiff_spec.specs.Bytes.{between, bytes_at, number_at, ◌is◌, ◌below◌, ◌above◌}
-use Rattle.dsdiff_spec.specs.Form.{Kept, frames_for}
-use Rattle.dsdiff_spec.specs.Kept.{kept_version, kept_bytes, kept_of, bad_version_2, is_bad_kept, is_one_chunk, outside}
+use Rattle.dsdiff_spec.specs.Form.{Origin, frames_for}
+use Rattle.dsdiff_spec.specs.Origin.{origin_version, kept_length, origin_of, bad_version_2, is_bad_origin, is_one_chunk, outside}
 use Rattle.dsdiff_chunks.specs.Parts.{is_bad_cmpr, is_bad_sound, is_bad_version}
 
 pub answered : (r t bad : Bool) → r ≡ t → bad ≡ not t → MatchBool r (bad ≡ false) (bad ≡ true)
@@ -35,46 +35,43 @@ whole_cmpr w long id large e =
     ∙ ap (λ b. b || not (bytes_at w 12 4 is "DSD ")) (le-ltb (number_at w 4 8) 4 large)
 
 -- ---- fields of version 2
-abbrev at_version : ℕ → List ℕ → Kept
+abbrev at_version : ℕ → List ℕ → Origin
 at_version v body =
     if v == 1 then record {
-      version = 1;
       sound = number_at body 1 8;
       pad = 0;
       cmpr = drop 9 body;
-      tail = [];
+      kept = [];
     }
     else record {
-      version = v;
       sound = number_at body 1 8;
       pad = get_or body 9 0;
-      cmpr = between body 14 (length body - kept_bytes body);
-      tail = drop (length body - kept_bytes body) body;
+      cmpr = between body 14 (length body - kept_length body);
+      kept = drop (length body - kept_length body) body;
     }
 
-abbrev pub kept_by : List ℕ → ℕ → List ℕ → List ℕ → Kept
-kept_by body sound cmpr tail = record { version = 2; sound = sound; pad = get_or body 9 0; cmpr = cmpr; tail = tail }
+abbrev pub kept_by : List ℕ → ℕ → List ℕ → List ℕ → Origin
+kept_by body sound cmpr tail = record { sound = sound; pad = get_or body 9 0; cmpr = cmpr; kept = tail }
 
-abbrev pub second : List ℕ → Kept
+abbrev pub second : List ℕ → Origin
 second body = record {
-  version = 2;
   sound = number_at body 1 8;
   pad = get_or body 9 0;
-  cmpr = between body 14 (length body - kept_bytes body);
-  tail = drop (length body - kept_bytes body) body;
+  cmpr = between body 14 (length body - kept_length body);
+  kept = drop (length body - kept_length body) body;
 }
 
-pub second_is : (body : List ℕ) → kept_version body ≡ 2 → kept_of body ≡ second body
+pub second_is : (body : List ℕ) → origin_version body ≡ 2 → origin_of body ≡ second body
 second_is body e = ap (λ v. at_version v body) e
 
 abbrev pub bad_second : ℕ → ℕ → ℕ → ℕ → Bool
 bad_second len kept sound pad =
     outside 30 131086 len || kept above 65536 || len above 65550 + kept || (sound % 2 == 0 && not (pad == 0))
 
-pub bad_second_is : (body : List ℕ) → kept_version body ≡ 2 →
-    bad_version_2 body ≡ bad_second (length body) (kept_bytes body) (number_at body 1 8) (get_or body 9 0)
+pub bad_second_is : (body : List ℕ) → origin_version body ≡ 2 →
+    bad_version_2 body ≡ bad_second (length body) (kept_length body) (number_at body 1 8) (get_or body 9 0)
 bad_second_is body e =
-    ap (λ k. outside 30 131086 (length body) || kept_bytes body above 65536 || length body above 65550 + kept_bytes body || (k.sound % 2 == 0 && not (k.pad == 0))) (second_is body e)
+    ap (λ k. outside 30 131086 (length body) || kept_length body above 65536 || length body above 65550 + kept_length body || (k.sound % 2 == 0 && not (k.pad == 0))) (second_is body e)
 
 pub long_tail : (len kept sound pad : ℕ) → 65536 < kept → bad_second len kept sound pad ≡ true
 long_tail len kept sound pad lt = or_left _ _ (or_left _ _ (or_right (outside 30 131086 len) (kept above 65536) (lt-ltb 65536 kept lt)))
@@ -110,13 +107,13 @@ same_second : (body : List ℕ) (sound s : ℕ) (cmpr w tail t : List ℕ) → s
     kept_by body sound cmpr tail ≡ kept_by body s w t
 same_second body sound s cmpr w tail t p q r = rw (p, q, r) refl
 
-pub parts_are : (body : List ℕ) (sound kept end low : ℕ) → kept_version body ≡ 2 → sound ≡ number_at body 1 8 → kept ≡ kept_bytes body →
+pub parts_are : (body : List ℕ) (sound kept end low : ℕ) → origin_version body ≡ 2 → sound ≡ number_at body 1 8 → kept ≡ kept_length body →
     end ≡ length body - kept → low ≡ min end 14 →
-    kept_by body sound (take (end - low) (drop low body)) (take (length body - end) (drop end body)) ≡ kept_of body
+    kept_by body sound (take (end - low) (drop low body)) (take (length body - end) (drop end body)) ≡ origin_of body
 parts_are body sound kept end low v s k e m =
-    let at : end ≡ length body - kept_bytes body = e ∙ ap (λ n. length body - n) k in
-    same_second body sound (number_at body 1 8) (take (end - low) (drop low body)) (between body 14 (length body - kept_bytes body))
-    (take (length body - end) (drop end body)) (drop (length body - kept_bytes body) body)
+    let at : end ≡ length body - kept_length body = e ∙ ap (λ n. length body - n) k in
+    same_second body sound (number_at body 1 8) (take (end - low) (drop low body)) (between body 14 (length body - kept_length body))
+    (take (length body - end) (drop end body)) (drop (length body - kept_length body) body)
     s
     (ap (λ n. take (end - n) (drop n body)) m ∙ cmpr_part body end ∙ ap (between body 14) at)
     (take_all (length body - end) (drop end body) (omega (arith, length-drop end body)) ∙ ap (λ n. drop n body) at)
@@ -153,17 +150,17 @@ regroup false false true c d e = refl
 regroup false false false true d e = refl
 regroup false false false false d e = refl
 
-pub kept_said : (channels frame_bytes told : ℕ) (body : List ℕ) (kept : Kept) → kept ≡ kept_of body →
-    is_bad_kept channels frame_bytes told body ≡ (is_bad_version body || is_bad_cmpr kept.cmpr || is_bad_sound channels frame_bytes told kept.sound)
-kept_said channels frame_bytes told body kept e =
-    regroup (is_bad_version body) (not (is_one_chunk "CMPR" (kept_of body).cmpr)) (number_at (kept_of body).cmpr 4 8 below 4) (not (bytes_at (kept_of body).cmpr 12 4 is "DSD "))
-    (not ((kept_of body).sound % channels == 0)) (not (frames_for frame_bytes (kept_of body).sound == told))
-    ∙ ap (λ k. is_bad_version body || is_bad_cmpr k.cmpr || is_bad_sound channels frame_bytes told k.sound) (sym e)
+pub origin_said : (channels bytes count : ℕ) (body : List ℕ) (origin : Origin) → origin ≡ origin_of body →
+    is_bad_origin channels bytes count body ≡ (is_bad_version body || is_bad_cmpr origin.cmpr || is_bad_sound channels bytes count origin.sound)
+origin_said channels bytes count body origin e =
+    regroup (is_bad_version body) (not (is_one_chunk "CMPR" (origin_of body).cmpr)) (number_at (origin_of body).cmpr 4 8 below 4) (not (bytes_at (origin_of body).cmpr 12 4 is "DSD "))
+    (not ((origin_of body).sound % channels == 0)) (not (frames_for bytes (origin_of body).sound == count))
+    ∙ ap (λ k. is_bad_version body || is_bad_cmpr k.cmpr || is_bad_sound channels bytes count k.sound) (sym e)
 
-pub first_refused : (channels frame_bytes told : ℕ) (body : List ℕ) → is_bad_version body ≡ true → is_bad_kept channels frame_bytes told body ≡ true
-first_refused channels frame_bytes told body e =
-    kept_said channels frame_bytes told body (kept_of body) refl
-    ∙ ap (λ b. b || is_bad_cmpr (kept_of body).cmpr || is_bad_sound channels frame_bytes told (kept_of body).sound) e
+pub first_refused : (channels bytes count : ℕ) (body : List ℕ) → is_bad_version body ≡ true → is_bad_origin channels bytes count body ≡ true
+first_refused channels bytes count body e =
+    origin_said channels bytes count body (origin_of body) refl
+    ∙ ap (λ b. b || is_bad_cmpr (origin_of body).cmpr || is_bad_sound channels bytes count (origin_of body).sound) e
 
 pub one_refused : (v a b : Bool) → (a ≡ true) ⊎ (b ≡ true) → (v || a || b) ≡ true
 one_refused v a b (inl e) = or_left (v || a) b (or_right v a e)
@@ -187,8 +184,8 @@ is_plain_cmpr w e =
       type = not-false (bytes_at w 12 4 is "DSD ") last.1;
     }
 
-pub sound_whole : (channels frame_bytes told sound : ℕ) → is_bad_sound channels frame_bytes told sound ≡ false → sound % channels ≡ 0
-sound_whole channels frame_bytes told sound e = eqb-true (sound % channels) 0 (not-false (sound % channels == 0) (or_parts _ _ e).0)
+pub sound_whole : (channels bytes count sound : ℕ) → is_bad_sound channels bytes count sound ≡ false → sound % channels ≡ 0
+sound_whole channels bytes count sound e = eqb-true (sound % channels) 0 (not-false (sound % channels == 0) (or_parts _ _ e).0)
 
-pub sound_frames : (channels frame_bytes told sound : ℕ) → is_bad_sound channels frame_bytes told sound ≡ false → frames_for frame_bytes sound ≡ told
-sound_frames channels frame_bytes told sound e = eqb-true (frames_for frame_bytes sound) told (not-false (frames_for frame_bytes sound == told) (or_parts _ _ e).1)
+pub sound_frames : (channels bytes count sound : ℕ) → is_bad_sound channels bytes count sound ≡ false → frames_for bytes sound ≡ count
+sound_frames channels bytes count sound e = eqb-true (frames_for bytes sound) count (not-false (frames_for bytes sound == count) (or_parts _ _ e).1)

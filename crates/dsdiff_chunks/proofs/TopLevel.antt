@@ -1,6 +1,6 @@
 -- The chunks of a form, one after the other.
 use Rattle.std.proofs.Common.{◌≡◌, ℕ, zero, suc, ◌<◌, ◌≤◌, List, [], ◌∷◌, ◌++◌, Bool, true, false, Some, None, refl, sym, ap, ◌∙◌, arith, append_assoc}
-use Rattle.std.specs.Prelude.{nat_lt, nat_le, if◌then◌else◌, not}
+use Rattle.std.specs.Prelude.{nat_lt, nat_le, if◌then◌else◌, ◌&&◌, not}
 use Rattle.std.specs.List.{Contains}
 use Rattle.std.proofs.lemmas.Bool.{le-ltb, lt-ltb, leb-true}
 use Rattle.dsdiff_spec.specs.Bytes.{◌is◌}
@@ -8,38 +8,19 @@ use Rattle.dsdiff_spec.specs.Chunks.{Head, Found, chunks_from, head_at, body_end
 use Rattle.dsdiff_spec.specs.Faults.{◌when◌}
 use Rattle.dsdiff_spec.specs.declared.faults.FileFault.{FileFault}
 use Rattle.dsdiff_spec.specs.declared.faults.FileFault.TheVariants.{Overrun, TooManyChunks}
+use Rattle.dsdiff_spec.proofs.Steps.{at_fit, at_head, opened, none_is_asked}
+use Rattle.dst_spec.proofs.Lists.{both_true}
 use Rattle.dsdiff_chunks.specs.Lawful.{TileTo}
 use Rattle.dsdiff_chunks.specs.Opening.{may_lack_pad}
-use Rattle.dst_spec.proofs.Lists.{both_true as both_hold}
 
 -- chunks that were found, in front of those found from the next place on
 abbrev pub in_front : List Head → Found → Found
 in_front heads later = record { heads = heads ++ later.heads; fault = later.fault }
 
-abbrev at_fit : Bool → ℕ → Head → Found → Found
-at_fit b place h later =
-    elim b [ false ↦ record { heads = []; fault = Some (Overrun place) } | true ↦ in_front (h ∷ []) later ]
-
-abbrev at_head : Bool → (List ℕ → Bool) → List ℕ → ℕ → ℕ → ℕ → Head → Found
-at_head b m file end most place h = elim b [
-  | false ↦ record { heads = []; fault = None }
-  | true ↦ at_fit (fits m end h) place h (chunks_from m file end most (next_place h))
-]
-
-opened : (m : List ℕ → Bool) (file : List ℕ) (end most place : ℕ) →
-    chunks_from m file end (suc most) place ≡ at_head (nat_lt place end) m file end most place (head_at file place)
-unfolding chunks_from
-opened m file end most place = refl
-
-none_asked : (m : List ℕ → Bool) (file : List ℕ) (end place : ℕ) →
-    chunks_from m file end zero place ≡ record { heads = []; fault = if nat_lt place end then Some TooManyChunks else None }
-unfolding chunks_from
-none_asked m file end place = refl
-
 pub nothing_left : (m : List ℕ → Bool) (file : List ℕ) (end most place : ℕ) → end ≤ place →
     chunks_from m file end most place ≡ record { heads = []; fault = None }
 nothing_left m file end zero place le =
-    none_asked m file end place
+    none_is_asked m file end place
     ∙ ap {A = Bool} {B = Found} (λ b. record { heads = []; fault = if b then Some TooManyChunks else None }) (le-ltb place end le)
 nothing_left m file end (suc most) place le =
     opened m file end most place ∙ ap (λ b. at_head b m file end most place (head_at file place)) (le-ltb place end le)
@@ -47,7 +28,7 @@ nothing_left m file end (suc most) place le =
 pub too_many : (m : List ℕ → Bool) (file : List ℕ) (end place : ℕ) → place < end →
     chunks_from m file end zero place ≡ record { heads = []; fault = Some TooManyChunks }
 too_many m file end place lt =
-    none_asked m file end place
+    none_is_asked m file end place
     ∙ ap {A = Bool} {B = Found} (λ b. record { heads = []; fault = if b then Some TooManyChunks else None }) (lt-ltb place end lt)
 
 at_fit_of : (m : List ℕ → Bool) (file : List ℕ) (end most place : ℕ) (h : Head) (b : Bool) → place < end → head_at file place ≡ h → fits m end h ≡ b →
@@ -108,7 +89,7 @@ overrun_found m file end most place heads all f before lt refused =
 
 -- where a chunk fits, its body lies before the end, and its pad byte at most one byte behind
 pub body_fits : (end : ℕ) (h : Head) → fits may_lack_pad end h ≡ true → body_end h ≤ end
-body_fits end h e = at (h.id is "DSD ") (both_hold _ _ e).1
+body_fits end h e = at (h.id is "DSD ") (both_true _ _ e).1
   where
     at : (b : Bool) → nat_le (if not b then body_end h else next_place h) end ≡ true → body_end h ≤ end
     at true e = let le : next_place h ≤ end = leb-true (next_place h) end e in omega arith

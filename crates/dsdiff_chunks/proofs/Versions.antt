@@ -7,7 +7,7 @@ use Rattle.dsdiff_spec.specs.Bytes.{bytes_at, ◌is◌}
 use Rattle.dsdiff_spec.specs.Chunks.{Head, the_first, body_place, body_end}
 use Rattle.dsdiff_spec.specs.Faults.{◌when◌}
 use Rattle.dsdiff_spec.specs.declared.faults.FileFault.TheVariants.{Version}
-use Rattle.dsdiff_chunks.specs.declared.form.ChunkHead.{ChunkHead}
+use Rattle.dsdiff_chunks.specs.declared.lists.ChunkHead.{ChunkHead}
 use Rattle.dsdiff_chunks.specs.Lawful.{TileTo}
 use Rattle.dsdiff_chunks.specs.Opening.{first_fault}
 use Rattle.dsdiff_chunks.specs.Seen.{head_seen}

@@ -8,7 +8,7 @@ use Rattle.dsdiff_spec.specs.declared.faults.FileFault.TheVariants.{Overrun}
 use Rattle.chunk_view.specs.Placed.{PlacedChunk, AreFoundWherever, OverrunsWherever, StandsIn, head_behind, heads_behind}
 use Rattle.chunk_view.specs.Seen.{seen}
 use Rattle.chunk_view.specs.declared.view.ChunkView.{ChunkView}
-use Rattle.dsdiff_chunks.specs.Lawful.{IsProp}
+use Rattle.dsdiff_chunks.specs.Lawful.{IsPropBody}
 use Rattle.dsdiff_chunks.proofs.Exchange.{is_exchanged}
 
 -- what stands behind `SND `
@@ -71,7 +71,7 @@ one_view id body chunks view least most found one =
 pub cmpr_is : (body : List ℕ) (view : ChunkView) → local "CMPR" body ≡ head_behind 4 (seen view) ∷ [] → cmpr_head body ≡ head_behind 4 (seen view)
 cmpr_is body view one = ap the_first one
 
-pub cmpr_inside : (body : List ℕ) (view : ChunkView) → IsProp body → local "CMPR" body ≡ head_behind 4 (seen view) ∷ [] →
+pub cmpr_inside : (body : List ℕ) (view : ChunkView) → IsPropBody body → local "CMPR" body ≡ head_behind 4 (seen view) ∷ [] →
     next_place (head_behind 4 (seen view)) ≤ length body
 cmpr_inside body view h one =
     let inside : next_place (cmpr_head body) ≤ length body = (is_exchanged body [] h).inside in

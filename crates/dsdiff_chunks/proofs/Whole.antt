@@ -8,15 +8,16 @@ use Rattle.dst_spec.specs.Sample.{Shape, sound_bytes}
 use Rattle.dsdiff_spec.specs.Bytes.{bytes_at, number_at, ◌is◌, ◌below◌, ◌above◌}
 use Rattle.dsdiff_spec.specs.Chunks.{Head, named, the_first, body_place, next_place, fits}
 use Rattle.dsdiff_spec.specs.Faults.{◌when◌, ◌otherwise◌}
-use Rattle.dsdiff_spec.specs.Form.{Form, Kind, Kept, plain, coded, shape_of, frames_for}
-use Rattle.dsdiff_spec.specs.Parts.{form_size, form_end, top_level, prop_head, prop, in_prop, sound_head, channel_count, multiple, bytes_of_frame, frames_needed, tail, told, frame_rate}
-use Rattle.dsdiff_spec.specs.Rules.{moved, type_fault, rate_fault, channels_fault, compression_fault, local_fault, room_fault, plain_fault, coded_fault, is_frte, has_bad_kept}
+use Rattle.dsdiff_spec.specs.Form.{Form, Kind, Origin, plain, coded, shape_of, frames_for}
+use Rattle.dsdiff_spec.specs.Parts.{form_size, form_end, top_level, prop_head, prop, in_prop, sound_head, channel_count, multiple, sound_bytes_in, frames_needed, behind_form, frame_count, frame_rate}
+use Rattle.dsdiff_spec.specs.Rules.{moved, type_fault, rate_fault, channels_fault, compression_fault, local_fault, room_fault, plain_fault, coded_fault, is_frte, has_bad_origin}
 use Rattle.dsdiff_spec.specs.declared.faults.FileFault.{FileFault}
 use Rattle.dsdiff_spec.specs.declared.faults.FileFault.TheVariants.{Overrun, SoundUneven, TooManyFrames, CodedChunk, TailTooLong, FrameRate, KeptBad}
-use Rattle.dsdiff_chunks.specs.Opening.{may_lack_pad, plain_parts_fault, space_fault, is_of_coded, coded_sound_fault, are_bad_kepts}
+use Rattle.dsdiff_chunks.proofs.Accepted.{moved_none}
+use Rattle.dsdiff_chunks.specs.Opening.{may_lack_pad, plain_parts_fault, space_fault, is_of_coded, coded_sound_fault, are_bad_origins}
 
 -- ---- forms with equal parts are equal
-abbrev made : Kind → ℕ → ℕ → ℕ → List Head → List ℕ → Head → ℕ → Option Kept → ℕ → List ℕ → Form
+abbrev made : Kind → ℕ → ℕ → ℕ → List Head → List ℕ → Head → ℕ → Option Origin → ℕ → List ℕ → Form
 made k c m e hs p s n o b t = record {
   kind = k;
   channels = c;
@@ -26,22 +27,22 @@ made k c m e hs p s n o b t = record {
   prop = p;
   sound = s;
   frames = n;
-  kept = o;
+  origin = o;
   pad = b;
-  tail = t;
+  behind = t;
 }
 
-same_made : (k k' : Kind) (c c' m m' e e' : ℕ) (hs hs' : List Head) (p p' : List ℕ) (s s' : Head) (n n' : ℕ) (o o' : Option Kept) (b b' : ℕ) (t t' : List ℕ) →
+same_made : (k k' : Kind) (c c' m m' e e' : ℕ) (hs hs' : List Head) (p p' : List ℕ) (s s' : Head) (n n' : ℕ) (o o' : Option Origin) (b b' : ℕ) (t t' : List ℕ) →
     k ≡ k' → c ≡ c' → m ≡ m' → e ≡ e' → hs ≡ hs' → p ≡ p' → s ≡ s' → n ≡ n' → o ≡ o' → b ≡ b' → t ≡ t' →
     made k c m e hs p s n o b t ≡ made k' c' m' e' hs' p' s' n' o' b' t'
 same_made k k' c c' m m' e e' hs hs' p p' s s' n n' o o' b b' t t' a1 a2 a3 a4 a5 a6 a7 a8 a9 a10 a11 =
     rw (a1, a2, a3, a4, a5, a6, a7, a8, a9, a10, a11) refl
 
 pub same_form : (f g : Form) → f.kind ≡ g.kind → f.channels ≡ g.channels → f.multiple ≡ g.multiple → f.end ≡ g.end → f.chunks ≡ g.chunks →
-    f.prop ≡ g.prop → f.sound ≡ g.sound → f.frames ≡ g.frames → f.kept ≡ g.kept → f.pad ≡ g.pad → f.tail ≡ g.tail → f ≡ g
+    f.prop ≡ g.prop → f.sound ≡ g.sound → f.frames ≡ g.frames → f.origin ≡ g.origin → f.pad ≡ g.pad → f.behind ≡ g.behind → f ≡ g
 same_form f g a1 a2 a3 a4 a5 a6 a7 a8 a9 a10 a11 =
     same_made f.kind g.kind f.channels g.channels f.multiple g.multiple f.end g.end f.chunks g.chunks f.prop g.prop f.sound g.sound
-    f.frames g.frames f.kept g.kept f.pad g.pad f.tail g.tail a1 a2 a3 a4 a5 a6 a7 a8 a9 a10 a11
+    f.frames g.frames f.origin g.origin f.pad g.pad f.behind g.behind a1 a2 a3 a4 a5 a6 a7 a8 a9 a10 a11
 
 -- ---- the shape of a frame
 pub multiple_back : (s : Shape) (c m : ℕ) → s ≡ shape_of c m → s.octets / 4704 ≡ m
@@ -51,18 +52,13 @@ pub shape_back : (s : Shape) (c m : ℕ) → s ≡ shape_of c m → shape_of s.c
 shape_back s c m e =
     ap (λ n. shape_of s.channels n) (multiple_back s c m e) ∙ ap (λ t. shape_of t.channels m) e ∙ sym e
 
-pub frame_bytes_of : (xs body : List ℕ) (s : Shape) → prop xs ≡ body → s ≡ shape_of (channel_count body) (multiple body) → bytes_of_frame (prop xs) ≡ sound_bytes s
-frame_bytes_of xs body s e is_shape = ap bytes_of_frame e ∙ sym (ap sound_bytes is_shape)
+pub frame_bytes_of : (xs body : List ℕ) (s : Shape) → prop xs ≡ body → s ≡ shape_of (channel_count body) (multiple body) → sound_bytes_in (prop xs) ≡ sound_bytes s
+frame_bytes_of xs body s e is_shape = ap sound_bytes_in e ∙ sym (ap sound_bytes is_shape)
 
 pub channels_of : (xs body : List ℕ) (s : Shape) → prop xs ≡ body → s ≡ shape_of (channel_count body) (multiple body) → channel_count (prop xs) ≡ s.channels
 channels_of xs body s e is_shape = ap channel_count e ∙ sym (ap (λ t. t.channels) is_shape)
 
 -- ---- where the body of `PROP` begins changes no fault into none
-moved_none : (start : ℕ) (m : Option FileFault) → moved start m ≡ None → m ≡ None
-moved_none start None e = refl
-moved_none start (Some (Overrun place)) e = absurd cc
-moved_none start (Some fault) e = absurd cc
-
 anywhere : (start : ℕ) (t m r : Option FileFault) → (t otherwise moved start m otherwise r) ≡ None → (t otherwise moved 0 m otherwise r) ≡ None
 anywhere start (Some f) m r e = absurd cc
 anywhere start None m r e = at (moved start m) refl e
@@ -89,12 +85,12 @@ next_fits end h fit id = leb-true (next_place h) end (at (h.id is "DSD ") id (an
 
 -- ---- the rules on a plain form
 abbrev plain_by : List Head → ℕ → ℕ → ℕ → ℕ → ℕ → ℕ → Option FileFault
-plain_by heads prop_size sound_size channels frame_bytes size length_of_tail =
+plain_by heads prop_size sound_size channels frame_bytes size length_behind =
     SoundUneven when not (sound_size % channels == 0)
     otherwise TooManyFrames when frames_for frame_bytes sound_size above 1000000
     otherwise CodedChunk (the_first (filter is_of_coded heads)).place when not (length (filter is_of_coded heads) == 0)
     otherwise room_fault (length heads) prop_size size
-    otherwise TailTooLong length_of_tail when length_of_tail above 65536
+    otherwise TailTooLong length_behind when length_behind above 65536
 
 same_plain_by : (hs hs' : List Head) (a a' b b' c c' d d' e e' f f' : ℕ) → hs ≡ hs' → a ≡ a' → b ≡ b' → c ≡ c' → d ≡ d' → e ≡ e' → f ≡ f' →
     plain_by hs a b c d e f ≡ plain_by hs' a' b' c' d' e' f'
@@ -110,10 +106,10 @@ pub plain_by_parts : (xs body : List ℕ) (heads : List Head) (prop_is sound : H
     plain_fault xs ≡ plain_parts_fault size end heads prop_is.size sound.size s.channels (sound_bytes s)
 plain_by_parts xs body heads prop_is sound s size end long ends top p b snd is_shape =
     let size_is : form_size xs ≡ end - 12 = omega (arith, ends) in
-    let tail_is : length (tail xs) ≡ size - end = omega (arith, ends, long, length-drop (form_end xs) xs) in
+    let behind_is : length (behind_form xs) ≡ size - end = omega (arith, ends, long, length-drop (form_end xs) xs) in
     same_plain_by (top_level xs).heads heads (prop_head xs).size prop_is.size (sound_head xs).size sound.size (channel_count (prop xs)) s.channels
-    (bytes_of_frame (prop xs)) (sound_bytes s) (form_size xs) (end - 12) (length (tail xs)) (size - end)
-    top (ap (λ h. h.size) p) (ap (λ h. h.size) snd) (channels_of xs body s b is_shape) (frame_bytes_of xs body s b is_shape) size_is tail_is
+    (sound_bytes_in (prop xs)) (sound_bytes s) (form_size xs) (end - 12) (length (behind_form xs)) (size - end)
+    top (ap (λ h. h.size) p) (ap (λ h. h.size) snd) (channels_of xs body s b is_shape) (frame_bytes_of xs body s b is_shape) size_is behind_is
     ∙ two_and_more (SoundUneven when not (sound.size % s.channels == 0)) (TooManyFrames when frames_for (sound_bytes s) sound.size above 1000000)
     (space_fault size end heads prop_is.size)
 
@@ -122,39 +118,39 @@ pub plain_frames : (xs body : List ℕ) (sound : Head) (s : Shape) → prop xs �
 plain_frames xs body sound s b snd is_shape =
     ap (λ n. frames_for n (sound_head xs).size) (frame_bytes_of xs body s b is_shape) ∙ ap (λ h. frames_for (sound_bytes s) h.size) snd
 
-pub tail_by_parts : (xs : List ℕ) (size end : ℕ) → length xs ≡ size → form_end xs ≡ end → tail xs ≡ bytes_at xs end (size - end)
-tail_by_parts xs size end long ends =
+pub behind_by_parts : (xs : List ℕ) (size end : ℕ) → length xs ≡ size → form_end xs ≡ end → behind_form xs ≡ bytes_at xs end (size - end)
+behind_by_parts xs size end long ends =
     ap (λ n. drop n xs) ends ∙ sym (take_all (size - end) (drop end xs) (omega (arith, long, length-drop end xs)))
 
 -- ---- the rules on a coded form
 abbrev kept_rule : List ℕ → List ℕ → ℕ → List Head → Option FileFault
-kept_rule xs body n heads = KeptBad when are_bad_kepts (channel_count body) (bytes_of_frame body) n xs (named "KEPT" heads)
+kept_rule xs body n heads = KeptBad when are_bad_origins (channel_count body) (sound_bytes_in body) n xs (named "KEPT" heads)
 
-coded_in_two : (xs : List ℕ) → coded_fault xs ≡ coded_sound_fault xs (sound_head xs) otherwise kept_rule xs (prop xs) (told xs) (top_level xs).heads
+coded_in_two : (xs : List ℕ) → coded_fault xs ≡ coded_sound_fault xs (sound_head xs) otherwise kept_rule xs (prop xs) (frame_count xs) (top_level xs).heads
 coded_in_two xs =
     two_and_more
     (FrameRate when (sound_head xs).size below 18 || not (is_frte xs (body_place (sound_head xs))) || not (frame_rate xs == 75))
-    (TooManyFrames when told xs above 1000000)
-    (KeptBad when has_bad_kept xs)
+    (TooManyFrames when frame_count xs above 1000000)
+    (KeptBad when has_bad_origin xs)
 
 pub coded_at_sound : (xs : List ℕ) (sound : Head) (f : FileFault) → sound_head xs ≡ sound → coded_sound_fault xs sound ≡ Some f → coded_fault xs ≡ Some f
 coded_at_sound xs sound f snd e =
     coded_in_two xs
-    ∙ ap (λ h. coded_sound_fault xs h otherwise kept_rule xs (prop xs) (told xs) (top_level xs).heads) snd
-    ∙ ap (λ o. o otherwise kept_rule xs (prop xs) (told xs) (top_level xs).heads) e
+    ∙ ap (λ h. coded_sound_fault xs h otherwise kept_rule xs (prop xs) (frame_count xs) (top_level xs).heads) snd
+    ∙ ap (λ o. o otherwise kept_rule xs (prop xs) (frame_count xs) (top_level xs).heads) e
 
-pub told_by_parts : (xs : List ℕ) (sound : Head) (n : ℕ) → sound_head xs ≡ sound → n ≡ number_at xs (sound.place + 12 + 12) 4 → told xs ≡ n
-told_by_parts xs sound n snd e = ap (λ h. number_at xs (h.place + 12 + 12) 4) snd ∙ sym e
+pub count_by_parts : (xs : List ℕ) (sound : Head) (n : ℕ) → sound_head xs ≡ sound → n ≡ number_at xs (sound.place + 12 + 12) 4 → frame_count xs ≡ n
+count_by_parts xs sound n snd e = ap (λ h. number_at xs (h.place + 12 + 12) 4) snd ∙ sym e
 
 pub coded_past_sound : (xs body : List ℕ) (heads : List Head) (sound : Head) (s : Shape) (n : ℕ) →
     (top_level xs).heads ≡ heads → prop xs ≡ body → sound_head xs ≡ sound → s ≡ shape_of (channel_count body) (multiple body) →
     n ≡ number_at xs (sound.place + 12 + 12) 4 → coded_sound_fault xs sound ≡ None →
-    coded_fault xs ≡ (KeptBad when are_bad_kepts s.channels (sound_bytes s) n xs (named "KEPT" heads))
-coded_past_sound xs body heads sound s n top b snd is_shape is_told e =
+    coded_fault xs ≡ (KeptBad when are_bad_origins s.channels (sound_bytes s) n xs (named "KEPT" heads))
+coded_past_sound xs body heads sound s n top b snd is_shape is_count e =
     coded_in_two xs
-    ∙ ap (λ h. coded_sound_fault xs h otherwise kept_rule xs (prop xs) (told xs) (top_level xs).heads) snd
-    ∙ ap (λ o. o otherwise kept_rule xs (prop xs) (told xs) (top_level xs).heads) e
-    ∙ ap (λ c. KeptBad when are_bad_kepts c (bytes_of_frame (prop xs)) (told xs) xs (named "KEPT" (top_level xs).heads)) (channels_of xs body s b is_shape)
-    ∙ ap (λ c. KeptBad when are_bad_kepts s.channels c (told xs) xs (named "KEPT" (top_level xs).heads)) (frame_bytes_of xs body s b is_shape)
-    ∙ ap (λ m. KeptBad when are_bad_kepts s.channels (sound_bytes s) m xs (named "KEPT" (top_level xs).heads)) (told_by_parts xs sound n snd is_told)
-    ∙ ap (λ hs. KeptBad when are_bad_kepts s.channels (sound_bytes s) n xs (named "KEPT" hs)) top
+    ∙ ap (λ h. coded_sound_fault xs h otherwise kept_rule xs (prop xs) (frame_count xs) (top_level xs).heads) snd
+    ∙ ap (λ o. o otherwise kept_rule xs (prop xs) (frame_count xs) (top_level xs).heads) e
+    ∙ ap (λ c. KeptBad when are_bad_origins c (sound_bytes_in (prop xs)) (frame_count xs) xs (named "KEPT" (top_level xs).heads)) (channels_of xs body s b is_shape)
+    ∙ ap (λ c. KeptBad when are_bad_origins s.channels c (frame_count xs) xs (named "KEPT" (top_level xs).heads)) (frame_bytes_of xs body s b is_shape)
+    ∙ ap (λ m. KeptBad when are_bad_origins s.channels (sound_bytes s) m xs (named "KEPT" (top_level xs).heads)) (count_by_parts xs sound n snd is_count)
+    ∙ ap (λ hs. KeptBad when are_bad_origins s.channels (sound_bytes s) n xs (named "KEPT" hs)) top

@@ -1,4 +1,6 @@
 pub mod Seen
+pub mod Forms
+pub mod Kinds
 pub mod Lawful
 pub mod Local
 pub mod Parts

@@ -2,7 +2,7 @@
 use Rattle.std.specs.Prelude.{ℕ, ◌+◌, ◌*◌, Bool, not, ◌||◌, ◌==◌, List, length, take}
 use Rattle.byteorder.specs.Endian.{big_number}
 use Rattle.dsdiff_spec.specs.Bytes.{◌is◌, ◌below◌}
-use Rattle.dsdiff_spec.specs.Kept.{outside}
+use Rattle.dsdiff_spec.specs.Origin.{outside}
 use Rattle.dsdiff_spec.specs.Rules.{is_rate}
 
 -- of `FS  `: it is one of the three rates

@@ -5,7 +5,7 @@ use Rattle.dsdiff_spec.specs.Bytes.{bytes_at, number_at, ◌is◌, ◌below◌, 
 use Rattle.dsdiff_spec.specs.Faults.{◌when◌, ◌otherwise◌}
 use Rattle.dsdiff_spec.specs.Chunks.{Head, the_first, body_place, body_of}
 use Rattle.dsdiff_spec.specs.Form.{frames_for}
-use Rattle.dsdiff_spec.specs.Kept.{is_bad_kept}
+use Rattle.dsdiff_spec.specs.Origin.{is_bad_origin}
 use Rattle.dsdiff_spec.specs.Parts.{form_size, form_end}
 use Rattle.dsdiff_spec.specs.Rules.{is_version, is_frte, room_fault}
 use Rattle.dsdiff_spec.specs.declared.faults.FileFault.{FileFault}
@@ -96,9 +96,9 @@ coded_sound_fault file sound =
     otherwise TooManyFrames when number_at file (body_place sound + 12) 4 above 1000000
 
 -- on the chunks `KEPT` of a file
-abbrev pub are_bad_kepts : ℕ → ℕ → ℕ → List ℕ → List Head → Bool
-are_bad_kepts channels frame_bytes told file kepts = elim kepts [
+abbrev pub are_bad_origins : ℕ → ℕ → ℕ → List ℕ → List Head → Bool
+are_bad_origins channels bytes count file kepts = elim kepts [
   | [] ↦ false
-  | h ∷ [] ↦ is_bad_kept channels frame_bytes told (body_of file h)
+  | h ∷ [] ↦ is_bad_origin channels bytes count (body_of file h)
   | h ∷ i ∷ hs ↦ true
 ]

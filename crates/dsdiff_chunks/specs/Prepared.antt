@@ -5,7 +5,8 @@ use Rattle.dsdiff_spec.specs.Form.{shape_of}
 use Rattle.dsdiff_spec.specs.Parts.{form_end, top_level, prop_head, prop, sound_head, channel_count, multiple, kind}
 use Rattle.dsdiff_spec.specs.Rules.{local_fault, kind_fault, form_fault}
 use Rattle.dsdiff_chunks.specs.declared.build.Parts.{Parts}
-use Rattle.dsdiff_chunks.specs.Seen.{head_seen, kind_seen}
+use Rattle.dsdiff_chunks.specs.Seen.{head_seen}
+use Rattle.dsdiff_chunks.specs.Kinds.{kind_seen}
 use Rattle.dsdiff_chunks.specs.Steps.{AreChunks, IsTheSound}
 
 abbrev pub heads_of : Parts → List Head

@@ -1,34 +1,45 @@
 -- What the values of this crate are in the definitions of files.
-use Rattle.std.specs.Prelude.{◌/◌, map, option_map}
+use Rattle.std.specs.Prelude.{ℕ, ◌/◌, List, [], map, Option, None, option_map}
+use Rattle.dst_spec.specs.Sample.{Shape}
 use Rattle.dsdiff_spec.specs.Chunks.{Head}
 use Rattle.dsdiff_spec.specs.Form as files
-use Rattle.dsdiff_chunks.specs.declared.form.ChunkHead.{ChunkHead}
-use Rattle.dsdiff_chunks.specs.declared.form.Kind.{Kind}
-use Rattle.dsdiff_chunks.specs.declared.form.Kind.TheVariants.{Plain, Coded}
-use Rattle.dsdiff_chunks.specs.declared.form.Kept.{Kept}
-use Rattle.dsdiff_chunks.specs.declared.form.Form.{Form}
-
-abbrev pub kind_seen : Kind → files.Kind
-kind_seen Plain = files.plain
-kind_seen Coded = files.coded
+use Rattle.dsdiff_chunks.specs.declared.lists.ChunkHead.{ChunkHead}
+use Rattle.dsdiff_chunks.specs.declared.origin.Origin.{Origin}
 
 abbrev pub head_seen : ChunkHead → Head
 head_seen h = record { id = h.id; place = h.place; size = h.size }
 
-abbrev pub kept_seen : Kept → files.Kept
-kept_seen k = record { version = k.version; sound = k.sound; pad = k.pad; cmpr = k.cmpr; tail = k.tail }
+abbrev pub origin_seen : Origin → files.Origin
+origin_seen o = record { sound = o.sound; pad = o.pad; cmpr = o.cmpr; kept = o.kept }
 
-abbrev pub form_seen : Form → files.Form
-form_seen f = record {
-  kind = kind_seen f.kind;
-  channels = f.channels.channels;
-  multiple = f.channels.octets / 4704;
-  end = f.end;
-  chunks = map head_seen f.chunks;
-  prop = f.prop;
-  sound = head_seen f.sound;
-  frames = f.frames;
-  kept = option_map kept_seen f.kept;
-  pad = f.pad;
-  tail = f.tail;
+-- a plain form, by what it has
+abbrev pub form_of_plain : Shape → ℕ → List ChunkHead → List ℕ → ChunkHead → ℕ → ℕ → List ℕ → files.Form
+form_of_plain shape end heads prop sound frames pad behind = record {
+  kind = files.plain;
+  channels = shape.channels;
+  multiple = shape.octets / 4704;
+  end = end;
+  chunks = map head_seen heads;
+  prop = prop;
+  sound = head_seen sound;
+  frames = frames;
+  origin = None;
+  pad = pad;
+  behind = behind;
+}
+
+-- a coded form, by what it has
+abbrev pub form_of_coded : Shape → ℕ → List ChunkHead → List ℕ → ChunkHead → ℕ → Option Origin → files.Form
+form_of_coded shape end heads prop sound frames origin = record {
+  kind = files.coded;
+  channels = shape.channels;
+  multiple = shape.octets / 4704;
+  end = end;
+  chunks = map head_seen heads;
+  prop = prop;
+  sound = head_seen sound;
+  frames = frames;
+  origin = option_map origin_seen origin;
+  pad = 0;
+  behind = [];
 }

@@ -33,7 +33,7 @@ pub record AreChunks (bytes : Option (List ℕ)) (known : Option ℕ) (size end 
   pub whole : All (λ h. fits may_lack_pad end h ≡ true) heads
   pub told : (xs : List ℕ) → bytes ≡ Some xs → IsOpened xs size end heads
 
--- the one sound chunk of some chunks, which has the told type and stands behind `PROP`
+-- the one sound chunk of some chunks, which has the type in `PROP` and stands behind `PROP`
 pub record IsTheSound (heads : List Head) (prop_place : ℕ) (type : List ℕ) (kind : Kind) (sound : Head) : Type 0 where
   pub found : filter is_sound heads ≡ sound ∷ []
   pub same : bytes_eq type sound.id ≡ true

@@ -1,16 +1,14 @@
 // From the parts of a form to the form.
 ghost use Rattle.std.specs.Prelude.{◌≡◌, ℕ, ◌+◌, ◌≤◌, List, Some, Ok, IfOk, IfErr};
-ghost use Rattle.dsdiff_spec.specs.Form.{shape};
 ghost use Rattle.dsdiff_spec.specs.Rules.{form, form_fault};
-ghost use Rattle.dsdiff_chunks.specs.Lawful.{IsLawful};
 ghost use Rattle.dsdiff_chunks.specs.Opening.{Reads, Stops};
 ghost use Rattle.dsdiff_chunks.specs.Prepared.{AreParts};
-ghost use Rattle.dsdiff_chunks.specs.Seen.{form_seen};
+ghost use Rattle.dsdiff_chunks.specs.Forms.{coded_seen, end_of, form_seen, plain_seen};
 
-use crate::coded::{read_any_kept, read_frte};
-use crate::common::{Prop, Sound, check_version, find_prop, find_sound, read_body_of_prop};
-use crate::form::{ChunkHead, Form, Kind};
-use crate::lists::{Heads, Octets};
+use crate::coded::{read_any_origin, read_frte};
+use crate::common::{Kind, Prop, Sound, check_version, find_prop, find_sound, read_body_of_prop};
+use crate::form::{CodedForm, Form, PlainForm};
+use crate::lists::{ChunkHead, Heads, Octets};
 use crate::open::OpenFault;
 use crate::plain::{PlainParts, read_plain};
 use crate::top::{Chunks, read_chunks};
@@ -65,14 +63,12 @@ pub fn read_parts<S: Source>(alloc: Global, source: &mut S) -> Result<Parts, Ope
 }
 
 /// A plain form, of its parts.
-pub fn plain_form<S: Source>(alloc: Global, source: &mut S, parts: Parts) -> Result<Form, OpenFault>
+pub fn plain_form<S: Source>(alloc: Global, source: &mut S, parts: Parts) -> Result<PlainForm, OpenFault>
     requires parts { AreParts (S.bytes source.old) (S.known source.old) parts }
     requires kind { parts.sound.kind ≡ Kind.Plain }
     ensures source { Reads S.bytes S.known S.faults S.given source.old source.new 131104 }
     ensures end { IfOk result (λ f. f.end ≡ parts.chunks.end) }
-    ensures form { IfOk result (λ f. (xs : List ℕ) → S.bytes source.old ≡ Some xs → form xs ≡ Ok (form_seen f)) }
-    ensures lawful { IfOk result (λ f. IsLawful (form_seen f)) }
-    ensures shape { IfOk result (λ f. shape (form_seen f) ≡ f.channels) }
+    ensures form { IfOk result (λ f. (xs : List ℕ) → S.bytes source.old ≡ Some xs → form xs ≡ Ok (plain_seen f)) }
     ensures stops { IfErr result (Stops form_fault (S.bytes source.old) (S.faults source.old) (S.faults source.new)) }
 {
     let Parts {
@@ -82,7 +78,7 @@ pub fn plain_form<S: Source>(alloc: Global, source: &mut S, parts: Parts) -> Res
         sound,
     } = parts;
     let channels = prop.fields.channels;
-    let PlainParts { frames, pad, tail } = match read_plain(
+    let PlainParts { frames, pad, behind } = match read_plain(
         alloc,
         source,
         &chunks,
@@ -95,29 +91,25 @@ pub fn plain_form<S: Source>(alloc: Global, source: &mut S, parts: Parts) -> Res
     };
     let Chunks { end, heads, .. } = chunks;
     let Prop { body, .. } = prop;
-    Ok(Form {
-        kind: Kind::Plain,
+    Ok(PlainForm {
         channels,
         end,
-        chunks: Heads::from_vec(heads),
+        heads: Heads::from_vec(heads),
         prop: Octets::from_vec(body),
         sound: sound.head,
         frames,
-        kept: None,
         pad,
-        tail: Octets::from_vec(tail),
+        behind: Octets::from_vec(behind),
     })
 }
 
 /// A coded form, of its parts.
-pub fn coded_form<S: Source>(alloc: Global, source: &mut S, parts: Parts) -> Result<Form, OpenFault>
+pub fn coded_form<S: Source>(alloc: Global, source: &mut S, parts: Parts) -> Result<CodedForm, OpenFault>
     requires parts { AreParts (S.bytes source.old) (S.known source.old) parts }
     requires kind { parts.sound.kind ≡ Kind.Coded }
     ensures source { Reads S.bytes S.known S.faults S.given source.old source.new 131104 }
     ensures end { IfOk result (λ f. f.end ≡ parts.chunks.end) }
-    ensures form { IfOk result (λ f. (xs : List ℕ) → S.bytes source.old ≡ Some xs → form xs ≡ Ok (form_seen f)) }
-    ensures lawful { IfOk result (λ f. IsLawful (form_seen f)) }
-    ensures shape { IfOk result (λ f. shape (form_seen f) ≡ f.channels) }
+    ensures form { IfOk result (λ f. (xs : List ℕ) → S.bytes source.old ≡ Some xs → form xs ≡ Ok (coded_seen f)) }
     ensures stops { IfErr result (Stops form_fault (S.bytes source.old) (S.faults source.old) (S.faults source.new)) }
 {
     let Parts {
@@ -131,7 +123,7 @@ pub fn coded_form<S: Source>(alloc: Global, source: &mut S, parts: Parts) -> Res
         Ok(frames) => frames,
         Err(fault) => return Err(fault),
     };
-    let kept = match read_any_kept(
+    let origin = match read_any_origin(
         alloc,
         source,
         chunks.heads.as_slice(),
@@ -139,22 +131,19 @@ pub fn coded_form<S: Source>(alloc: Global, source: &mut S, parts: Parts) -> Res
         channels,
         frames,
     ) {
-        Ok(kept) => kept,
+        Ok(origin) => origin,
         Err(fault) => return Err(fault),
     };
     let Chunks { end, heads, .. } = chunks;
     let Prop { body, .. } = prop;
-    Ok(Form {
-        kind: Kind::Coded,
+    Ok(CodedForm {
         channels,
         end,
-        chunks: Heads::from_vec(heads),
+        heads: Heads::from_vec(heads),
         prop: Octets::from_vec(body),
         sound: sound.head,
         frames,
-        kept,
-        pad: 0,
-        tail: Octets::from_vec(Vec::new(alloc)),
+        origin,
     })
 }
 
@@ -162,14 +151,18 @@ pub fn coded_form<S: Source>(alloc: Global, source: &mut S, parts: Parts) -> Res
 pub fn form_of<S: Source>(alloc: Global, source: &mut S, parts: Parts) -> Result<Form, OpenFault>
     requires { AreParts (S.bytes source.old) (S.known source.old) parts }
     ensures source { Reads S.bytes S.known S.faults S.given source.old source.new 131104 }
-    ensures end { IfOk result (λ f. f.end ≡ parts.chunks.end) }
+    ensures end { IfOk result (λ f. end_of f ≡ parts.chunks.end) }
     ensures form { IfOk result (λ f. (xs : List ℕ) → S.bytes source.old ≡ Some xs → form xs ≡ Ok (form_seen f)) }
-    ensures lawful { IfOk result (λ f. IsLawful (form_seen f)) }
-    ensures shape { IfOk result (λ f. shape (form_seen f) ≡ f.channels) }
     ensures stops { IfErr result (Stops form_fault (S.bytes source.old) (S.faults source.old) (S.faults source.new)) }
 {
     match parts.sound.kind {
-        Kind::Plain => plain_form(alloc, source, parts),
-        Kind::Coded => coded_form(alloc, source, parts),
+        Kind::Plain => match plain_form(alloc, source, parts) {
+            Ok(form) => Ok(Form::Plain(form)),
+            Err(fault) => Err(fault),
+        },
+        Kind::Coded => match coded_form(alloc, source, parts) {
+            Ok(form) => Ok(Form::Coded(form)),
+            Err(fault) => Err(fault),
+        },
     }
 }

@@ -8,11 +8,12 @@ ghost use Rattle.dsdiff_spec.specs.Rules.{local_fault};
 ghost use Rattle.dsdiff_spec.specs.declared.faults.FileFault.{FileFault};
 ghost use Rattle.dsdiff_chunks.specs.Lawful.{TileTo};
 ghost use Rattle.dsdiff_chunks.specs.Opening.{Reads, Stops, first_fault, is_sound, props_fault, sounds_fault};
-ghost use Rattle.dsdiff_chunks.specs.Seen.{head_seen, kind_seen};
+ghost use Rattle.dsdiff_chunks.specs.Kinds.{kind_seen};
+ghost use Rattle.dsdiff_chunks.specs.Seen.{head_seen};
 ghost use Rattle.dsdiff_chunks.specs.Steps.{IsTheSound};
 
 use crate::find::{Finding, find, find_either};
-use crate::form::{ChunkHead, Kind};
+use crate::lists::ChunkHead;
 use crate::open::OpenFault;
 use crate::prop::{PropFields, read_prop};
 use crate::read::read_range;
@@ -25,6 +26,13 @@ use std::alloc::Global;
 pub struct Prop {
     pub body: Vec<u8>,
     pub fields: PropFields,
+}
+
+/// Sound as it is, in a chunk `DSD `, or as frames, in a chunk `DST `.
+#[derive(Clone, Copy)]
+pub enum Kind {
+    Plain,
+    Coded,
 }
 
 /// The one sound chunk of a form.

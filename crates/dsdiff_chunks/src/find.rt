@@ -4,9 +4,9 @@ ghost use Rattle.dsdiff_spec.specs.Chunks.{Head};
 ghost use Rattle.dsdiff_chunks.specs.Found.{FoundAre};
 ghost use Rattle.dsdiff_chunks.specs.Seen.{head_seen};
 
-use crate::form::ChunkHead;
+use crate::lists::ChunkHead;
 
-/// The chunks with some ids: none, one, or several, of which the first is told.
+/// The chunks with some ids: none, one, or several, of which the first is given.
 #[derive(Clone, Copy)]
 pub enum Finding {
     Nothing,

@@ -1,9 +1,15 @@
-// Lists of bytes and of chunk heads that a form keeps.
+// Heads of chunks, and the lists that a form has: of heads and of bytes.
 ghost use Rattle.std.specs.Prelude.{◌≡◌, ◌++◌, ◌∷◌, [], IfOk, MatchResult, ◌<◌, vec_len, vec_capacity, IsOk};
 
-use crate::form::ChunkHead;
-use std::alloc::{AllocError, Global};
 use std::marker::Model;
+
+/// The head of a chunk: its id, the place of its id in the file, and the size of its body in bytes.
+#[derive(Clone, Copy, Debug, PartialEq, Eq)]
+pub struct ChunkHead {
+    pub id: [u8; 4],
+    pub place: u64,
+    pub size: u64,
+}
 
 /// Bytes of its own.
 #[derive(Drop)]
@@ -49,7 +55,7 @@ pub struct Heads {
 
 impl Model for Heads {
     ghost use Rattle.std.specs.Prelude.{List};
-    ghost use Rattle.dsdiff_chunks.specs.declared.form.ChunkHead.{ChunkHead};
+    ghost use Rattle.dsdiff_chunks.specs.declared.lists.ChunkHead.{ChunkHead};
 
     ghost Value = { List ChunkHead };
 

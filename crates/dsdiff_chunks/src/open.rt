@@ -1,10 +1,8 @@
 // Opening a form: the rules in order, head by head.
 ghost use Rattle.std.specs.Prelude.{◌≡◌, ◌+◌, ◌≤◌, ℕ, List, Some, IfOk, Err, Ok};
 ghost use Rattle.dst_streams.specs.Causes.{Rose};
-ghost use Rattle.dsdiff_spec.specs.Form.{shape};
 ghost use Rattle.dsdiff_spec.specs.Rules.{form};
-ghost use Rattle.dsdiff_chunks.specs.Seen.{form_seen};
-ghost use Rattle.dsdiff_chunks.specs.Lawful.{IsLawful};
+ghost use Rattle.dsdiff_chunks.specs.Forms.{end_of, form_seen};
 
 use crate::build::{form_of, read_parts};
 use crate::form::Form;
@@ -20,16 +18,14 @@ pub enum OpenFault {
     File(FileFault),
 }
 
-/// Opens the form of a file: its chunks, the body of `PROP`, its sound chunk, and what `KEPT` keeps (DSDIFF 1.5).
+/// Opens the form of a file: its chunks, the body of `PROP`, its sound chunk, and what `KEPT` says (DSDIFF 1.5).
 ///
 /// The first rule that the file breaks gives the fault. Frames aren't looked at.
 pub fn open_form<S: Source>(alloc: Global, source: &mut S) -> Result<Form, OpenFault>
     ensures bytes { S.bytes source.new ≡ S.bytes source.old }
     ensures size_stays { (n : ℕ) → S.known source.old ≡ Some n → S.known source.new ≡ Some n }
-    ensures size_known { IfOk result (λ f. (n : ℕ) × (S.known source.new ≡ Some n) × (f.end ≤ n)) }
+    ensures size_known { IfOk result (λ f. (n : ℕ) × (S.known source.new ≡ Some n) × (end_of f ≤ n)) }
     ensures form { IfOk result (λ f. (xs : List ℕ) → S.bytes source.old ≡ Some xs → form xs ≡ Ok (form_seen f)) }
-    ensures lawful { IfOk result (λ f. IsLawful (form_seen f)) }
-    ensures shape { IfOk result (λ f. shape (form_seen f) ≡ f.channels) }
     ensures fault { (fault : FileFault) → result ≡ Err (OpenFault.File fault) → (xs : List ℕ) → S.bytes source.old ≡ Some xs → form xs ≡ Err fault }
     ensures read { result ≡ Err OpenFault.Read → Rose (S.faults source.old) (S.faults source.new) }
     ensures later { S.faults source.old ≤ S.faults source.new }

@@ -9,7 +9,7 @@ ghost use Rattle.dsdiff_chunks.specs.Seen.{head_seen};
 
 use crate::common::read_octets;
 use crate::find::{Finding, find_either};
-use crate::form::ChunkHead;
+use crate::lists::ChunkHead;
 use crate::open::OpenFault;
 use crate::read::read_range;
 use crate::top::Chunks;
@@ -30,8 +30,8 @@ fn count_frames(channels: Channels, sound_size: u64) -> Result<u32, FileFault>
     if sound_size % channels.count() as u64 != 0 {
         return Err(FileFault::SoundUneven);
     }
-    let frame_bytes = channels.sound_bytes() as u64;
-    let frames = (sound_size + frame_bytes - 1) / frame_bytes;
+    let bytes = channels.sound_bytes() as u64;
+    let frames = (sound_size + bytes - 1) / bytes;
     if frames > 1_000_000 {
         return Err(FileFault::TooManyFrames);
     }
@@ -90,7 +90,7 @@ fn read_pad<S: Source>(source: &mut S, sound: ChunkHead) -> Result<u8, OpenFault
 pub struct PlainParts {
     pub frames: u32,
     pub pad: u8,
-    pub tail: Vec<u8>,
+    pub behind: Vec<u8>,
 }
 
 /// Reads what stands behind a plain sound, where the form keeps its rules.
@@ -113,8 +113,8 @@ pub fn read_plain<S: Source>(
     ensures few { IfOk result (λ p. p.frames ≤ 1000000) }
     ensures pad_even { IfOk result (λ p. sound.size % 2 ≡ 0 → p.pad ≡ 0) }
     ensures pad { IfOk result (λ p. (xs : List ℕ) → S.bytes source.old ≡ Some xs → p.pad ≡ (if sound.size % 2 == 1 then get_or xs (sound.place + 12 + sound.size) 0 else 0)) }
-    ensures tail_most { IfOk result (λ p. length p.tail.items ≤ 65536) }
-    ensures tail { IfOk result (λ p. (xs : List ℕ) → S.bytes source.old ≡ Some xs → p.tail.items ≡ bytes_at xs chunks.now.end (chunks.now.size - chunks.now.end)) }
+    ensures behind_most { IfOk result (λ p. length p.behind.items ≤ 65536) }
+    ensures behind { IfOk result (λ p. (xs : List ℕ) → S.bytes source.old ≡ Some xs → p.behind.items ≡ bytes_at xs chunks.now.end (chunks.now.size - chunks.now.end)) }
     ensures accepted { IfOk result (λ _. plain_parts_fault chunks.now.size chunks.now.end (map head_seen chunks.now.heads.items) prop_size sound.size channels.channels (sound_bytes channels) ≡ None) }
     ensures stops { IfErr result (Stops (λ _. plain_parts_fault chunks.now.size chunks.now.end (map head_seen chunks.now.heads.items) prop_size sound.size channels.channels (sound_bytes channels)) (S.bytes source.old) (S.faults source.old) (S.faults source.new)) }
 {
@@ -130,7 +130,11 @@ pub fn read_plain<S: Source>(
         Err(fault) => return Err(fault),
     };
     match read_octets(alloc, source, chunks.end, chunks.size - chunks.end) {
-        Ok(tail) => Ok(PlainParts { frames, pad, tail }),
+        Ok(behind) => Ok(PlainParts {
+            frames,
+            pad,
+            behind,
+        }),
         Err(fault) => Err(fault),
     }
 }

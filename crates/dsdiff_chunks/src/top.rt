@@ -1,7 +1,6 @@
 // The chunks of a form, head by head.
-ghost use Rattle.std.specs.Prelude.{◌≡◌, ℕ, ◌+◌, ◌^◌, ◌<◌, ◌≤◌, not, true, List, length, take, map, Some, None, IfOk, IfErr};
+ghost use Rattle.std.specs.Prelude.{◌≡◌, ℕ, ◌+◌, ◌^◌, ◌<◌, ◌≤◌, not, true, List, length, map, Some, None, IfOk, IfErr};
 ghost use Rattle.std.specs.List.{All};
-ghost use Rattle.dsdiff_spec.specs.Bytes.{number_at};
 ghost use Rattle.dsdiff_spec.specs.Faults.{◌when◌};
 ghost use Rattle.dsdiff_spec.specs.Chunks.{chunks_from, head_at, fits};
 ghost use Rattle.dsdiff_spec.specs.declared.faults.FileFault.TheVariants.{Overrun};
@@ -12,7 +11,8 @@ ghost use Rattle.dsdiff_chunks.specs.Opening.{Reads, Stops, head_fault, may_lack
 ghost use Rattle.dsdiff_chunks.specs.Seen.{head_seen};
 ghost use Rattle.dsdiff_chunks.specs.Steps.{AreChunks, IsExtent};
 
-use crate::form::ChunkHead;
+use crate::head::read_head;
+use crate::lists::ChunkHead;
 use crate::open::OpenFault;
 use crate::read::read_range;
 use byteorder::{BigEndian, ByteOrder};
@@ -92,16 +92,6 @@ pub fn read_extent<S: Source>(source: &mut S) -> Result<Extent, OpenFault>
     }
 }
 
-/// The head of the chunk at a place, from its bytes.
-fn head_of(place: u64, bytes: &[u8; 12]) -> ChunkHead
-    ensures { head_seen result ≡ record { id = take 4 bytes.now; place = place; size = number_at bytes.now 4 8 } }
-{
-    let mut id = [0; 4];
-    id.copy_from_slice(&bytes[..4]);
-    let size = BigEndian::read_u64(&bytes[4..]);
-    ChunkHead { id, place, size }
-}
-
 /// Whether a chunk lies before an end with its pad byte, which all but `DSD ` may lack there.
 fn lies_before(head: ChunkHead, end: u64) -> bool
     requires head { head.place + 12 ≤ end }
@@ -113,7 +103,7 @@ fn lies_before(head: ChunkHead, end: u64) -> bool
 }
 
 /// The head of the chunk at a place, which lies before the form's end.
-fn read_head<S: Source>(source: &mut S, place: u64, end: u64) -> Result<ChunkHead, OpenFault>
+fn next_head<S: Source>(source: &mut S, place: u64, end: u64) -> Result<ChunkHead, OpenFault>
     requires before { place < end }
     requires known { (n : ℕ) × (S.known source.old ≡ Some n) × (end ≤ n) }
     ensures source { Reads S.bytes S.known S.faults S.given source.old source.new 12 }
@@ -126,11 +116,9 @@ fn read_head<S: Source>(source: &mut S, place: u64, end: u64) -> Result<ChunkHea
     if end - place < 12 {
         return Err(OpenFault::File(FileFault::Overrun { place }));
     }
-    let mut bytes = [0; 12];
-    let Ok(()) = read_range(source, place, &mut bytes) else {
+    let Ok(head) = read_head(source, place) else {
         return Err(OpenFault::Read);
     };
-    let head = head_of(place, &bytes);
     if !lies_before(head, end) {
         return Err(OpenFault::File(FileFault::Overrun { place }));
     }
@@ -159,7 +147,7 @@ pub fn read_heads<S: Source>(
         if heads.len() == MOST_CHUNKS {
             return Err(OpenFault::File(FileFault::TooManyChunks));
         }
-        let head = match read_head(source, place, end) {
+        let head = match next_head(source, place, end) {
             Ok(head) => head,
             Err(fault) => return Err(fault),
         };

@@ -4,10 +4,10 @@ ghost use Rattle.byteorder.specs.Endian.{big_bytes};
 ghost use Rattle.dst_streams.specs.Causes.{HasCause};
 ghost use Rattle.dst_streams.specs.Told.{IsCutShort, IsSure, and_then};
 ghost use Rattle.dsdiff_spec.specs.Chunks.{next_place};
-ghost use Rattle.dsdiff_spec.specs.Kept.{is_one_chunk};
+ghost use Rattle.dsdiff_spec.specs.Origin.{is_one_chunk};
 ghost use Rattle.dsdiff_spec.specs.Parts.{cmpr_head};
 ghost use Rattle.dsdiff_spec.specs.Written.{prop_with};
-ghost use Rattle.dsdiff_chunks.specs.Lawful.{IsProp};
+ghost use Rattle.dsdiff_chunks.specs.Lawful.{IsPropBody};
 
 use crate::prop::local;
 use byteorder::{BigEndian, ByteOrder};
@@ -35,7 +35,7 @@ fn head_bytes(id: [u8; 4], size: u64) -> [u8; 12]
 
 /// Appends `PROP` with this body, in which another whole `CMPR` chunk, with its pad byte, stands in the place of its own.
 pub fn write_prop<K: Sink>(sink: &mut K, prop: &[u8], cmpr: &[u8]) -> Result<(), Failed>
-    requires prop { IsProp prop.now }
+    requires prop { IsPropBody prop.now }
     requires cmpr { is_one_chunk "CMPR" cmpr.now ≡ true }
     requires short { length cmpr.now ≤ 65536 }
     ensures written { MatchResult result (λ _. K.written sink.new ≡ and_then (K.written sink.old) (prop_with prop.now cmpr.now)) (λ _. IsCutShort (K.written sink.old) (prop_with prop.now cmpr.now) (K.written sink.new)) }
@@ -51,7 +51,7 @@ pub fn write_prop<K: Sink>(sink: &mut K, prop: &[u8], cmpr: &[u8]) -> Result<(),
 
 /// Bytes that `write_prop` appends.
 pub fn prop_length(prop: &[u8], cmpr: &[u8]) -> u64
-    requires prop { IsProp prop.now }
+    requires prop { IsPropBody prop.now }
     requires cmpr { is_one_chunk "CMPR" cmpr.now ≡ true }
     requires short { length cmpr.now ≤ 65536 }
     ensures length { result ≡ length (prop_with prop.now cmpr.now) }
@@ -76,7 +76,7 @@ fn append_all<K: Sink>(sink: &mut K, pieces: &[&[u8]]) -> Result<(), Failed>
 
 // Where `CMPR` stands in a body of `PROP`, and the place behind its pad byte.
 fn place_of_cmpr(prop: &[u8]) -> (usize, usize)
-    requires { IsProp prop.now }
+    requires { IsPropBody prop.now }
     ensures place { result.0 ≡ (cmpr_head prop.now).place }
     ensures end { result.1 ≡ next_place (cmpr_head prop.now) }
     ensures inside { result.1 ≤ length prop.now }

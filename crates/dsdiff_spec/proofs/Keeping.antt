@@ -12,10 +12,10 @@ use Rattle.dsdiff_spec.proofs.Built.{piece, file_of, version, cmpr, prop, dst, m
 use Rattle.dsdiff_spec.proofs.Opening.{faults}
 use Rattle.dsdiff_spec.specs.declared.faults.FileFault.TheVariants.{KeptBad}
 
-pub version_1_is_read : origin_of (take 41 (drop 164 kept_one)) ≡ record { version = 1; sound = 0; pad = 0; cmpr = cmpr_plain; kept = [] }
+pub version_1_is_read : origin_of (take 41 (drop 164 kept_one)) ≡ record { sound = 0; pad = 0; cmpr = cmpr_plain; kept = [] }
 version_1_is_read = refl
 
-pub version_2_is_read : origin_of (take 49 (drop 164 tailed_coded)) ≡ record { version = 2; sound = 0; pad = 0; cmpr = cmpr_plain; kept = 1 ∷ 2 ∷ 3 ∷ [] }
+pub version_2_is_read : origin_of (take 49 (drop 164 tailed_coded)) ≡ record { sound = 0; pad = 0; cmpr = cmpr_plain; kept = 1 ∷ 2 ∷ 3 ∷ [] }
 version_2_is_read = refl
 
 pub even_sound_has_no_pad_byte : form (but 173 1 tailed_coded) ≡ Err KeptBad

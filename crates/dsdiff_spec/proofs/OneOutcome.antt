@@ -27,7 +27,7 @@ pub none_numbered : (c : Command) (form : Form) (n : ℕ) (frames : List (List �
 none_numbered c form n [] h = tt
 none_numbered c form n (x ∷ xs) h = (h.0, none_numbered c form (n + 1) xs h.1)
 
-take-numbered : (k n : ℕ) (frames : List (List ℕ)) → take k (enumerate_from n frames) ≡ enumerate_from n (take k frames)
+pub take-numbered : (k n : ℕ) (frames : List (List ℕ)) → take k (enumerate_from n frames) ≡ enumerate_from n (take k frames)
 take-numbered zero n frames = refl
 take-numbered (suc k) n [] = refl
 take-numbered (suc k) n (x ∷ xs) = ap {A = List (ℕ × List ℕ)} (λ rest. (n, x) ∷ rest) (take-numbered k (n + 1) xs)

@@ -93,8 +93,8 @@ cmpr_in_body body =
     let end = length body - kept_length body in
     let one : length (drop 9 body) ≤ length body = omega (arith, length-drop 9 body) in
     either_is_short (origin_version body == 1)
-    (record { version = 1; sound = number_at body 1 8; pad = 0; cmpr = drop 9 body; kept = [] })
-    (record { version = origin_version body; sound = number_at body 1 8; pad = get_or body 9 0; cmpr = between body 14 end; kept = drop end body })
+    (record { sound = number_at body 1 8; pad = 0; cmpr = drop 9 body; kept = [] })
+    (record { sound = number_at body 1 8; pad = get_or body 9 0; cmpr = between body 14 end; kept = drop end body })
     (length body) one (length-between_all body 14 end)
 
 body_is_short : (one two : Bool) (body : List ℕ) → not (one || two) ≡ false → (one && bad_version_1 body) ≡ false → (two && bad_version_2 body) ≡ false → length body ≤ 131086

@@ -13,21 +13,21 @@ nothing fault = record { heads = []; fault = fault }
 abbrev pub with_head : Head → Found → Found
 with_head h later = record { heads = h ∷ later.heads; fault = later.fault }
 
-abbrev at_fit : Bool → ℕ → Head → Found → Found
+abbrev pub at_fit : Bool → ℕ → Head → Found → Found
 at_fit b place h later = elim b [ false ↦ nothing (Some (Overrun place)) | true ↦ with_head h later ]
 
-abbrev at_head : Bool → (List ℕ → Bool) → List ℕ → ℕ → ℕ → ℕ → Head → Found
+abbrev pub at_head : Bool → (List ℕ → Bool) → List ℕ → ℕ → ℕ → ℕ → Head → Found
 at_head b m file end most place h = elim b [
   | false ↦ nothing None
   | true ↦ at_fit (fits m end h) place h (chunks_from m file end most (next_place h))
 ]
 
-opened : (m : List ℕ → Bool) (file : List ℕ) (end most place : ℕ) →
+pub opened : (m : List ℕ → Bool) (file : List ℕ) (end most place : ℕ) →
     chunks_from m file end (suc most) place ≡ at_head (nat_lt place end) m file end most place (head_at file place)
 unfolding chunks_from
 opened m file end most place = refl
 
-none_is_asked : (m : List ℕ → Bool) (file : List ℕ) (end place : ℕ) →
+pub none_is_asked : (m : List ℕ → Bool) (file : List ℕ) (end place : ℕ) →
     chunks_from m file end zero place ≡ nothing (if nat_lt place end then Some TooManyChunks else None)
 unfolding chunks_from
 none_is_asked m file end place = refl

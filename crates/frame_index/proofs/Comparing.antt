@@ -10,6 +10,7 @@ use Rattle.dsdiff_spec.specs.Form.{Form}
 use Rattle.dsdiff_spec.specs.Walk.{Entry, entry, entry_of, entries, frame_fault, frame_heads, in_dst, walk, walk_fault, index_heads, has_index_of, indexed, same_entry, check_index_fault}
 use Rattle.dsdiff_spec.specs.declared.faults.FileFault.{FileFault}
 use Rattle.dsdiff_spec.specs.declared.faults.FileFault.TheVariants.{CountDiffers, IndexMissing, IndexBad}
+use Rattle.dsdiff_spec.proofs.CodedFiles.{count_is_right}
 use Rattle.dsdiff_spec.proofs.Lawful.{later_gives_none, when_not}
 use Rattle.frame_index.specs.Lookup.{IsRead, DifferFirstAt, index_fault}
 
@@ -18,13 +19,6 @@ found_are : (o : Option FileFault) (es found : List Entry) → elim o as (λ _. 
     (o ≡ None) × (es ≡ found)
 found_are (Some f) es found p = absurd cc
 found_are None es found p = (refl, cc)
-
-count_is_told : (file : List ℕ) (form : Form) → walk_fault file form ≡ None → length (frame_heads file form) ≡ form.frames
-unfolding walk_fault
-count_is_told file form h =
-    let count = CountDiffers form.frames (length (frame_heads file form)) when not (length (frame_heads file form) == form.frames) in
-    let none = later_gives_none (in_dst file form).fault count (later_gives_none (first_some (frame_fault form) _) ((in_dst file form).fault otherwise count) h) in
-    eqb-true (length (frame_heads file form)) form.frames (not-false _ (when_not _ _ none))
 
 -- ---- entry by entry
 abbrev differs_at : (ℕ → Entry) → ℕ × Entry → Option FileFault
@@ -91,7 +85,7 @@ pub first_is_told : (file : List ℕ) (form : Form) (index found : List Entry) (
 first_is_told file form index found k none read ok first =
     let walked = found_are (walk_fault file form) (entries file form) found ok in
     let count : length found ≡ form.frames =
-    ap length (sym walked.1) ∙ length-map (frame_heads file form) entry_of ∙ count_is_told file form walked.0 in
+    ap length (sym walked.1) ∙ length-map (frame_heads file form) entry_of ∙ count_is_right file form walked.0 in
     let at : (j : ℕ) → 0 + j ≡ j = λ j. omega arith in
     let within : k < form.frames = omega (arith, first.within, read.count) in
     has_size (index_heads form) (has_index_of form form.frames) form.frames _ none

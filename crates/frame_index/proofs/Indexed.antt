@@ -1,11 +1,11 @@
 -- The index of a form, and a frame that is found by it.
-use Rattle.std.proofs.Common.{◌≡◌, ℕ, ◌+◌, ◌-◌, ◌*◌, ◌≤◌, Bool, true, false, List, [], ◌∷◌, length, Option, Some, refl, sym, ap, ◌∙◌, arith, add-zero}
+use Rattle.std.proofs.Common.{◌≡◌, ℕ, ◌+◌, ◌-◌, ◌*◌, ◌≤◌, Bool, true, false, List, [], ◌∷◌, length, Option, Some, None, refl, sym, ap, ◌∙◌, arith, add-zero}
 use Rattle.std.specs.Prelude.{◌==◌, ◌&&◌, ◌||◌, not, if◌then◌else◌}
-use Rattle.std.proofs.lemmas.Bool.{and_parts, ltb-false, not-true}
-use Rattle.dsdiff_spec.specs.Bytes.{bytes_at, number_at, ◌is◌}
+use Rattle.std.proofs.lemmas.Bool.{and_parts, le-ltb, ltb-false, not-true}
+use Rattle.dsdiff_spec.specs.Bytes.{bytes_at, number_at, ◌is◌, ◌above◌}
 use Rattle.dsdiff_spec.specs.Chunks.{Head, head_at, named, body_place, body_end, next_place}
 use Rattle.dsdiff_spec.specs.Faults.{◌when◌, ◌otherwise◌}
-use Rattle.dsdiff_spec.specs.Form.{Form}
+use Rattle.dsdiff_spec.specs.Form.{Form, longest_frame}
 use Rattle.dsdiff_spec.specs.Walk.{Entry, index_heads, index_head, indexed, has_index_of, names_frame, by_index_fault}
 use Rattle.dsdiff_spec.specs.declared.faults.FileFault.{FileFault}
 use Rattle.dsdiff_spec.specs.declared.faults.FileFault.TheVariants.{IndexMissing, IndexBad}
@@ -13,7 +13,7 @@ use Rattle.dsdiff_chunks.specs.Lawful.{TileTo}
 use Rattle.frame_index.specs.Entries.{entries_in, entry_at}
 use Rattle.frame_index.specs.Lookup.{IsRead, index_fault, lies_inside}
 use Rattle.frame_index.proofs.Entries.{length-entries_in, entry-entries_in}
-use Rattle.frame_index.proofs.Heads.{number_in_part}
+use Rattle.chunk_view.proofs.InParts.{number_in_part}
 
 -- ---- the first chunk of a name lies in the form, as all do
 one_more : (b : Bool) (end : ℕ) (i h : Head) (more later : List Head) → (if b then i ∷ more else more) ≡ h ∷ later → body_end i ≤ end →
@@ -28,7 +28,7 @@ first_within end place (i ∷ more) h later t e =
     one_more (i.id is "DSTI") end i h (named "DSTI" more) later e t.1 (λ p. first_within end (next_place i) more h later t.2 p)
 
 -- ---- entries from bytes that were read
-abbrev entry_from : List ℕ → ℕ → Entry
+abbrev pub entry_from : List ℕ → ℕ → Entry
 entry_from xs place = record { offset = number_at xs place 8; size = number_at xs (place + 8) 4 }
 
 same_entries : (a b m n : ℕ) → a ≡ b → m ≡ n → ◌≡◌ {A = Entry} (record { offset = a; size = m }) (record { offset = b; size = n })
@@ -81,3 +81,17 @@ missing_or_bad false false names k later fault p = p
 pub no_index : (xs : List ℕ) (form : Form) (k : ℕ) (fault : FileFault) → index_fault form k ≡ Some fault → by_index_fault xs form k ≡ Some fault
 no_index xs form k fault p =
     missing_or_bad (length (index_heads form) == 0) (has_index_of form form.frames) (names_frame xs form (indexed xs form k)) k _ fault p
+
+-- ---- a frame that is found
+none_fails : (missing has names long : Bool) (k : ℕ) (fault : FileFault) → (IndexMissing when missing otherwise IndexBad k when not has) ≡ None →
+    names ≡ true → long ≡ false → (IndexMissing when missing otherwise IndexBad k when not has || not names otherwise fault when long) ≡ None
+none_fails true has names long k fault e n l = absurd cc
+none_fails false false names long k fault e n l = absurd cc
+none_fails false true names long k fault e n l = rw (n, l) refl
+
+pub found_by_index : (xs : List ℕ) (form : Form) (k : ℕ) (e : Entry) → index_fault form k ≡ None → indexed xs form k ≡ e →
+    names_frame xs form e ≡ true → e.size ≤ longest_frame form → by_index_fault xs form k ≡ None
+found_by_index xs form k e accepted here named short =
+    none_fails (length (index_heads form) == 0) (has_index_of form form.frames) (names_frame xs form (indexed xs form k))
+    ((indexed xs form k).size above longest_frame form) k _ accepted
+    (ap (names_frame xs form) here ∙ named) (ap (λ i. i.size above longest_frame form) here ∙ le-ltb (longest_frame form) e.size short)

@@ -1,7 +1,6 @@
 pub mod Comparing
 pub mod Entries
 pub mod Faults
-pub mod Heads
 pub mod InOrder
 pub mod Indexed
 pub mod OneMore

@@ -7,7 +7,8 @@ use Rattle.byteorder.specs.Endian.{big_from, big_bytes}
 use Rattle.byteorder.specs.Numbers.{big_from-take, big_number-reads_back, length-bytes_high_first}
 use Rattle.dsdiff_spec.specs.Walk.{Entry}
 use Rattle.frame_index.specs.Entries.{entries_in, entry_at}
-use Rattle.frame_index.proofs.Entries.{count_of_entries, offset_behind, size_behind}
+use Rattle.chunk_view.proofs.InParts.{number_behind_place, number_behind_both}
+use Rattle.frame_index.proofs.Entries.{count_of_entries}
 
 abbrev pub bytes_of_entry : ℕ → ℕ → List ℕ
 bytes_of_entry offset size = big_bytes 8 offset ++ big_bytes 4 size
@@ -43,8 +44,8 @@ last_entry bytes n offset size long o s =
     let w = bytes ++ bytes_of_entry offset size in
     let last : drop (12 * n) w ≡ bytes_of_entry offset size = drop_at bytes (bytes_of_entry offset size) (12 * n) long in
     same_entry _ _ _ _
-    (sym (offset_behind w (12 * n) 8) ∙ ap (λ v. big_from 0 8 v) last ∙ big_number-reads_back 8 offset (big_bytes 4 size) o)
-    (sym (size_behind w (12 * n) 4 8)
+    (sym (number_behind_place w (12 * n) 8) ∙ ap (λ v. big_from 0 8 v) last ∙ big_number-reads_back 8 offset (big_bytes 4 size) o)
+    (sym (number_behind_both w (12 * n) 4 8)
     ∙ ap (λ v. big_from 0 4 (drop 8 v)) last
     ∙ ap (λ v. big_from 0 4 v) (drop_at (big_bytes 8 offset) (big_bytes 4 size) 8 (length-bytes_high_first 8 offset) ∙ sym (append-nil (big_bytes 4 size)))
     ∙ big_number-reads_back 4 size [] s)

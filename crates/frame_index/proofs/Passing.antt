@@ -1,6 +1,5 @@
 -- A walk from chunk to chunk.
 use Rattle.std.proofs.Common.{◌≡◌, ℕ, zero, suc, ◌+◌, ◌-◌, ◌<◌, ◌≤◌, true, false, List, [], ◌∷◌, length, take, Option, Some, None, Result, Err, Ok, refl, sym, ap, ◌∙◌, subst, arith}
-use Rattle.std.specs.List.{Contains}
 use Rattle.std.proofs.Math.Seq.{take-nil}
 use Rattle.std.proofs.lemmas.List.{take_all}
 use Rattle.dsdiff_spec.specs.Bytes.{◌is◌}
@@ -10,7 +9,6 @@ use Rattle.dsdiff_spec.specs.Walk.{Entry, entry_of, frame_fault, walk}
 use Rattle.dsdiff_spec.specs.declared.faults.FileFault.{FileFault}
 use Rattle.dsdiff_spec.specs.declared.faults.FileFault.TheVariants.{CountDiffers, Overrun, TooManyChunks}
 use Rattle.dsdiff_spec.proofs.Steps.{nothing, with_head, fits_without_pad, found_at_end, found_at_limit, found_at_misfit, found_at_chunk}
-use Rattle.dsdiff_chunks.specs.Lawful.{IsLawful, IsOfKind, TileTo}
 use Rattle.dsdiff_chunks.specs.declared.open.OpenFault.{OpenFault}
 use Rattle.dsdiff_chunks.specs.declared.open.OpenFault.TheVariants.{File}
 use Rattle.frame_index.specs.Fitting.{IsInside, IsIndexOf}
@@ -18,18 +16,6 @@ use Rattle.frame_index.specs.Finding.{found_with}
 use Rattle.frame_index.proofs.Faults.{short_frame}
 use Rattle.frame_index.proofs.InOrder.{AreInOrder, none_in_order, found_in_order, index_of}
 use Rattle.frame_index.proofs.Walking.{IsLeft, chunks_behind, all_left, chunk_passed, stops_at_chunk, stops_at_frame, stops_at_count, walk_ends}
-
--- ---- a lawful form has `DST ` inside
-body_within : (end place : ℕ) (heads : List Head) (h : Head) → TileTo end place heads → Contains heads h → body_end h ≤ end
-body_within end place [] h t c = absurd (let lt = c.1 in omega arith)
-body_within end place (i ∷ more) h t (zero, lt, e) = let same : i ≡ h = e in rw (← same) t.1
-body_within end place (i ∷ more) h t (suc k, lt, e) = body_within end (next_place i) more h t.2 (k, omega (arith, lt), e)
-
-pub sound_within : (form : Form) → IsLawful form → body_end form.sound ≤ form.end
-sound_within form h = body_within form.end 16 form.chunks form.sound h.chunks h.sound
-
-pub sound_least : (form : Form) → IsLawful form → form.kind ≡ coded → 18 ≤ form.sound.size
-sound_least form h e = (subst (λ kind. IsOfKind kind form) e h.of_kind).least
 
 -- ---- the frames that are found up to a place, of which no more are kept than are told
 pub record HasWalked (form : Form) (bytes : Option (List ℕ)) (passed place frames : ℕ) (kept : List Entry) : Type 0 where

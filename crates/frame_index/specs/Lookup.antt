@@ -8,11 +8,11 @@ use Rattle.dsdiff_spec.specs.Walk.{Entry, entry, index_heads, has_index_of, inde
 use Rattle.dsdiff_spec.specs.declared.faults.FileFault.{FileFault}
 use Rattle.dsdiff_spec.specs.declared.faults.FileFault.TheVariants.{IndexMissing, IndexBad}
 
--- there is none, or it has another size than twelve bytes for each told frame, which is told as a fault of some entry
+-- there is none, or it has another size than twelve bytes for each frame of the frame count, which is a fault of some entry
 abbrev pub index_fault : Form → ℕ → Option FileFault
-index_fault form told =
+index_fault form entry =
     IndexMissing when length (index_heads form) == 0
-    otherwise IndexBad told when not (has_index_of form form.frames)
+    otherwise IndexBad entry when not (has_index_of form form.frames)
 
 -- as many entries as the form has frames, each as the file has it
 pub record IsRead (file : List ℕ) (form : Form) (es : List Entry) : Type 0 where

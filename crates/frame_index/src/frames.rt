@@ -5,14 +5,13 @@ ghost use Rattle.dsdiff_spec.specs.Bytes.{◌is◌};
 ghost use Rattle.dsdiff_spec.specs.Chunks.{head_at, fits};
 ghost use Rattle.dsdiff_spec.specs.Form.{coded, longest_frame};
 ghost use Rattle.dsdiff_spec.specs.Walk as walks;
-ghost use Rattle.dsdiff_chunks.specs.Seen.{form_seen, head_seen};
-ghost use Rattle.dsdiff_chunks.specs.Lawful.{IsLawful};
+ghost use Rattle.dsdiff_chunks.specs.Forms.{coded_seen};
+ghost use Rattle.dsdiff_chunks.specs.Seen.{head_seen};
 ghost use Rattle.frame_index.specs.Finding.{found_with};
 ghost use Rattle.frame_index.specs.Fitting.{IsIndexOf};
 
-use crate::head::read_head;
 use crate::index::Index;
-use dsdiff_chunks::{ChunkHead, FileFault, Form, OpenFault};
+use dsdiff_chunks::{ChunkHead, CodedForm, FileFault, OpenFault, read_head};
 use dst_streams::Source;
 use std::alloc::Global;
 
@@ -23,19 +22,17 @@ const MOST_FRAMES: u32 = 1_000_000;
 
 /// Walks the chunks of `DST ` behind `FRTE` (DSDIFF 1.5), of which each `DSTF` is the next frame. No body is read.
 ///
-/// The first fault is told. At a chunk, in this order: `TooManyChunks`, where 4,000,000 others stand before it; `Overrun`,
+/// The first fault is answered. At a chunk, in this order: `TooManyChunks`, where 4,000,000 others stand before it; `Overrun`,
 /// where its head or its body passes the end of `DST ` (the last pad byte may be missing); `FrameTooLong`, where it is a
 /// frame of more than `2 * (f + 1)` bytes, f being the bytes of a frame's sound; `TooManyFrames`, where 1,000,000 frames
 /// stand before this one. Behind the last chunk: `CountDiffers`, where `FRTE` tells another number of frames.
-pub fn walk<S: Source>(alloc: Global, source: &mut S, form: &Form) -> Result<Index, OpenFault>
-    requires coded { (form_seen form.now).kind ≡ coded }
-    requires lawful { IsLawful (form_seen form.now) }
+pub fn walk<S: Source>(alloc: Global, source: &mut S, form: &CodedForm) -> Result<Index, OpenFault>
     requires size { (n : ℕ) × (S.known source.old ≡ Some n) × (form.now.end ≤ n) }
     ensures bytes { S.bytes source.new ≡ S.bytes source.old }
     ensures size_stays { S.known source.new ≡ S.known source.old }
-    ensures index { IfOk result (λ i. (xs : List ℕ) → S.bytes source.old ≡ Some xs → walks.walk xs (form_seen form.now) ≡ Ok i) }
-    ensures fits { IfOk result (λ i. IsIndexOf (form_seen form.now) i) }
-    ensures fault { (fault : FileFault) → result ≡ Err (OpenFault.File fault) → (xs : List ℕ) → S.bytes source.old ≡ Some xs → walks.walk xs (form_seen form.now) ≡ Err fault }
+    ensures index { IfOk result (λ i. (xs : List ℕ) → S.bytes source.old ≡ Some xs → walks.walk xs (coded_seen form.now) ≡ Ok i) }
+    ensures fits { IfOk result (λ i. IsIndexOf (coded_seen form.now) i) }
+    ensures fault { (fault : FileFault) → result ≡ Err (OpenFault.File fault) → (xs : List ℕ) → S.bytes source.old ≡ Some xs → walks.walk xs (coded_seen form.now) ≡ Err fault }
     ensures read { result ≡ Err OpenFault.Read → Rose (S.faults source.old) (S.faults source.new) }
     ensures later { S.faults source.old ≤ S.faults source.new }
     ensures given { S.given source.new ≤ S.given source.old + 48000000 }
@@ -73,19 +70,17 @@ fn next_head<S: Source>(source: &mut S, place: u64, end: u64) -> Result<ChunkHea
     Ok(head)
 }
 
-// Walks the chunks, and keeps the entries of as many frames as are told.
-fn walk_from<S: Source>(source: &mut S, form: &Form, entries: Index) -> Result<Index, OpenFault>
+// Walks the chunks, and has the entries of as many frames as the frame count says.
+fn walk_from<S: Source>(source: &mut S, form: &CodedForm, entries: Index) -> Result<Index, OpenFault>
     requires none { entries ≡ [] }
-    requires coded { (form_seen form.now).kind ≡ coded }
-    requires lawful { IsLawful (form_seen form.now) }
     requires size { (n : ℕ) × (S.known source.old ≡ Some n) × (form.now.end ≤ n) }
     ensures bytes { S.bytes source.new ≡ S.bytes source.old }
     ensures size_stays { S.known source.new ≡ S.known source.old }
     ensures later { S.faults source.old ≤ S.faults source.new }
     ensures given { S.given source.new ≤ S.given source.old + 48000000 }
-    ensures index { IfOk result (λ i. (xs : List ℕ) → S.bytes source.old ≡ Some xs → walks.walk xs (form_seen form.now) ≡ Ok i) }
-    ensures fits { IfOk result (λ i. IsIndexOf (form_seen form.now) i) }
-    ensures fault { (fault : FileFault) → result ≡ Err (OpenFault.File fault) → (xs : List ℕ) → S.bytes source.old ≡ Some xs → walks.walk xs (form_seen form.now) ≡ Err fault }
+    ensures index { IfOk result (λ i. (xs : List ℕ) → S.bytes source.old ≡ Some xs → walks.walk xs (coded_seen form.now) ≡ Ok i) }
+    ensures fits { IfOk result (λ i. IsIndexOf (coded_seen form.now) i) }
+    ensures fault { (fault : FileFault) → result ≡ Err (OpenFault.File fault) → (xs : List ℕ) → S.bytes source.old ≡ Some xs → walks.walk xs (coded_seen form.now) ≡ Err fault }
     ensures read { result ≡ Err OpenFault.Read → Rose (S.faults source.old) (S.faults source.new) }
 {
     let mut entries = entries;
@@ -110,17 +105,17 @@ fn walk_from<S: Source>(source: &mut S, form: &Form, entries: Index) -> Result<I
     }
     if frames != form.frames {
         return Err(OpenFault::File(FileFault::CountDiffers {
-            told: form.frames,
+            count: form.frames,
             found: frames,
         }));
     }
     Ok(entries)
 }
 
-// Passes the chunk behind so many frames: a frame is kept where no more than the told ones are found. How many frames
+// Passes the chunk behind so many frames: a frame has an entry where no more than the frame count are found. How many frames
 // were found then.
 fn pass_chunk(
-    form: &Form,
+    form: &CodedForm,
     head: ChunkHead,
     frames: u32,
     entries: &mut Index,
@@ -129,9 +124,9 @@ fn pass_chunk(
     requires within { head.place + 12 + head.size < 2 ^ 64 }
     ensures count { IfOk result (λ n. (found : List walks.Entry) → length found ≡ frames → length (found_with (head_seen head) found) ≡ n) }
     ensures kept { OnOk result ((found : List walks.Entry) → length found ≡ frames → entries.old ≡ take form.now.frames found → entries.new ≡ take form.now.frames (found_with (head_seen head) found)) }
-    ensures faultless { OnOk result (((head_seen head).id is "DSTF") ≡ true → walks.frame_fault (form_seen form.now) (frames, head_seen head) ≡ None) }
+    ensures faultless { OnOk result (((head_seen head).id is "DSTF") ≡ true → walks.frame_fault (coded_seen form.now) (frames, head_seen head) ≡ None) }
     ensures frame { (fault : FileFault) → result ≡ Err (OpenFault.File fault) → ((head_seen head).id is "DSTF") ≡ true }
-    ensures fault { (fault : FileFault) → result ≡ Err (OpenFault.File fault) → walks.frame_fault (form_seen form.now) (frames, head_seen head) ≡ Some fault }
+    ensures fault { (fault : FileFault) → result ≡ Err (OpenFault.File fault) → walks.frame_fault (coded_seen form.now) (frames, head_seen head) ≡ Some fault }
     ensures unread { result ≡ Err OpenFault.Read → ⊥ }
 {
     if head.id != *b"DSTF" {
@@ -147,8 +142,8 @@ fn pass_chunk(
 }
 
 // The fault of a frame behind so many others.
-fn frame_fault(form: &Form, head: ChunkHead, frames: u32) -> Option<FileFault>
-    ensures fault { result ≡ walks.frame_fault (form_seen form.now) (frames, head_seen head) }
+fn frame_fault(form: &CodedForm, head: ChunkHead, frames: u32) -> Option<FileFault>
+    ensures fault { result ≡ walks.frame_fault (coded_seen form.now) (frames, head_seen head) }
     ensures short { IfNone result (head.size < 2 ^ 32) }
     ensures few { IfNone result (frames < MOST_FRAMES) }
 {
@@ -165,8 +160,8 @@ fn frame_fault(form: &Form, head: ChunkHead, frames: u32) -> Option<FileFault>
 }
 
 // Most bytes of a frame.
-pub(crate) fn longest_frame(form: &Form) -> u64
-    ensures longest { result ≡ longest_frame (form_seen form.now) }
+pub(crate) fn longest_frame(form: &CodedForm) -> u64
+    ensures longest { result ≡ longest_frame (coded_seen form.now) }
     ensures fits { result < 2 ^ 32 }
 {
     2 * (form.channels.sound_bytes() as u64 + 1)

@@ -82,7 +82,7 @@ impl Index {
         requires { k < length self.now }
         ensures { entry_seen result ≡ entry self.now k }
     {
-        entry_kept(&self.bytes, k as usize)
+        entry_in(&self.bytes, k as usize)
     }
 }
 
@@ -101,7 +101,7 @@ pub fn compare(a: &Index, b: &Index) -> Option<u32>
 }
 
 // Entry k of bytes that are entries.
-pub(crate) fn entry_kept(bytes: &[u8], k: usize) -> Entry
+pub(crate) fn entry_in(bytes: &[u8], k: usize) -> Entry
     requires { 12 * k + 12 ≤ length bytes.now }
     ensures { entry_seen result ≡ entry_at bytes.now k }
 {

@@ -9,20 +9,21 @@
 //! to the rules of checking a file.
 //!
 //! ```
-//! let form = open_form(alloc, &mut source)?;
+//! let Form::Coded(form) = open_form(alloc, &mut source)? else {
+//!     return Err(OpenFault::File(FileFault::NotCoded));
+//! };
 //! let index = walk(alloc, &mut source, &form)?;
 //! for k in 0..index.length() {
 //!     let frame = index.entry(k);
 //!     read_range(&mut source, frame.offset, &mut buffer[..frame.size as usize])?;
 //! }
-//! let told = read_index(alloc, &mut source, &form)?;
-//! let same = compare(&told, &index).is_none();
+//! let own = read_index(alloc, &mut source, &form)?; // that of the file
+//! let same = compare(&own, &index).is_none();
 //! let third = locate_by_index(&mut source, &form, 2)?; // where there are three frames
 //! ```
 #![tactic(auto)]
 
 mod frames;
-mod head;
 mod index;
 pub mod laws;
 mod lookup;

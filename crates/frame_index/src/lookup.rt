@@ -5,16 +5,15 @@ ghost use Rattle.dsdiff_spec.specs.Bytes.{bytes_at, number_at, ◌is◌};
 ghost use Rattle.dsdiff_spec.specs.Chunks.{Head, named};
 ghost use Rattle.dsdiff_spec.specs.Form.{coded};
 ghost use Rattle.dsdiff_spec.specs.Walk as walks;
-ghost use Rattle.dsdiff_chunks.specs.Seen.{form_seen, head_seen};
-ghost use Rattle.dsdiff_chunks.specs.Lawful.{IsLawful};
+ghost use Rattle.dsdiff_chunks.specs.Forms.{coded_seen};
+ghost use Rattle.dsdiff_chunks.specs.Seen.{head_seen};
 ghost use Rattle.frame_index.specs.Entries.{entry_seen};
 ghost use Rattle.frame_index.specs.Fitting.{IsInside};
 ghost use Rattle.frame_index.specs.Lookup.{index_fault, lies_inside, IsRead};
 
 use crate::frames::longest_frame;
-use crate::head::read_head;
-use crate::index::{Entry, Index, entry_kept};
-use dsdiff_chunks::{ChunkHead, FileFault, Form, OpenFault, read_range};
+use crate::index::{Entry, Index, entry_in};
+use dsdiff_chunks::{ChunkHead, CodedForm, FileFault, OpenFault, read_head, read_range};
 use dst_streams::{Failed, Source};
 use std::alloc::Global;
 
@@ -23,16 +22,14 @@ use std::alloc::Global;
 ///
 /// `IndexMissing`, where the form has no `DSTI`; `IndexBad`, of the number of frames that `FRTE` tells, where the size of
 /// `DSTI` isn't twelve bytes for each of them.
-pub fn read_index<S: Source>(alloc: Global, source: &mut S, form: &Form) -> Result<Index, OpenFault>
-    requires coded { (form_seen form.now).kind ≡ coded }
-    requires lawful { IsLawful (form_seen form.now) }
+pub fn read_index<S: Source>(alloc: Global, source: &mut S, form: &CodedForm) -> Result<Index, OpenFault>
     requires size { (n : ℕ) × (S.known source.old ≡ Some n) × (form.now.end ≤ n) }
     ensures bytes { S.bytes source.new ≡ S.bytes source.old }
     ensures size_stays { S.known source.new ≡ S.known source.old }
-    ensures accepted { OnOk result (index_fault (form_seen form.now) form.now.frames ≡ None) }
+    ensures accepted { OnOk result (index_fault (coded_seen form.now) form.now.frames ≡ None) }
     ensures count { IfOk result (λ i. length i ≡ form.now.frames) }
-    ensures index { IfOk result (λ i. (xs : List ℕ) → S.bytes source.old ≡ Some xs → IsRead xs (form_seen form.now) i) }
-    ensures fault { (fault : FileFault) → result ≡ Err (OpenFault.File fault) → index_fault (form_seen form.now) form.now.frames ≡ Some fault }
+    ensures index { IfOk result (λ i. (xs : List ℕ) → S.bytes source.old ≡ Some xs → IsRead xs (coded_seen form.now) i) }
+    ensures fault { (fault : FileFault) → result ≡ Err (OpenFault.File fault) → index_fault (coded_seen form.now) form.now.frames ≡ Some fault }
     ensures read { result ≡ Err OpenFault.Read → Rose (S.faults source.old) (S.faults source.new) }
     ensures later { S.faults source.old ≤ S.faults source.new }
     ensures given { S.given source.new ≤ S.given source.old + 12 * form.now.frames }
@@ -51,21 +48,19 @@ pub fn read_index<S: Source>(alloc: Global, source: &mut S, form: &Form) -> Resu
 /// of the entry and the twelve before the frame.
 ///
 /// In this order: `IndexMissing`, where the form has no `DSTI`; `IndexBad`, of k, where the size of `DSTI` isn't twelve
-/// bytes for each told frame, where the entry's place doesn't leave room for the head of a chunk behind `FRTE`, where the
+/// bytes for each frame of the frame count, where the entry's place doesn't leave room for the head of a chunk behind `FRTE`, where the
 /// frame passes the end of `DST `, or where the twelve bytes before it aren't the head of a `DSTF` of this size;
 /// `FrameTooLong`, where the frame has more than `2 * (f + 1)` bytes, f being the bytes of a frame's sound. It takes no
 /// memory.
-pub fn locate_by_index<S: Source>(source: &mut S, form: &Form, k: u32) -> Result<Entry, OpenFault>
-    requires coded { (form_seen form.now).kind ≡ coded }
-    requires lawful { IsLawful (form_seen form.now) }
+pub fn locate_by_index<S: Source>(source: &mut S, form: &CodedForm, k: u32) -> Result<Entry, OpenFault>
     requires size { (n : ℕ) × (S.known source.old ≡ Some n) × (form.now.end ≤ n) }
     requires below { k < form.now.frames }
     ensures bytes { S.bytes source.new ≡ S.bytes source.old }
     ensures size_stays { S.known source.new ≡ S.known source.old }
-    ensures accepted { OnOk result ((xs : List ℕ) → S.bytes source.old ≡ Some xs → walks.by_index_fault xs (form_seen form.now) k ≡ None) }
-    ensures entry { IfOk result (λ e. (xs : List ℕ) → S.bytes source.old ≡ Some xs → entry_seen e ≡ walks.indexed xs (form_seen form.now) k) }
-    ensures inside { IfOk result (λ e. IsInside (form_seen form.now) (entry_seen e)) }
-    ensures fault { (fault : FileFault) → result ≡ Err (OpenFault.File fault) → (xs : List ℕ) → S.bytes source.old ≡ Some xs → walks.by_index_fault xs (form_seen form.now) k ≡ Some fault }
+    ensures accepted { OnOk result ((xs : List ℕ) → S.bytes source.old ≡ Some xs → walks.by_index_fault xs (coded_seen form.now) k ≡ None) }
+    ensures entry { IfOk result (λ e. (xs : List ℕ) → S.bytes source.old ≡ Some xs → entry_seen e ≡ walks.indexed xs (coded_seen form.now) k) }
+    ensures inside { IfOk result (λ e. IsInside (coded_seen form.now) (entry_seen e)) }
+    ensures fault { (fault : FileFault) → result ≡ Err (OpenFault.File fault) → (xs : List ℕ) → S.bytes source.old ≡ Some xs → walks.by_index_fault xs (coded_seen form.now) k ≡ Some fault }
     ensures read { result ≡ Err OpenFault.Read → Rose (S.faults source.old) (S.faults source.new) }
     ensures memory { result ≡ Err OpenFault.Memory → ⊥ }
     ensures later { S.faults source.old ≤ S.faults source.new }
@@ -92,19 +87,18 @@ pub fn locate_by_index<S: Source>(source: &mut S, form: &Form, k: u32) -> Result
     Ok(entry)
 }
 
-// The index of a form, where it has twelve bytes for each told frame; else the fault, of the entry that is told.
-fn index_of(form: &Form, told: u32) -> Result<ChunkHead, FileFault>
-    requires lawful { IsLawful (form_seen form.now) }
-    ensures accepted { OnOk result (index_fault (form_seen form.now) told ≡ None) }
-    ensures head { IfOk result (λ h. walks.index_head (form_seen form.now) ≡ head_seen h) }
+// The index of a form, where it has twelve bytes for each frame of the frame count; else the fault, of the entry that is asked for.
+fn index_of(form: &CodedForm, entry: u32) -> Result<ChunkHead, FileFault>
+    ensures accepted { OnOk result (index_fault (coded_seen form.now) entry ≡ None) }
+    ensures head { IfOk result (λ h. walks.index_head (coded_seen form.now) ≡ head_seen h) }
     ensures within { IfOk result (λ h. h.place + 12 + 12 * form.now.frames ≤ form.now.end) }
-    ensures fault { (fault : FileFault) → result ≡ Err fault → index_fault (form_seen form.now) told ≡ Some fault }
+    ensures fault { (fault : FileFault) → result ≡ Err fault → index_fault (coded_seen form.now) entry ≡ Some fault }
 {
-    let Some(head) = first_index(form.chunks.as_slice()) else {
+    let Some(head) = first_index(form.heads.as_slice()) else {
         return Err(FileFault::IndexMissing);
     };
     if head.size != 12 * u64::from(form.frames) {
-        return Err(FileFault::IndexBad { entry: told });
+        return Err(FileFault::IndexBad { entry });
     }
     Ok(head)
 }
@@ -161,22 +155,21 @@ fn read_entry<S: Source>(source: &mut S, place: u64) -> Result<Entry, Failed>
 {
     let mut bytes = [0; 12];
     match read_range(source, place, &mut bytes) {
-        Ok(()) => Ok(entry_kept(&bytes, 0)),
+        Ok(()) => Ok(entry_in(&bytes, 0)),
         Err(failed) => Err(failed),
     }
 }
 
 // Whether an entry is that of a frame: it lies inside `DST ` behind `FRTE`, with the head of a `DSTF` of its size before
 // it. The head is read only where it lies inside.
-fn names_frame<S: Source>(source: &mut S, form: &Form, entry: Entry) -> Result<bool, Failed>
-    requires lawful { IsLawful (form_seen form.now) }
+fn names_frame<S: Source>(source: &mut S, form: &CodedForm, entry: Entry) -> Result<bool, Failed>
     requires size { (n : ℕ) × (S.known source.old ≡ Some n) × (form.now.end ≤ n) }
     ensures bytes { S.bytes source.new ≡ S.bytes source.old }
     ensures size_stays { S.known source.new ≡ S.known source.old }
     ensures given { S.given source.new ≤ S.given source.old + 12 }
     ensures cause { HasCause (S.faults source.old) (S.faults source.new) result }
-    ensures named { IfOk result (λ b. (xs : List ℕ) → S.bytes source.old ≡ Some xs → b ≡ walks.names_frame xs (form_seen form.now) (entry_seen entry)) }
-    ensures inside { IfOk result (λ b. b ≡ true → lies_inside (form_seen form.now) (entry_seen entry) ≡ true) }
+    ensures named { IfOk result (λ b. (xs : List ℕ) → S.bytes source.old ≡ Some xs → b ≡ walks.names_frame xs (coded_seen form.now) (entry_seen entry)) }
+    ensures inside { IfOk result (λ b. b ≡ true → lies_inside (coded_seen form.now) (entry_seen entry) ≡ true) }
 {
     if !lies_inside(form, entry) {
         return Ok(false);
@@ -188,9 +181,8 @@ fn names_frame<S: Source>(source: &mut S, form: &Form, entry: Entry) -> Result<b
 }
 
 // Whether an entry and the twelve bytes before it lie inside `DST ` behind `FRTE`.
-fn lies_inside(form: &Form, entry: Entry) -> bool
-    requires lawful { IsLawful (form_seen form.now) }
-    ensures { result ≡ lies_inside (form_seen form.now) (entry_seen entry) }
+fn lies_inside(form: &CodedForm, entry: Entry) -> bool
+    ensures { result ≡ lies_inside (coded_seen form.now) (entry_seen entry) }
 {
     let body = form.sound.place + 12;
     let end = body + form.sound.size;

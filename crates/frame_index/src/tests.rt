@@ -1,24 +1,21 @@
 // Each call once, with ample memory.
 use super::*;
-use dsdiff_chunks::{FileFault, Kind, OpenFault, open_form};
+use dsdiff_chunks::{FileFault, Form, OpenFault, open_form};
 use dst_streams::HonestSource;
 use std::alloc::Global;
 use std::test::Fail;
 
-// One channel. Two frames of one and of three bytes, which are told at place 125, and a checksum between them. The last
+// One channel. Two frames of one and of three bytes, whose count stands at place 125, and a checksum between them. The last
 // pad byte is missing.
 const TWO_FRAMES: [u8; 171] =
     *b"FRM8\0\0\0\0\0\0\0\x9fDSD FVER\0\0\0\0\0\0\0\x04\x01\x05\0\0PROP\0\0\0\0\0\0\0\x36SND FS  \0\0\0\0\0\0\0\x04\0\x2b\x11\0CHNL\0\0\0\0\0\0\0\x06\0\x01C   CMPR\0\0\0\0\0\0\0\x04DST DST \0\0\0\0\0\0\0\x3dFRTE\0\0\0\0\0\0\0\x06\0\0\0\x02\0\x4bDSTF\0\0\0\0\0\0\0\x01\0\0DSTC\0\0\0\0\0\0\0\x02\0\0DSTF\0\0\0\0\0\0\0\x03\0\0\0";
 
 fn walk_of(alloc: Global, bytes: &[u8]) -> Result<Index, OpenFault> {
     let mut source = HonestSource::new(bytes);
-    let form = match open_form(alloc, &mut source) {
-        Ok(form) => form,
-        Err(fault) => return Err(fault),
-    };
-    match form.kind {
-        Kind::Coded => walk(alloc, &mut source, &form),
-        Kind::Plain => Err(OpenFault::File(FileFault::NotCoded)),
+    match open_form(alloc, &mut source) {
+        Ok(Form::Coded(form)) => walk(alloc, &mut source, &form),
+        Ok(Form::Plain(_)) => Err(OpenFault::File(FileFault::NotCoded)),
+        Err(fault) => Err(fault),
     }
 }
 
@@ -56,12 +53,12 @@ fn a_walk_refuses_another_number_of_frames(rt: HostRuntime) -> Result<(), Fail> 
         Ok(_) => None,
         Err(fault) => Some(fault),
     };
-    let expected = OpenFault::File(FileFault::CountDiffers { told: 3, found: 2 });
+    let expected = OpenFault::File(FileFault::CountDiffers { count: 3, found: 2 });
     assert_eq!(rt; fault, Some(expected));
     Ok(())
 }
 
-// The same frames, told by an index behind `DST `: 140 and 1, 168 and 3.
+// The same frames, named by an index behind `DST `: 140 and 1, 168 and 3.
 const INDEXED: [u8; 208] =
     *b"FRM8\0\0\0\0\0\0\0\xc4DSD FVER\0\0\0\0\0\0\0\x04\x01\x05\0\0PROP\0\0\0\0\0\0\0\x36SND FS  \0\0\0\0\0\0\0\x04\0\x2b\x11\0CHNL\0\0\0\0\0\0\0\x06\0\x01C   CMPR\0\0\0\0\0\0\0\x04DST DST \0\0\0\0\0\0\0\x3dFRTE\0\0\0\0\0\0\0\x06\0\0\0\x02\0\x4bDSTF\0\0\0\0\0\0\0\x01\0\0DSTC\0\0\0\0\0\0\0\x02\0\0DSTF\0\0\0\0\0\0\0\x03\0\0\0\0DSTI\0\0\0\0\0\0\0\x18\0\0\0\0\0\0\0\x8c\0\0\0\x01\0\0\0\0\0\0\0\xa8\0\0\0\x03";
 
@@ -74,8 +71,7 @@ const LONG_INDEX: [u8; 24] = *b"DSTI\0\0\0\0\0\0\0\x0c\0\0\0\0\0\0\0\x8c\0\0\x24
 // The first entry in which the index of a file differs from its walk.
 fn difference(alloc: Global, bytes: &[u8]) -> Result<Option<u32>, OpenFault> {
     let mut source = HonestSource::new(bytes);
-    let form = open_form(alloc, &mut source)?;
-    let Kind::Coded = form.kind else {
+    let Form::Coded(form) = open_form(alloc, &mut source)? else {
         return Err(OpenFault::File(FileFault::NotCoded));
     };
     let index = read_index(alloc, &mut source, &form)?;
@@ -85,8 +81,7 @@ fn difference(alloc: Global, bytes: &[u8]) -> Result<Option<u32>, OpenFault> {
 
 fn located(alloc: Global, bytes: &[u8], k: u32) -> Result<Entry, OpenFault> {
     let mut source = HonestSource::new(bytes);
-    let form = open_form(alloc, &mut source)?;
-    let Kind::Coded = form.kind else {
+    let Form::Coded(form) = open_form(alloc, &mut source)? else {
         return Err(OpenFault::File(FileFault::NotCoded));
     };
     if k >= form.frames {

@@ -1,24 +1,24 @@
 -- The rules on a coded form speak of its parts, and where none fails the form is as they tell.
 use Rattle.std.proofs.Common.{◌≡◌, ℕ, ◌+◌, ◌≤◌, List, [], length, map, Ok, refl, sym, ap, ◌∙◌, subst, arith}
-use Rattle.std.specs.Prelude.{if◌then◌else◌, option_map}
-use Rattle.std.specs.List.{Contains}
+use Rattle.std.specs.Prelude.{filter, if◌then◌else◌, option_map}
 use Rattle.dst_spec.specs.Sample.{sound_bytes}
 use Rattle.dsdiff_spec.specs.Bytes.{◌is◌}
 use Rattle.dsdiff_spec.specs.Chunks.{Head, named}
 use Rattle.dsdiff_spec.specs.Faults.{◌when◌}
 use Rattle.dsdiff_spec.specs.Form.{plain, coded}
 use Rattle.dsdiff_spec.specs.Parts.{channel_count, multiple}
-use Rattle.dsdiff_spec.specs.Rules.{local_fault, form_fault, kind_fault, form_of_kind, kept_in}
+use Rattle.dsdiff_spec.specs.Rules.{local_fault, form_fault, kind_fault, form_of_kind, origin_in}
 use Rattle.dsdiff_spec.specs.declared.faults.FileFault.TheVariants.{KeptBad}
-use Rattle.dsdiff_chunks.specs.declared.form.ChunkHead.{ChunkHead}
-use Rattle.dsdiff_chunks.specs.Lawful.{TileTo, IsKeptIfAny}
-use Rattle.dsdiff_chunks.specs.Opening.{is_sound, are_bad_kepts}
+use Rattle.dsdiff_chunks.specs.declared.lists.ChunkHead.{ChunkHead}
+use Rattle.dsdiff_chunks.specs.Lawful.{TileTo, IsOriginIfAny}
+use Rattle.dsdiff_chunks.specs.Opening.{is_sound, are_bad_origins}
 use Rattle.dsdiff_chunks.specs.Prepared.{heads_of}
-use Rattle.dsdiff_chunks.specs.Seen.{head_seen, kind_seen, kept_seen}
+use Rattle.dsdiff_chunks.specs.Kinds.{kind_seen}
+use Rattle.dsdiff_chunks.specs.Seen.{head_seen, origin_seen}
 use Rattle.dsdiff_chunks.proofs.Chain.{form_is_accepted}
 use Rattle.dsdiff_chunks.proofs.Only.{passed_is_there, only_within}
 use Rattle.dsdiff_chunks.proofs.Stopping.{Stops-in}
-use Rattle.dsdiff_chunks.proofs.Whole.{same_form, multiple_back, shape_back, channels_of, rules_at_0, coded_at_sound, told_by_parts, coded_past_sound}
+use Rattle.dsdiff_chunks.proofs.Whole.{same_form, multiple_back, shape_back, channels_of, rules_at_0, coded_at_sound, count_by_parts, coded_past_sound}
 use Rattle.dsdiff_chunks.proofs.build.coded_form.Goals as goal
 
 pub read_frte-requires-clause-known : goal.read_frte-requires-clause-known
@@ -47,23 +47,23 @@ returns-in-Err-clause-stops g c =
     has.left ∙ ap (λ k. kind_fault k xs) kind_is ∙ coded_at_sound xs (head_seen p.sound.head) f has.sound e)
     c.in-Err.ensures.stops
 
-pub returns-in-Err-read_any_kept-clause-stops : goal.returns-in-Err-read_any_kept-clause-stops
-returns-in-Err-read_any_kept-clause-stops g c =
+pub returns-in-Err-read_any_origin-clause-stops : goal.returns-in-Err-read_any_origin-clause-stops
+returns-in-Err-read_any_origin-clause-stops g c =
     let p = c.args.parts in
     let parts = c.requires.parts in
     let shape = p.prop.fields.channels in
     let frte = c.in-Ok.ensures in
     let slice = ap (λ (hs : List ChunkHead). named "KEPT" (map head_seen hs)) c.as_slice.ensures.value in
     Stops-in _ form_fault (g.S.Source.bytes c.args.source.now) (g.S.Source.bytes c.read_frte.new.source) (g.S.Source.faults c.args.source.now) (g.S.Source.faults c.read_frte.new.source) _
-    c.in-Err-read_any_kept.fault frte.source.same_bytes frte.source.later
+    c.in-Err-read_any_origin.fault frte.source.same_bytes frte.source.later
     (λ xs f told e.
     let has = parts.told xs told in
     let kind_is = ap (λ (h : Head). if h.id is "DSD " then plain else coded) has.sound ∙ sym parts.sound.kind_is ∙ ap kind_seen c.requires.kind in
     has.left ∙ ap (λ k. kind_fault k xs) kind_is
-    ∙ coded_past_sound xs p.prop.body.items (heads_of p) (head_seen p.sound.head) shape c.in-Ok.frames has.chunks has.body has.sound parts.shape (frte.told xs told) (frte.accepted xs told)
-    ∙ ap (λ hs. KeptBad when are_bad_kepts shape.channels (sound_bytes shape) c.in-Ok.frames xs hs) (sym slice)
+    ∙ coded_past_sound xs p.prop.body.items (heads_of p) (head_seen p.sound.head) shape c.in-Ok.frames has.chunks has.body has.sound parts.shape (frte.count xs told) (frte.accepted xs told)
+    ∙ ap (λ hs. KeptBad when are_bad_origins shape.channels (sound_bytes shape) c.in-Ok.frames xs hs) (sym slice)
     ∙ e)
-    c.in-Err-read_any_kept.ensures.stops
+    c.in-Err-read_any_origin.ensures.stops
 
 pub returns-clause-form : goal.returns-clause-form
 returns-clause-form g c xs told =
@@ -72,13 +72,13 @@ returns-clause-form g c xs told =
     let has = parts.told xs told in
     let shape = p.prop.fields.channels in
     let frte = c.in-Ok.ensures in
-    let kept = c.in-Ok-read_any_kept.ensures in
+    let kept = c.in-Ok-read_any_origin.ensures in
     let there = frte.source.same_bytes ∙ told in
     let slice = ap (λ (hs : List ChunkHead). named "KEPT" (map head_seen hs)) c.as_slice.ensures.value in
     let kind_is = ap (λ (h : Head). if h.id is "DSD " then plain else coded) has.sound ∙ sym parts.sound.kind_is ∙ ap kind_seen c.requires.kind in
     let none = has.left ∙ ap (λ k. kind_fault k xs) kind_is
-    ∙ coded_past_sound xs p.prop.body.items (heads_of p) (head_seen p.sound.head) shape c.in-Ok.frames has.chunks has.body has.sound parts.shape (frte.told xs told) (frte.accepted xs told)
-    ∙ ap (λ hs. KeptBad when are_bad_kepts shape.channels (sound_bytes shape) c.in-Ok.frames xs hs) (sym slice)
+    ∙ coded_past_sound xs p.prop.body.items (heads_of p) (head_seen p.sound.head) shape c.in-Ok.frames has.chunks has.body has.sound parts.shape (frte.count xs told) (frte.accepted xs told)
+    ∙ ap (λ hs. KeptBad when are_bad_origins shape.channels (sound_bytes shape) c.in-Ok.frames xs hs) (sym slice)
     ∙ ap (λ b. KeptBad when b) (kept.accepted xs there) in
     form_is_accepted xs none
     ∙ ap Ok
@@ -89,37 +89,39 @@ returns-clause-form g c xs told =
     (has.chunks ∙ sym (ap (map head_seen) c.from_vec.ensures))
     (has.body ∙ sym c.from_vec-2.ensures)
     has.sound
-    (told_by_parts xs (head_seen p.sound.head) c.in-Ok.frames has.sound (frte.told xs told))
-    (ap (λ hs. kept_in xs (named "KEPT" hs)) has.chunks ∙ ap (kept_in xs) (sym slice) ∙ sym (kept.kept xs there))
+    (count_by_parts xs (head_seen p.sound.head) c.in-Ok.frames has.sound (frte.count xs told))
+    (ap (λ hs. origin_in xs (named "KEPT" hs)) has.chunks ∙ ap (origin_in xs) (sym slice) ∙ sym (kept.origin xs there))
     refl
-    (sym c.new.ensures.items ∙ sym c.from_vec-3.ensures))
+    refl)
 
-pub returns-clause-lawful : goal.returns-clause-lawful
-returns-clause-lawful g c =
+pub invariant_of-result : goal.invariant_of-result
+invariant_of-result g c =
     let p = c.args.parts in
     let parts = c.requires.parts in
     let sound = head_seen p.sound.head in
     let shape = p.prop.fields.channels in
     let heads : heads_of p ≡ map head_seen c.from_vec.result = sym (ap (map head_seen) c.from_vec.ensures) in
     let body : p.prop.body.items ≡ c.from_vec-2.result = sym c.from_vec-2.ensures in
-    let there = passed_is_there is_sound (heads_of p) sound [] parts.sound.found in
     let back = shape_back shape (channel_count p.prop.body.items) (multiple p.prop.body.items) parts.shape in
     record {
-      end = parts.chunks.most;
-      few = subst (λ (hs : List Head). length hs ≤ 1024) heads parts.chunks.few;
-      chunks = subst (λ (hs : List Head). TileTo p.chunks.end 16 hs) heads parts.chunks.tiled;
-      sound = subst (λ (hs : List Head). Contains hs sound) heads there;
-      prop = record {
-        most = subst (λ (b : List ℕ). length b ≤ 65536) body parts.most;
-        rules = ap (λ b. local_fault 0 b) (sym body) ∙ rules_at_0 (p.prop_head.place + 12) p.prop.body.items parts.rules;
+      lawful = record {
+        end = parts.chunks.most;
+        few = subst (λ (hs : List Head). length hs ≤ 1024) heads parts.chunks.few;
+        chunks = subst (λ (hs : List Head). TileTo p.chunks.end 16 hs) heads parts.chunks.tiled;
+        sound = ap (filter is_sound) (sym heads) ∙ parts.sound.found;
+        prop = record {
+          most = subst (λ (b : List ℕ). length b ≤ 65536) body parts.most;
+          rules = ap (λ b. local_fault 0 b) (sym body) ∙ rules_at_0 (p.prop_head.place + 12) p.prop.body.items parts.rules;
+        };
+        channels = ap (λ s. s.channels) parts.shape ∙ ap channel_count body;
+        multiple = multiple_back shape (channel_count p.prop.body.items) (multiple p.prop.body.items) parts.shape ∙ ap multiple body;
+        frames = c.in-Ok.ensures.few;
+        of_kind = record {
+          least = c.in-Ok.ensures.least;
+          origin = subst (λ (n : ℕ). IsOriginIfAny shape.channels n c.in-Ok.frames (option_map origin_seen c.in-Ok-read_any_origin.origin)) (sym (ap sound_bytes back)) c.in-Ok-read_any_origin.ensures.lawful;
+          pad = refl;
+          behind = refl;
+        };
       };
-      channels = ap (λ s. s.channels) parts.shape ∙ ap channel_count body;
-      multiple = multiple_back shape (channel_count p.prop.body.items) (multiple p.prop.body.items) parts.shape ∙ ap multiple body;
-      frames = c.in-Ok.ensures.few;
-      of_kind = record {
-        least = c.in-Ok.ensures.least;
-        kept = subst (λ (n : ℕ). IsKeptIfAny shape.channels n c.in-Ok.frames (option_map kept_seen c.in-Ok-read_any_kept.kept)) (sym (ap sound_bytes back)) c.in-Ok-read_any_kept.ensures.lawful;
-        pad = refl;
-        tail = c.from_vec-3.ensures ∙ c.new.ensures.items;
-      };
+      shape = back;
     }

@@ -1,7 +1,6 @@
 -- The rules on a plain form speak of its parts, and where none fails the form is as they tell.
 use Rattle.std.proofs.Common.{◌≡◌, ℕ, ◌+◌, ◌%◌, ◌≤◌, List, [], length, map, get_or, true, Ok, refl, sym, ap, ◌∙◌, subst, arith}
-use Rattle.std.specs.Prelude.{◌==◌, if◌then◌else◌}
-use Rattle.std.specs.List.{Contains}
+use Rattle.std.specs.Prelude.{◌==◌, filter, if◌then◌else◌}
 use Rattle.std.proofs.lemmas.List.Elements.{All-contains}
 use Rattle.dst_spec.specs.Sample.{sound_bytes}
 use Rattle.dsdiff_spec.specs.Bytes.{◌is◌}
@@ -12,11 +11,12 @@ use Rattle.dsdiff_spec.specs.Rules.{local_fault, form_fault, kind_fault, form_of
 use Rattle.dsdiff_chunks.specs.Lawful.{TileTo}
 use Rattle.dsdiff_chunks.specs.Opening.{may_lack_pad, is_sound}
 use Rattle.dsdiff_chunks.specs.Prepared.{heads_of}
-use Rattle.dsdiff_chunks.specs.Seen.{head_seen, kind_seen}
+use Rattle.dsdiff_chunks.specs.Kinds.{kind_seen}
+use Rattle.dsdiff_chunks.specs.Seen.{head_seen}
 use Rattle.dsdiff_chunks.proofs.Chain.{form_is_accepted}
 use Rattle.dsdiff_chunks.proofs.Only.{passed_is_there}
 use Rattle.dsdiff_chunks.proofs.Stopping.{Stops-in}
-use Rattle.dsdiff_chunks.proofs.Whole.{same_form, multiple_back, shape_back, channels_of, rules_at_0, is_plain_id, next_fits, plain_by_parts, plain_frames, tail_by_parts}
+use Rattle.dsdiff_chunks.proofs.Whole.{same_form, multiple_back, shape_back, channels_of, rules_at_0, is_plain_id, next_fits, plain_by_parts, plain_frames, behind_by_parts}
 use Rattle.dsdiff_chunks.proofs.build.plain_form.Goals as goal
 
 pub read_plain-requires-clause-padded : goal.read_plain-requires-clause-padded
@@ -67,10 +67,10 @@ returns-clause-form g c xs told =
     (plain_frames xs p.prop.body.items (head_seen p.sound.head) shape has.body has.sound parts.shape ∙ sym found.frames)
     refl
     (ap (λ (h : Head). if h.size % 2 == 1 then get_or xs (body_end h) 0 else 0) has.sound ∙ sym (found.pad xs told))
-    (tail_by_parts xs p.chunks.size p.chunks.end has.long has.ends ∙ sym (found.tail xs told) ∙ sym c.from_vec-3.ensures))
+    (behind_by_parts xs p.chunks.size p.chunks.end has.long has.ends ∙ sym (found.behind xs told) ∙ sym c.from_vec-3.ensures))
 
-pub returns-clause-lawful : goal.returns-clause-lawful
-returns-clause-lawful g c =
+pub invariant_of-result : goal.invariant_of-result
+invariant_of-result g c =
     let p = c.args.parts in
     let parts = c.requires.parts in
     let sound = head_seen p.sound.head in
@@ -78,28 +78,31 @@ returns-clause-lawful g c =
     let found = c.in-Ok.ensures in
     let heads : heads_of p ≡ map head_seen c.from_vec.result = sym (ap (map head_seen) c.from_vec.ensures) in
     let body : p.prop.body.items ≡ c.from_vec-2.result = sym c.from_vec-2.ensures in
-    let tail : c.in-Ok.plain.tail.items ≡ c.from_vec-3.result = sym c.from_vec-3.ensures in
+    let behind : c.in-Ok.plain.behind.items ≡ c.from_vec-3.result = sym c.from_vec-3.ensures in
     let there = passed_is_there is_sound (heads_of p) sound [] parts.sound.found in
     let back = shape_back shape (channel_count p.prop.body.items) (multiple p.prop.body.items) parts.shape in
     let id = is_plain_id (sound.id is "DSD ") (sym (ap kind_seen c.requires.kind) ∙ parts.sound.kind_is) in
     record {
-      end = parts.chunks.most;
-      few = subst (λ (hs : List Head). length hs ≤ 1024) heads parts.chunks.few;
-      chunks = subst (λ (hs : List Head). TileTo p.chunks.end 16 hs) heads parts.chunks.tiled;
-      sound = subst (λ (hs : List Head). Contains hs sound) heads there;
-      prop = record {
-        most = subst (λ (b : List ℕ). length b ≤ 65536) body parts.most;
-        rules = ap (λ b. local_fault 0 b) (sym body) ∙ rules_at_0 (p.prop_head.place + 12) p.prop.body.items parts.rules;
+      lawful = record {
+        end = parts.chunks.most;
+        few = subst (λ (hs : List Head). length hs ≤ 1024) heads parts.chunks.few;
+        chunks = subst (λ (hs : List Head). TileTo p.chunks.end 16 hs) heads parts.chunks.tiled;
+        sound = ap (filter is_sound) (sym heads) ∙ parts.sound.found;
+        prop = record {
+          most = subst (λ (b : List ℕ). length b ≤ 65536) body parts.most;
+          rules = ap (λ b. local_fault 0 b) (sym body) ∙ rules_at_0 (p.prop_head.place + 12) p.prop.body.items parts.rules;
+        };
+        channels = ap (λ s. s.channels) parts.shape ∙ ap channel_count body;
+        multiple = multiple_back shape (channel_count p.prop.body.items) (multiple p.prop.body.items) parts.shape ∙ ap multiple body;
+        frames = found.few;
+        of_kind = record {
+          even = found.even;
+          frames = found.frames ∙ sym (ap (λ s. frames_for (sound_bytes s) sound.size) back);
+          origin = refl;
+          padded = next_fits p.chunks.end sound (All-contains (λ h. fits may_lack_pad p.chunks.end h ≡ true) (heads_of p) sound parts.chunks.whole there) id;
+          pad = found.pad_even;
+          behind = subst (λ (b : List ℕ). length b ≤ 65536) behind found.behind_most;
+        };
       };
-      channels = ap (λ s. s.channels) parts.shape ∙ ap channel_count body;
-      multiple = multiple_back shape (channel_count p.prop.body.items) (multiple p.prop.body.items) parts.shape ∙ ap multiple body;
-      frames = found.few;
-      of_kind = record {
-        even = found.even;
-        frames = found.frames ∙ sym (ap (λ s. frames_for (sound_bytes s) sound.size) back);
-        kept = refl;
-        padded = next_fits p.chunks.end sound (All-contains (λ h. fits may_lack_pad p.chunks.end h ≡ true) (heads_of p) sound parts.chunks.whole there) id;
-        pad = found.pad_even;
-        tail = subst (λ (b : List ℕ). length b ≤ 65536) tail found.tail_most;
-      };
+      shape = back;
     }

@@ -2,8 +2,9 @@
 use Rattle.std.proofs.Common.{◌+◌, List, map, refl, sym, ap, ◌∙◌, subst, arith}
 use Rattle.dsdiff_spec.specs.Parts.{compression}
 use Rattle.dsdiff_spec.specs.Rules.{opening_fault, local_fault, form_fault}
-use Rattle.dsdiff_chunks.specs.declared.form.ChunkHead.{ChunkHead}
-use Rattle.dsdiff_chunks.specs.Seen.{head_seen, kind_seen}
+use Rattle.dsdiff_chunks.specs.declared.lists.ChunkHead.{ChunkHead}
+use Rattle.dsdiff_chunks.specs.Kinds.{kind_seen}
+use Rattle.dsdiff_chunks.specs.Seen.{head_seen}
 use Rattle.dsdiff_chunks.specs.Steps.{IsTheSound}
 use Rattle.dsdiff_chunks.proofs.Chain.{at_opening, at_version, at_props, the_prop, the_body, at_prop, past_prop, at_sound, past_sound, the_sound}
 use Rattle.dsdiff_chunks.proofs.Stopping.{Stops-in}

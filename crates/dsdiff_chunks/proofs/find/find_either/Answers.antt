@@ -3,7 +3,7 @@ use Rattle.std.specs.Prelude.{◌||◌, bytes_eq, filter}
 use Rattle.std.proofs.lemmas.List.{take_more, map-append}
 use Rattle.std.proofs.lemmas.List.Elements.{filter-append}
 use Rattle.dsdiff_spec.specs.Chunks.{Head}
-use Rattle.dsdiff_chunks.specs.declared.form.ChunkHead.{ChunkHead}
+use Rattle.dsdiff_chunks.specs.declared.lists.ChunkHead.{ChunkHead}
 use Rattle.dsdiff_chunks.specs.Found.{FoundAre}
 use Rattle.dsdiff_chunks.specs.Seen.{head_seen}
 use Rattle.dsdiff_chunks.proofs.find.find_either.Goals as goal

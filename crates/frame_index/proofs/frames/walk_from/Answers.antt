@@ -1,30 +1,32 @@
 -- The loop keeps what was found up to its place.
 use Rattle.std.proofs.Common.{◌≡◌, ◌+◌, ◌%◌, ◌<◌, ◌≤◌, Err, refl, sym, ap, ◌∙◌, arith}
 use Rattle.dsdiff_spec.specs.Chunks.{body_end, next_place}
-use Rattle.dsdiff_chunks.specs.Seen.{form_seen, head_seen}
-use Rattle.frame_index.proofs.Passing.{sound_within, sound_least, walk_begins, walk_goes_on, same_error, same_fault, stops_at_limit, stops_at_misfit, stops_at_bad_frame, stops_at_other_count, walk_is, walk_fits}
+use Rattle.dsdiff_chunks.specs.Forms.{coded_seen}
+use Rattle.dsdiff_chunks.specs.Seen.{head_seen}
+use Rattle.dsdiff_chunks.proofs.LawfulForms.{sound_inside}
+use Rattle.frame_index.proofs.Passing.{walk_begins, walk_goes_on, same_error, same_fault, stops_at_limit, stops_at_misfit, stops_at_bad_frame, stops_at_other_count, walk_is, walk_fits}
 use Rattle.frame_index.proofs.frames.walk_from.Goals as goal
 
 pub overflow_add-end : goal.overflow_add-end
 overflow_add-end g c =
-    let within = sound_within (form_seen c.args.form.now) c.requires.lawful in omega (arith, within, c.requires.lawful.end)
+    let within = sound_inside (coded_seen c.args.form.now) c.args.form.now.lawful in omega (arith, within, c.args.form.now.lawful.end)
 
 pub overflow_add-end-2 : goal.overflow_add-end-2
 overflow_add-end-2 g c =
-    let within = sound_within (form_seen c.args.form.now) c.requires.lawful in omega (arith, within, c.requires.lawful.end)
+    let within = sound_inside (coded_seen c.args.form.now) c.args.form.now.lawful in omega (arith, within, c.args.form.now.lawful.end)
 
 pub overflow_add-place : goal.overflow_add-place
 overflow_add-place g c =
-    let within = sound_within (form_seen c.args.form.now) c.requires.lawful in omega (arith, within, c.requires.lawful.end)
+    let within = sound_inside (coded_seen c.args.form.now) c.args.form.now.lawful in omega (arith, within, c.args.form.now.lawful.end)
 
 pub overflow_add-place-2 : goal.overflow_add-place-2
 overflow_add-place-2 g c =
-    let within = sound_within (form_seen c.args.form.now) c.requires.lawful in omega (arith, within, c.requires.lawful.end)
+    let within = sound_inside (coded_seen c.args.form.now) c.args.form.now.lawful in omega (arith, within, c.args.form.now.lawful.end)
 
 pub loop-place-init : goal.loop-place-init
 loop-place-init g c =
-    let form = form_seen c.args.form.now in
-    let least = sound_least form c.requires.lawful c.requires.coded in
+    let form = coded_seen c.args.form.now in
+    let least = c.args.form.now.lawful.of_kind.least in
     record {
       bytes = refl;
       known = refl;
@@ -38,7 +40,7 @@ loop-place-init g c =
 
 pub returns-then-passed-eq-MOST_CHUNKS-clause-fault : goal.returns-then-passed-eq-MOST_CHUNKS-clause-fault
 returns-then-passed-eq-MOST_CHUNKS-clause-fault g c fault e xs told =
-    let form = form_seen c.args.form.now in
+    let form = coded_seen c.args.form.now in
     let w = c.loop-place.invariant.walked in
     stops_at_limit form (g.S.Source.bytes c.args.source.now) c.loop-place.passed c.loop-place.place c.loop-place.frames c.loop-place.entries xs w told
     c.if-passed-eq-MOST_CHUNKS.true c.loop-place-test.true
@@ -46,12 +48,12 @@ returns-then-passed-eq-MOST_CHUNKS-clause-fault g c fault e xs told =
 
 pub next_head-requires-clause-size : goal.next_head-requires-clause-size
 next_head-requires-clause-size g c =
-    let within = sound_within (form_seen c.args.form.now) c.requires.lawful in
+    let within = sound_inside (coded_seen c.args.form.now) c.args.form.now.lawful in
     (c.requires.size.0, c.loop-place.invariant.known ∙ c.requires.size.1, omega (arith, within, c.requires.size.2))
 
 pub returns-in-Err-clause-fault : goal.returns-in-Err-clause-fault
 returns-in-Err-clause-fault g c fault e xs told =
-    let form = form_seen c.args.form.now in
+    let form = coded_seen c.args.form.now in
     let w = c.loop-place.invariant.walked in
     let few : c.loop-place.passed < 4000000 = omega (arith, c.loop-place.invariant.few, c.if-passed-eq-MOST_CHUNKS.false) in
     stops_at_misfit form (g.S.Source.bytes c.args.source.now) c.loop-place.passed c.loop-place.place c.loop-place.frames c.loop-place.entries xs w told
@@ -60,12 +62,12 @@ returns-in-Err-clause-fault g c fault e xs told =
 
 pub pass_chunk-requires-clause-within : goal.pass_chunk-requires-clause-within
 pass_chunk-requires-clause-within g c =
-    let within = sound_within (form_seen c.args.form.now) c.requires.lawful in
-    omega (arith, within, c.requires.lawful.end, c.in-Ok.ensures.place, c.in-Ok.ensures.within)
+    let within = sound_inside (coded_seen c.args.form.now) c.args.form.now.lawful in
+    omega (arith, within, c.args.form.now.lawful.end, c.in-Ok.ensures.place, c.in-Ok.ensures.within)
 
 pub returns-in-Err-pass_chunk-clause-fault : goal.returns-in-Err-pass_chunk-clause-fault
 returns-in-Err-pass_chunk-clause-fault g c fault e xs told =
-    let form = form_seen c.args.form.now in
+    let form = coded_seen c.args.form.now in
     let w = c.loop-place.invariant.walked in
     let few : c.loop-place.passed < 4000000 = omega (arith, c.loop-place.invariant.few, c.if-passed-eq-MOST_CHUNKS.false) in
     let within : body_end (head_seen c.in-Ok.head) ≤ body_end form.sound = omega (arith, c.in-Ok.ensures.place, c.in-Ok.ensures.within) in
@@ -75,22 +77,22 @@ returns-in-Err-pass_chunk-clause-fault g c fault e xs told =
 
 pub overflow_add-place-in-loop-place : goal.overflow_add-place-in-loop-place
 overflow_add-place-in-loop-place g c =
-    let within = sound_within (form_seen c.args.form.now) c.requires.lawful in
-    omega (arith, within, c.requires.lawful.end, c.in-Ok.ensures.within)
+    let within = sound_inside (coded_seen c.args.form.now) c.args.form.now.lawful in
+    omega (arith, within, c.args.form.now.lawful.end, c.in-Ok.ensures.within)
 
 pub overflow_add-place-in-loop-place-2 : goal.overflow_add-place-in-loop-place-2
 overflow_add-place-in-loop-place-2 g c =
-    let within = sound_within (form_seen c.args.form.now) c.requires.lawful in
-    omega (arith, within, c.requires.lawful.end, c.in-Ok.ensures.within)
+    let within = sound_inside (coded_seen c.args.form.now) c.args.form.now.lawful in
+    omega (arith, within, c.args.form.now.lawful.end, c.in-Ok.ensures.within)
 
 pub overflow_add-place-in-loop-place-3 : goal.overflow_add-place-in-loop-place-3
 overflow_add-place-in-loop-place-3 g c =
-    let within = sound_within (form_seen c.args.form.now) c.requires.lawful in
-    omega (arith, within, c.requires.lawful.end, c.in-Ok.ensures.within)
+    let within = sound_inside (coded_seen c.args.form.now) c.args.form.now.lawful in
+    omega (arith, within, c.args.form.now.lawful.end, c.in-Ok.ensures.within)
 
 pub loop-place-preserved : goal.loop-place-preserved
 loop-place-preserved g c =
-    let form = form_seen c.args.form.now in
+    let form = coded_seen c.args.form.now in
     let place = c.loop-place.place in
     let head = c.in-Ok.head in
     let few : c.loop-place.passed < 4000000 = omega (arith, c.loop-place.invariant.few, c.if-passed-eq-MOST_CHUNKS.false) in
@@ -113,7 +115,7 @@ loop-place-preserved g c =
 
 pub returns-then-frames-form-clause-fault : goal.returns-then-frames-form-clause-fault
 returns-then-frames-form-clause-fault g c fault e xs told =
-    let form = form_seen c.args.form.now in
+    let form = coded_seen c.args.form.now in
     let w = c.loop-place.invariant.walked in
     stops_at_other_count form (g.S.Source.bytes c.args.source.now) c.loop-place.passed c.loop-place.place c.loop-place.frames c.loop-place.entries xs w told
     c.loop-place-test.false c.if-frames-form.true
@@ -121,10 +123,10 @@ returns-then-frames-form-clause-fault g c fault e xs told =
 
 pub returns-clause-index : goal.returns-clause-index
 returns-clause-index g c xs told =
-    walk_is (form_seen c.args.form.now) (g.S.Source.bytes c.args.source.now) c.loop-place.passed c.loop-place.place c.loop-place.frames c.loop-place.entries xs
+    walk_is (coded_seen c.args.form.now) (g.S.Source.bytes c.args.source.now) c.loop-place.passed c.loop-place.place c.loop-place.frames c.loop-place.entries xs
     c.loop-place.invariant.walked told c.loop-place-test.false c.if-frames-form.false
 
 pub returns-clause-fits : goal.returns-clause-fits
 returns-clause-fits g c =
-    walk_fits (form_seen c.args.form.now) (g.S.Source.bytes c.args.source.now) c.loop-place.passed c.loop-place.place c.loop-place.frames c.loop-place.entries
+    walk_fits (coded_seen c.args.form.now) (g.S.Source.bytes c.args.source.now) c.loop-place.passed c.loop-place.place c.loop-place.frames c.loop-place.entries
     c.loop-place.invariant.walked c.if-frames-form.false

@@ -1,6 +1,6 @@
 use Rattle.std.proofs.Common.{◌≡◌, ◌+◌, ◌-◌, ◌*◌, ◌≤◌}
 use Rattle.dsdiff_spec.specs.Chunks.{body_place, body_end}
-use Rattle.dsdiff_chunks.specs.Seen.{form_seen}
+use Rattle.dsdiff_chunks.specs.Forms.{coded_seen}
 use Rattle.frame_index.proofs.Passing.{HasWalked}
 use Rattle.frame_index.proofs.frames.walk_from.Given as goal
 
@@ -11,9 +11,9 @@ invariant-loop-place g l = record {
   faults : g.S.Source.faults l.initial.source ≤ g.S.Source.faults l.source;
   given : g.S.Source.given l.source ≤ g.S.Source.given l.initial.source + 12 * l.passed;
   few : l.passed ≤ 4000000;
-  behind : body_place (form_seen l.form).sound + 18 ≤ l.place;
-  before : l.place ≤ body_end (form_seen l.form).sound + 1;
-  walked : HasWalked (form_seen l.form) (g.S.Source.bytes l.initial.source) l.passed l.place l.frames l.entries;
+  behind : body_place (coded_seen l.form).sound + 18 ≤ l.place;
+  before : l.place ≤ body_end (coded_seen l.form).sound + 1;
+  walked : HasWalked (coded_seen l.form) (g.S.Source.bytes l.initial.source) l.passed l.place l.frames l.entries;
 }
 
 abbrev pub decreases-loop-place : goal.decreases-loop-place

@@ -1,5 +1,6 @@
 use Rattle.std.proofs.Common.{length, sym, ap, subst, ◌∙◌}
-use Rattle.dsdiff_chunks.specs.Seen.{form_seen, head_seen}
+use Rattle.dsdiff_chunks.specs.Forms.{coded_seen}
+use Rattle.dsdiff_chunks.specs.Seen.{head_seen}
 use Rattle.frame_index.specs.Lookup.{IsRead}
 use Rattle.frame_index.proofs.Entries.{length-entries_in}
 use Rattle.frame_index.proofs.Indexed.{all_read}
@@ -11,7 +12,7 @@ returns-in-Ok-read_entries-clause-count g c =
 
 pub returns-in-Ok-read_entries-clause-index : goal.returns-in-Ok-read_entries-clause-index
 returns-in-Ok-read_entries-clause-index g c xs told =
-    let form = form_seen c.args.form.now in
+    let form = coded_seen c.args.form.now in
     subst (IsRead xs form) (sym c.from_bytes.ensures)
     (all_read xs c.in-Ok-read_entries.bytes.items form (head_seen c.in-Ok.head) c.in-Ok-read_entries.ensures.long c.in-Ok.ensures.head
     (c.in-Ok-read_entries.ensures.entries xs told))

@@ -1,16 +1,17 @@
-// The head of a chunk.
+// The head of one chunk.
 ghost use Rattle.std.specs.Prelude.{◌≡◌, ◌+◌, ◌^◌, ◌<◌, ◌≤◌, ℕ, List, Some, IfOk, take};
 ghost use Rattle.dst_streams.specs.Causes.{HasCause};
 ghost use Rattle.dsdiff_spec.specs.Bytes.{number_at};
 ghost use Rattle.dsdiff_spec.specs.Chunks.{head_at};
 ghost use Rattle.dsdiff_chunks.specs.Seen.{head_seen};
 
+use crate::lists::ChunkHead;
+use crate::read::read_range;
 use byteorder::{BigEndian, ByteOrder};
-use dsdiff_chunks::{ChunkHead, read_range};
 use dst_streams::{Failed, Source};
 
-// The head of the chunk at a place, of which twelve bytes are read.
-pub(crate) fn read_head<S: Source>(source: &mut S, place: u64) -> Result<ChunkHead, Failed>
+/// The head of the chunk at a place, of which twelve bytes are read.
+pub fn read_head<S: Source>(source: &mut S, place: u64) -> Result<ChunkHead, Failed>
     requires fits { place + 12 < 2 ^ 64 }
     requires size { (n : ℕ) × (S.known source.old ≡ Some n) × (place + 12 ≤ n) }
     ensures bytes { S.bytes source.new ≡ S.bytes source.old }

@@ -2,7 +2,7 @@
 use Rattle.std.proofs.Common.{◌∙◌, arith}
 use Rattle.dsdiff_chunks.proofs.Fields.{number_behind}
 use Rattle.dsdiff_chunks.proofs.Refused.{small_cmpr}
-use Rattle.dsdiff_chunks.proofs.kept.is_plain_cmpr.Goals as goal
+use Rattle.dsdiff_chunks.proofs.origin.is_plain_cmpr.Goals as goal
 
 pub returns-then-size-lt4 : goal.returns-then-size-lt4
 returns-then-size-lt4 c =

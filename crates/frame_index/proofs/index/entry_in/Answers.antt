@@ -1,7 +1,8 @@
 use Rattle.std.proofs.Common.{◌≡◌, ◌-◌, ◌*◌, ap, ◌∙◌, refl, length, take, drop}
 use Rattle.byteorder.specs.Endian.{big_number}
-use Rattle.frame_index.proofs.Entries.{offset_behind, size_behind, from_place_is}
-use Rattle.frame_index.proofs.index.entry_kept.Goals as goal
+use Rattle.chunk_view.proofs.InParts.{number_behind_place, number_behind_both}
+use Rattle.chunk_view.proofs.Reading.{from_place_is}
+use Rattle.frame_index.proofs.index.entry_in.Goals as goal
 
 pub returns : goal.returns
 returns c =
@@ -10,6 +11,6 @@ returns c =
     let there = from_place_is bytes at in
     let o : c.in-Some.offset ≡ big_number 8 (take (length bytes - at) (drop at bytes)) = c.in-Some.ensures.offset in
     let s : c.in-Some.size ≡ big_number 4 (drop 8 (take (length bytes - at) (drop at bytes))) = c.in-Some.ensures.length in
-    let offset = o ∙ ap (λ w. big_number 8 w) there ∙ offset_behind bytes at 8 in
-    let size = s ∙ ap (λ w. big_number 4 (drop 8 w)) there ∙ size_behind bytes at 4 8 in
+    let offset = o ∙ ap (λ w. big_number 8 w) there ∙ number_behind_place bytes at 8 in
+    let size = s ∙ ap (λ w. big_number 4 (drop 8 w)) there ∙ number_behind_both bytes at 4 8 in
     rw (offset, size) refl
