@@ -1,0 +1,81 @@
+-- Rules in order: what the ones before leave, and the first that fails.
+use Rattle.std.proofs.Common.{◌≡◌, ℕ, ◌<◌, List, Bool, true, Option, Some, None, Result, Ok, Err, refl, ap, ◌∙◌}
+use Rattle.std.specs.Prelude.{not}
+use Rattle.std.proofs.lemmas.Bool.{ltb-true, not-false}
+use Rattle.dst_streams.specs.Causes.{Rose}
+use Rattle.dsdiff_spec.specs.Bytes.{◌above◌}
+use Rattle.dsdiff_spec.specs.Faults.{◌when◌, ◌otherwise◌}
+use Rattle.dsdiff_spec.specs.Form.{Form, plain, coded, is_plain}
+use Rattle.dsdiff_spec.specs.Refusal.{command_fault, form_refusal, no_frame, not_coded}
+use Rattle.dsdiff_spec.specs.Rules.{form_fault, form, accepted}
+use Rattle.dsdiff_spec.specs.Walk.{Entry, by_index_fault, entries, walk, walk_fault}
+use Rattle.dsdiff_spec.specs.Words.{Command, frame}
+use Rattle.dsdiff_spec.specs.declared.faults.FileFault.{FileFault}
+use Rattle.dsdiff_spec.specs.declared.faults.FileFault.TheVariants.{NotCoded, Range}
+use Rattle.dsdiff_spec.proofs.CodedFiles.{form_by, refused_by}
+use Rattle.dsdiff_spec.proofs.Lawful.{when_not}
+use Rattle.dsdiff_chunks.specs.declared.open.OpenFault.{OpenFault}
+use Rattle.dsdiff_chunks.specs.declared.open.OpenFault.TheVariants.{Read, Memory, File}
+use Rattle.dsdiff_chunks.specs.Opening.{Stops}
+
+pub first_refuses : (a b : Option FileFault) (fault : FileFault) → a ≡ Some fault → (a otherwise b) ≡ Some fault
+first_refuses a b fault e = ap (λ a. a otherwise b) e
+
+pub then_is : (a b : Option FileFault) → a ≡ None → (a otherwise b) ≡ b
+then_is a b e = ap (λ a. a otherwise b) e
+
+-- ---- the rules of the form in front of those of a command
+pub accepted_is : (file : List ℕ) (f : Form) → form file ≡ Ok f → accepted file ≡ f
+accepted_is file f e = go (form_fault file) e
+  where
+    go : (o : Option FileFault) → form_by o file ≡ Ok f → accepted file ≡ f
+    go (Some fault) e = absurd cc
+    go None e = cc
+
+pub refusal_of : (c : Command) (file : List ℕ) (r : Result Form FileFault) → form file ≡ r → form_refusal c file ≡ refused_by r c file
+refusal_of c file r e = ap (λ r. refused_by r c file) e
+
+-- ---- a coded form passes the rule on its kind, a plain one doesn't
+pub coded_passes : (f : Form) → f.kind ≡ coded → not_coded f ≡ None
+coded_passes f e = ap (λ k. NotCoded when is_plain k) e
+
+pub plain_fails : (f : Form) → f.kind ≡ plain → not_coded f ≡ Some NotCoded
+plain_fails f e = ap (λ k. NotCoded when is_plain k) e
+
+-- ---- the walk
+abbrev pub walk_by : Option FileFault → List ℕ → Form → Result (List Entry) FileFault
+walk_by o file f = elim o [ Some fault ↦ Err fault | None ↦ Ok (entries file f) ]
+
+pub walk_passes : (file : List ℕ) (f : Form) (es : List Entry) → walk file f ≡ Ok es → (walk_fault file f ≡ None) × (entries file f ≡ es)
+walk_passes file f es e = go (walk_fault file f) refl e
+  where
+    go : (o : Option FileFault) → walk_fault file f ≡ o → walk_by o file f ≡ Ok es → (walk_fault file f ≡ None) × (entries file f ≡ es)
+    go (Some fault) is e = absurd cc
+    go None is e = (is, cc)
+
+pub walk_fails : (file : List ℕ) (f : Form) (fault : FileFault) → walk file f ≡ Err fault → walk_fault file f ≡ Some fault
+walk_fails file f fault e = go (walk_fault file f) refl e
+  where
+    go : (o : Option FileFault) → walk_fault file f ≡ o → walk_by o file f ≡ Err fault → walk_fault file f ≡ Some fault
+    go (Some other) is e = cc
+    go None is e = absurd cc
+
+pub walk_is : (file : List ℕ) (f : Form) (es : List Entry) → walk_fault file f ≡ None → entries file f ≡ es → walk file f ≡ Ok es
+walk_is file f es none is = ap (λ o. walk_by o file f) none ∙ ap Ok is
+
+-- ---- a number that names a frame
+pub names_one : (k frames : ℕ) → no_frame k frames ≡ None → k < frames
+names_one k frames e = ltb-true k frames (not-false (frames above k) (when_not (Range k frames) (not (frames above k)) e))
+
+-- ---- why a step stops
+pub stops_by : (rules : List ℕ → Option FileFault) (fault : OpenFault) (bytes : Option (List ℕ)) (before now : ℕ) →
+    ((f : FileFault) → fault ≡ File f → (file : List ℕ) → bytes ≡ Some file → rules file ≡ Some f) → (fault ≡ Read → Rose before now) → Stops rules bytes before now fault
+stops_by rules (File f) bytes before now h read = h f refl
+stops_by rules Read bytes before now h read = read refl
+stops_by rules Memory bytes before now h read = tt
+
+-- ---- the index behind the number
+pub indexed_is : (k : ℕ) (file : List ℕ) (f : Form) (fault : FileFault) → no_frame k f.frames ≡ None → by_index_fault file f k ≡ Some fault → f.kind ≡ coded →
+    command_fault (frame k true) file f ≡ Some fault
+indexed_is k file f fault none e is_coded =
+    then_is (not_coded f) (no_frame k f.frames otherwise by_index_fault file f k) (coded_passes f is_coded) ∙ then_is (no_frame k f.frames) (by_index_fault file f k) none ∙ e

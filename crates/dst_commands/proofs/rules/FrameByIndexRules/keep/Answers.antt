@@ -1,0 +1,18 @@
+-- The form is coded and the number is that of a frame; what is left is the index.
+use Rattle.std.proofs.Common.{true, refl, sym, ap, ◌∙◌, Err, subst}
+use Rattle.dsdiff_spec.specs.Refusal.{command_fault}
+use Rattle.dsdiff_spec.specs.Words.{frame}
+use Rattle.dsdiff_chunks.specs.Forms.{coded_seen, form_seen}
+use Rattle.dsdiff_chunks.specs.declared.form.Form.{Form}
+use Rattle.dsdiff_chunks.specs.Opening.{Stops}
+use Rattle.dst_commands.proofs.InOrder.{stops_by, indexed_is}
+use Rattle.dst_commands.proofs.rules.FrameByIndexRules.keep.Goals as goal
+
+pub returns-in-Err-locate_by_index-clause-stops : goal.returns-in-Err-locate_by_index-clause-stops
+returns-in-Err-locate_by_index-clause-stops g c =
+    let k = c.args.self.now.number in
+    subst (λ (f : Form). Stops (λ file. command_fault (frame k true) file (form_seen f)) (g.S.Source.bytes c.args.source.now) (g.S.Source.faults c.args.source.now) (g.S.Source.faults c.locate_by_index.new.source) c.in-Err-locate_by_index.fault)
+    (sym c.in-Ok.ensures.coded)
+    (stops_by (λ file. command_fault (frame k true) file (coded_seen c.in-Ok.form)) c.in-Err-locate_by_index.fault (g.S.Source.bytes c.args.source.now) (g.S.Source.faults c.args.source.now) (g.S.Source.faults c.locate_by_index.new.source)
+    (λ f is file told. indexed_is k file (coded_seen c.in-Ok.form) f (sym c.range_fault.ensures ∙ c.in_default.is) (c.in-Err-locate_by_index.ensures.fault f (ap Err is) file told) refl)
+    (λ is. c.in-Err-locate_by_index.ensures.read (ap Err is)))

@@ -1,0 +1,19 @@
+//! What the commands on files have in common: opening a file by a command's rules.
+//!
+//! [`open_file`] is handed the rules of a command and answers what the command has of a file that keeps them, or the first
+//! rule that fails: those of the form first, then those of the command in their order.
+//!
+//! ```text
+//! let WalkedForm { form, index } = open_file(alloc, source, &AllFrames)?; // decode, index
+//! let FoundFrame { form, entry } = open_file(alloc, source, &FrameByWalk { number })?; // frame K, show K
+//! match open_file(alloc, source, &CheckedFile)? { .. } // a plain form, or a coded one whose index is that of its frames
+//! ```
+#![tactic(auto)]
+
+mod opened;
+mod opening;
+mod rules;
+
+pub use opened::{AnyForm, FoundFrame, WalkedForm};
+pub use opening::{Rules, open_file};
+pub use rules::{AllFrames, CheckedFile, FrameByIndex, FrameByWalk, ShownFile};
