@@ -1,1 +1,3 @@
 pub mod Opened
+pub mod Writing
+pub mod Passing

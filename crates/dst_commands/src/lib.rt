@@ -10,10 +10,17 @@
 //! ```
 #![tactic(auto)]
 
+mod around;
+mod chunks;
 mod opened;
 mod opening;
+mod pieces;
 mod rules;
+mod sizes;
 
+pub use around::{write_end, write_front};
 pub use opened::{AnyForm, FoundFrame, WalkedForm};
 pub use opening::{Rules, open_file};
+pub use pieces::write_any;
 pub use rules::{AllFrames, CheckedFile, FrameByIndex, FrameByWalk, ShownFile};
+pub use sizes::sound_size;

@@ -37,7 +37,7 @@ pub trait Rules {
         requires size { (n : ℕ) × (S.known source.old ≡ Some n) × (end_of form ≤ n) }
         ensures source { Reads S.bytes S.known S.faults S.given source.old source.new (most self.now) }
         ensures end { IfOk result (λ o. end o ≡ end_of form) }
-        ensures kept { IfOk result (λ _. (file : List ℕ) → S.bytes source.old ≡ Some file → command_fault (command self.now) file (form_seen form) ≡ None) }
+        ensures passes { IfOk result (λ _. (file : List ℕ) → S.bytes source.old ≡ Some file → command_fault (command self.now) file (form_seen form) ≡ None) }
         ensures opened { IfOk result (λ o. (file : List ℕ) → S.bytes source.old ≡ Some file → files.accepted file ≡ form_seen form → is_of self.now file o) }
         ensures stops { IfErr result (Stops (λ file. command_fault (command self.now) file (form_seen form)) (S.bytes source.old) (S.faults source.old) (S.faults source.new)) };
 }

@@ -64,7 +64,7 @@ fn walk_form<S: Source>(
     requires size { (n : ℕ) × (S.known source.old ≡ Some n) × (form.end ≤ n) }
     ensures source { Reads S.bytes S.known S.faults S.given source.old source.new 48000000 }
     ensures form { IfOk result (λ w. w.form ≡ form) }
-    ensures kept { IfOk result (λ _. (file : List ℕ) → S.bytes source.old ≡ Some file → walk_fault file (coded_seen form) ≡ None) }
+    ensures passes { IfOk result (λ _. (file : List ℕ) → S.bytes source.old ≡ Some file → walk_fault file (coded_seen form) ≡ None) }
     ensures entries { IfOk result (λ w. (file : List ℕ) → S.bytes source.old ≡ Some file → entries file (coded_seen form) ≡ w.index) }
     ensures stops { IfErr result (Stops (λ file. walk_fault file (coded_seen form)) (S.bytes source.old) (S.faults source.old) (S.faults source.new)) }
 {

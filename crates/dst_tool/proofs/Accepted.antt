@@ -22,7 +22,7 @@ use Rattle.dst_tool.specs.declared.faults.ToolFault.{ToolFault}
 use Rattle.dst_tool.specs.declared.faults.ToolFault.TheVariants.{Read, Write, Memory, Report, File, Frame}
 use Rattle.dst_tool.specs.Opening.{of_opening}
 use Rattle.dst_tool.specs.Accepted.{Rules, coded_form, IsAccepted, IsUnopened, LiesIn}
-use Rattle.dst_tool.proofs.Passed.{sound_inside}
+use Rattle.dst_commands.proofs.Passed.{sound_inside}
 
 -- ---- rules in order
 pub first_refuses : (a b : Option FileFault) (fault : FileFault) → a ≡ Some fault → (a otherwise b) ≡ Some fault

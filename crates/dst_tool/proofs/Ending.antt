@@ -16,8 +16,8 @@ use Rattle.dst_tool.specs.declared.faults.ToolFault.TheVariants.{Read, Write, Me
 use Rattle.dst_tool.specs.Commands.{OutcomeOf}
 use Rattle.dst_tool.specs.Decoding.{IsOpened, sound_of, FramesEnd, DecodingEnds, IsStoppedShort}
 use Rattle.dst_tool.specs.Devices.{of_device}
-use Rattle.dst_tool.specs.Writing.{Adds, Stops}
-use Rattle.dst_tool.proofs.Writing.{adds_then, stops_then}
+use Rattle.dst_commands.specs.Writing.{Adds, Stops}
+use Rattle.dst_commands.proofs.Writing.{adds_then, stops_then}
 use Rattle.dst_tool.proofs.Stopping.{head_of, end_of, whole, sound_is_front, whole_is_front, done_outcome, refused_outcome, stopped_short, lacks_room, ends_at_device}
 
 -- ---- in the frames

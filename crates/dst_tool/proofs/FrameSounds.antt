@@ -16,7 +16,7 @@ use Rattle.dsdiff_spec.proofs.OneAnswer.{ReadsCoded}
 use Rattle.dst_tool.specs.Commands.{OutcomeOf}
 use Rattle.dst_tool.specs.Accepted.{IsAccepted, named_entry}
 use Rattle.dst_tool.specs.OneFrame.{IsSoundOf}
-use Rattle.dst_tool.specs.Writing.{Stops}
+use Rattle.dst_commands.specs.Writing.{Stops}
 use Rattle.dst_tool.proofs.Reported.{done_outcome, stopped_outcome, one_answer}
 
 -- what decoding says of a frame, without its tail

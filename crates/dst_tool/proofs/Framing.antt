@@ -6,17 +6,17 @@ use Rattle.dst_spec.specs.Means.{Means}
 use Rattle.dst_spec.proofs.Unique.{tail_law}
 use Rattle.dst_spec.specs.Offends.{Offends}
 use Rattle.dst_spec.specs.declared.faults.FrameFault.{FrameFault}
-use Rattle.dsdiff_spec.specs.Form.{Form, shape, frame_bytes, size_of_sound}
+use Rattle.dsdiff_spec.specs.Form.{Form, shape, sound_bytes_of, size_of_sound}
 use Rattle.dsdiff_spec.specs.Walk.{Entry, entry, entries, frame_at}
 use Rattle.dsdiff_spec.specs.Decoded.{frames_of}
 use Rattle.dsdiff_spec.proofs.Progress.{AreDecoded, none_decoded_yet, one_more_decoded, frame_of_entry, sound_of_frame}
 use Rattle.dst_tool.specs.Jobs.{IsHeard}
 use Rattle.dst_tool.specs.Decoding.{IsOpened, StopsAt, sound_of}
-use Rattle.dst_tool.specs.Writing.{Adds, Stops}
+use Rattle.dst_commands.specs.Writing.{Adds, Stops}
 use Rattle.dsdiff_chunks.specs.Lawful.{IsLawful}
 use Rattle.frame_index.specs.Fitting.{IsIndexOf}
-use Rattle.dst_tool.proofs.Passed.{sound_inside}
-use Rattle.dst_tool.proofs.Writing.{adds_nothing, adds_same, adds_then, stops_same, stops_for, stops_then}
+use Rattle.dst_commands.proofs.Passed.{sound_inside}
+use Rattle.dst_commands.proofs.Writing.{adds_nothing, adds_same, adds_then, stops_same, stops_for, stops_then}
 
 -- ---- one frame: it means a sound and isn't refused
 pub record IsUnderstood (f : Shape) (frame sound : List ℕ) : Type 0 where
@@ -49,14 +49,14 @@ one_more w file form index k sounds sound o l h u =
     one_more_decoded w file form k sounds sound h (omega (arith, count)) here.means here.not_refused
 
 -- and its part of the sound
-part_of_sound : (w : ℕ) (file : List ℕ) (form : Form) (index : List Entry) (k n : ℕ) (sounds : List (List ℕ)) (sound : List ℕ) → IsOpened file form index → k < length index → n ≡ size_of_sound form - k * frame_bytes form →
+part_of_sound : (w : ℕ) (file : List ℕ) (form : Form) (index : List Entry) (k n : ℕ) (sounds : List (List ℕ)) (sound : List ℕ) → IsOpened file form index → k < length index → n ≡ size_of_sound form - k * sound_bytes_of form →
     AreDecoded w file form k sounds → sound_of form sounds ++ take n sound ≡ sound_of form (sounds ++ sound ∷ [])
 part_of_sound w file form index k n sounds sound o l is h =
     let count = count_is file form index o in
     ap (λ n. sound_of form sounds ++ take n sound) is ∙ sym (sound_of_frame w file form k sounds sound h (omega (arith, count)))
 
 pub next_frame : (w : ℕ) (file : List ℕ) (form : Form) (index : List Entry) (k n : ℕ) (sounds : List (List ℕ)) (sound : List ℕ) (old mid new : Option (List ℕ)) (room half left : Option ℕ) →
-    IsOpened file form index → k < length index → n ≡ size_of_sound form - k * frame_bytes form → AreWritten w file form k sounds old mid room half →
+    IsOpened file form index → k < length index → n ≡ size_of_sound form - k * sound_bytes_of form → AreWritten w file form k sounds old mid room half →
     IsUnderstood (shape form) (frame_at file (entry index k)) sound → Adds (take n sound) mid new half left → AreWritten w file form (k + 1) (sounds ++ sound ∷ []) old new room left
 next_frame w file form index k n sounds sound old mid new room half left o l size before u part = record {
   decoded = one_more w file form index k sounds sound o l before.decoded u;
@@ -85,7 +85,7 @@ refused_at w file form index k fault sounds o l count h r =
     record { before = h; within = omega (arith, l, count); refuses = subst (λ frame. Offends (shape form) frame fault) (named_frame file form index k o l) r }
 
 pub stops_at_sound : (P : Type 0) (w : ℕ) (file : List ℕ) (form : Form) (index : List Entry) (k n : ℕ) (sounds : List (List ℕ)) (sound : List ℕ) (old mid new : Option (List ℕ)) (room half : Option ℕ) →
-    IsOpened file form index → k < length index → n ≡ size_of_sound form - k * frame_bytes form → AreWritten w file form k sounds old mid room half → Stops (Unit {0}) (take n sound) mid new half →
+    IsOpened file form index → k < length index → n ≡ size_of_sound form - k * sound_bytes_of form → AreWritten w file form k sounds old mid room half → Stops (Unit {0}) (take n sound) mid new half →
     Stops P (sound_of form (sounds ++ sound ∷ [])) old new room
 stops_at_sound P w file form index k n sounds sound old mid new room half o l size before stops =
     stops_same P (sound_of form sounds ++ take n sound) (sound_of form (sounds ++ sound ∷ [])) old new room (part_of_sound w file form index k n sounds sound o l size before.decoded)

@@ -8,8 +8,8 @@ use Rattle.std.proofs.lemmas.List.FromFn.{length-enumerate_from, get_or-enumerat
 use Rattle.dsdiff_spec.specs.Walk.{Entry, entry}
 use Rattle.dsdiff_spec.specs.Lines.{Line, report, index_lines}
 use Rattle.dsdiff_spec.proofs.Progress.{BeginsWith}
-use Rattle.dst_tool.specs.Writing.{Adds, Stops}
-use Rattle.dst_tool.proofs.Writing.{adds_same, adds_then, stops_then, stops_in}
+use Rattle.dst_commands.specs.Writing.{Adds, Stops}
+use Rattle.dst_commands.proofs.Writing.{adds_same, adds_then, stops_then, stops_in}
 
 -- ---- the parts of each element
 abbrev pub Parts : Type 0 → Type 0

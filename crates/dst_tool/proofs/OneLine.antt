@@ -6,7 +6,7 @@ use Rattle.dst_spec.specs.declared.faults.FrameFault.{FrameFault}
 use Rattle.dst_streams.specs.Causes.{Rose}
 use Rattle.dst_streams.specs.Told.{and_then, IsCutShort}
 use Rattle.dsdiff_spec.specs.declared.faults.FileFault.{FileFault}
-use Rattle.dsdiff_spec.specs.Form.{frame_bytes}
+use Rattle.dsdiff_spec.specs.Form.{sound_bytes_of}
 use Rattle.dsdiff_spec.specs.Rules.{accepted}
 use Rattle.dsdiff_spec.specs.Words.{Command, decode, frame, check, show, show_frame, index}
 use Rattle.dsdiff_spec.specs.Refusal.{refusal}
@@ -21,7 +21,7 @@ use Rattle.dst_tool.specs.Answers.{status_of, done_line, fault_line, line_of}
 use Rattle.dst_tool.specs.Commands.{OutcomeOf}
 use Rattle.dst_tool.specs.Runs.{DidNotRise, EndsAsOne, EndsBy, Reports, WritesNowhere, most_given, longest_sound, Counts, Held, IsRun}
 use Rattle.dst_tool.proofs.Statuses.{status_is_read, status_is_write, status_is_memory, status_is_file, status_is_not_words, status_is_below}
-use Rattle.dst_tool.proofs.Writing.{and_then-nothing}
+use Rattle.dst_commands.proofs.Writing.{and_then-nothing}
 
 pub record IsAnswer (c : Command) (r : Result Summary ToolFault) (file : List ℕ) (old new : Option (List ℕ)) : Type 0 where
   pub finished : IfOk r (λ s. (out : List ℕ) × OutcomeOf c file (done out (done_line c s ∷ [])) × (new ≡ and_then old out))
@@ -104,7 +104,7 @@ pub record HasCauses (c : Command) (r : Result Summary ToolFault) (bytes : Optio
   pub memory : r ≡ Err Memory → Same
   pub untouched : (fault : FileFault) → r ≡ Err (File fault) → Same
   pub idle : WritesNowhere c → Same
-  pub by_index : (k : ℕ) → c ≡ frame k true → (file : List ℕ) → bytes ≡ Some file → given.now ≤ given.before + most_given (frame_bytes (accepted file))
+  pub by_index : (k : ℕ) → c ≡ frame k true → (file : List ℕ) → bytes ≡ Some file → given.now ≤ given.before + most_given (sound_bytes_of (accepted file))
   pub any_source : (k : ℕ) → c ≡ frame k true → given.now ≤ given.before + most_given longest_sound
   pub no_report : r ≡ Err Report → ⊥
 

@@ -19,7 +19,7 @@ use Rattle.dst_tool.specs.Commands.{OutcomeOf}
 use Rattle.dst_tool.specs.Runs.{DidNotRise, EndsAsOne, EndsBy, Reports, WritesNowhere, Counts, Held, IsRun}
 use Rattle.dst_tool.proofs.Statuses.{status_is_read, status_is_write, status_is_not_words}
 use Rattle.dst_tool.proofs.OneLine.{refusal_is, same_lines, reports_line, status_told}
-use Rattle.dst_tool.proofs.Writing.{and_then-nothing}
+use Rattle.dst_commands.proofs.Writing.{and_then-nothing}
 
 -- what it answered of a file, the report holding `told` before and `mid` then
 pub record IsListing (c : Command) (r : Result Summary ToolFault) (file : List ℕ) (told mid : Option (List ℕ)) : Type 0 where

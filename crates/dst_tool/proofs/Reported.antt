@@ -25,9 +25,9 @@ use Rattle.dst_tool.specs.Opening.{of_opening}
 use Rattle.dst_tool.specs.Commands.{OutcomeOf}
 use Rattle.dst_tool.specs.Accepted.{IsAccepted}
 use Rattle.dst_tool.specs.Reporting.{kind_name, ReportEnds, reported_as, IsUnshown}
-use Rattle.dst_tool.specs.Writing.{Adds, Stops}
+use Rattle.dst_commands.specs.Writing.{Adds, Stops}
 use Rattle.dst_tool.proofs.Accepted.{then_is, form_passes, rules_of_show, walk_passes, walk_fails}
-use Rattle.dst_tool.proofs.Writing.{added, cut_off, adds_then, stops_then}
+use Rattle.dst_commands.proofs.Writing.{added, cut_off, adds_then, stops_then}
 
 -- ---- an outcome of an accepted file
 pub done_outcome : (c : Command) (file : List ℕ) (form : Form) (o : Answer) → IsAccepted (refusal c) file form → IsDone c file form o → OutcomeOf c file o

@@ -16,7 +16,7 @@ use Rattle.dsdiff_spec.proofs.Stopping.{not_both}
 use Rattle.dsdiff_spec.proofs.OneAnswer.{ReadsCoded}
 use Rattle.dst_tool.specs.Commands.{OutcomeOf}
 use Rattle.dst_tool.specs.Runs.{DidNotRise, EndsAsOne, EndsBy, EndsAs, Ends, Reports, IsRefused, NoFrameIsRefused, Counts, Held, IsRun}
-use Rattle.dst_tool.proofs.Writing.{and_then-nothing}
+use Rattle.dst_commands.proofs.Writing.{and_then-nothing}
 
 -- ---- words and their command
 pub of_words : (words : List Word) (c : Command) (file : List ℕ) (o : Answer) → command_of words ≡ Some c → OutcomeOf c file o → Outcome words file o

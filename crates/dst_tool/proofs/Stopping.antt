@@ -5,7 +5,7 @@ use Rattle.dst_spec.specs.declared.faults.FrameFault.{FrameFault}
 use Rattle.dsdiff_spec.specs.Form.{Form, size_of_sound}
 use Rattle.dsdiff_spec.specs.Rules.{accepted}
 use Rattle.dsdiff_spec.specs.Walk.{Entry}
-use Rattle.dsdiff_spec.specs.Pieces.{decoded_head, decoded_end}
+use Rattle.dsdiff_spec.specs.Pieces.{decoded_front, decoded_end}
 use Rattle.dsdiff_spec.specs.Words.{decode}
 use Rattle.dsdiff_spec.specs.Refusal.{refusal}
 use Rattle.dsdiff_spec.specs.Lines.{decoded_line}
@@ -18,15 +18,15 @@ use Rattle.dsdiff_chunks.specs.declared.copy.CopyFault.TheVariants.{Read, Write}
 use Rattle.dst_tool.specs.Commands.{OutcomeOf}
 use Rattle.dst_tool.specs.Decoding.{IsOpened, StopsAt, sound_of, DecodingEnds, IsStoppedShort, LacksRoomForOutcome}
 use Rattle.dst_tool.specs.Devices.{of_device}
-use Rattle.dst_tool.specs.Writing.{Stops}
-use Rattle.dst_tool.proofs.Writing.{stops_in, stops_at_once}
+use Rattle.dst_commands.specs.Writing.{Stops}
+use Rattle.dst_commands.proofs.Writing.{stops_in, stops_at_once}
 
 -- every outcome begins with a piece
 abbrev pub IsFront : ℕ → List ℕ → List ℕ → Type 0
 IsFront w file piece = (o : Answer) → OutcomeOf (decode w) file o → BeginsWith o.out piece
 
 abbrev pub head_of : List ℕ → Form → List ℕ
-head_of file form = decoded_head (size_of_sound form) file form
+head_of file form = decoded_front (size_of_sound form) file form
 
 abbrev pub end_of : List ℕ → Form → List ℕ
 end_of file form = decoded_end (size_of_sound form) file form

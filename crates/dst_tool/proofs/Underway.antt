@@ -4,7 +4,7 @@ use Rattle.std.proofs.Math.Nat.{suc-mul}
 use Rattle.dst_spec.specs.Sample.{IsShape}
 use Rattle.dst_spec.specs.Offends.{Offends}
 use Rattle.dst_streams.proofs.Counts.{Rose-earlier}
-use Rattle.dsdiff_spec.specs.Form.{Form, shape, frame_bytes, size_of_sound}
+use Rattle.dsdiff_spec.specs.Form.{Form, shape, sound_bytes_of, size_of_sound}
 use Rattle.dsdiff_spec.specs.Walk.{Entry, entry, frame_at}
 use Rattle.dsdiff_spec.proofs.Progress.{AreDecoded}
 use Rattle.dst_tool.specs.declared.jobs.Job.{Job}
@@ -19,7 +19,7 @@ use Rattle.dst_tool.specs.Draining as draining
 use Rattle.dst_tool.proofs.Feeding as fed
 use Rattle.dst_tool.proofs.Framing.{IsUnderstood, is_understood, AreWritten, none_written, one_more, next_frame, refused_at, stops_at_sound}
 use Rattle.dst_tool.proofs.Working.{heard, refused}
-use Rattle.dst_tool.proofs.Writing.{stops_behind}
+use Rattle.dst_commands.proofs.Writing.{stops_behind}
 
 one_less : (size n whole : ℕ) → size - n * whole - whole ≡ size - (n + 1) * whole
 one_less size n whole =
@@ -33,7 +33,7 @@ module _ {S K : Type 0} (bytes : S → Option (List ℕ)) (known : S → Option 
     pub drain : draining.IsLater sink_faults t0 t
     pub next : s.next ≡ n
     pub few : n ≤ length s0.index.now
-    pub left : t.left ≡ size_of_sound form - n * frame_bytes form
+    pub left : t.left ≡ size_of_sound form - n * sound_bytes_of form
     pub done : (file : List ℕ) → bytes s0.source.now ≡ Some file → IsOpened file form s0.index.now →
         (sounds : List (List ℕ)) × AreWritten w file form n sounds (written t0.sink.now) (written t.sink.now) (room t0.sink.now) (room t.sink.now)
 
@@ -66,7 +66,7 @@ module _ {S K : Type 0} (bytes : S → Option (List ℕ)) (known : S → Option 
         drain = drained_on t t' p.drain takes.same;
         next = omega (arith, given.next, p.next);
         few = omega (arith, within);
-        left = takes.left ∙ ap (λ m. t.left - m) long ∙ ap (λ m. m - frame_bytes form) p.left ∙ one_less (size_of_sound form) n (frame_bytes form);
+        left = takes.left ∙ ap (λ m. t.left - m) long ∙ ap (λ m. m - sound_bytes_of form) p.left ∙ one_less (size_of_sound form) n (sound_bytes_of form);
         done = λ file told o.
             let before = p.done file told o in (
               before.0 ++ worked.sound.items ∷ [],

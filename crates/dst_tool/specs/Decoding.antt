@@ -20,10 +20,10 @@ use Rattle.frame_index.specs.Fitting.{IsIndexOf}
 use Rattle.dst_tool.specs.declared.faults.ToolFault.{ToolFault}
 use Rattle.dst_tool.specs.declared.faults.ToolFault.TheVariants.{Read, Write, Memory, File, Frame}
 use Rattle.dst_tool.specs.declared.faults.Summary.{Summary}
-use Rattle.dst_tool.specs.declared.chunks.Side.{Side}
-use Rattle.dst_tool.specs.declared.chunks.Side.TheVariants.{Before, Behind}
+use Rattle.dst_commands.specs.declared.chunks.Side.{Side}
+use Rattle.dst_commands.specs.declared.chunks.Side.TheVariants.{Before, Behind}
 use Rattle.dst_tool.specs.Commands.{OutcomeOf}
-use Rattle.dst_tool.specs.Writing.{Adds, Stops, Lacks}
+use Rattle.dst_commands.specs.Writing.{Adds, Stops, Lacks}
 
 -- a coded form and the places of its frames, in a source of this size, also in one that tells no bytes
 pub record IsReady (form : Form) (index : List Entry) (known : Option ℕ) : Type 0 where
@@ -44,11 +44,6 @@ NotOpened (File fault) bytes before now = (workers : ℕ) (file : List ℕ) → 
 NotOpened Read bytes before now = Rose before now
 NotOpened Memory bytes before now = Unit {0}
 NotOpened fault bytes before now = ⊥
-
--- what is written of the chunks on one side of the sound
-abbrev pub chunks_on : Side → List ℕ → Form → List ℕ
-chunks_on Before file form = concat (decoded_before file form)
-chunks_on Behind file form = concat (decoded_behind file form)
 
 -- ---- all frames in order: what is written of their sounds, cut to the size of the sound
 abbrev pub sound_of : Form → List (List ℕ) → List ℕ

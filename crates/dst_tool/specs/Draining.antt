@@ -6,7 +6,7 @@ use Rattle.dst_tool.specs.declared.faults.ToolFault.TheVariants.{Write, Frame}
 use Rattle.dst_tool.specs.declared.jobs.Job.{Job}
 use Rattle.dst_tool.specs.declared.drain.SoundWriter.{SoundWriter}
 use Rattle.dst_tool.specs.declared.drain.TailSum.{TailSum}
-use Rattle.dst_tool.specs.Writing.{Adds, Stops}
+use Rattle.dst_commands.specs.Writing.{Adds, Stops}
 
 -- a refused frame is told by its number and its fault
 abbrev pub IsRefusedAs : Job → ToolFault → Type 0

@@ -18,7 +18,7 @@ use Rattle.dst_tool.specs.declared.faults.ToolFault.TheVariants.{Read, Write, Me
 use Rattle.frame_header.specs.declared.view.FrameView.{FrameView}
 use Rattle.frame_header.specs.declared.view.FrameView.TheVariants.{Plain, Coded}
 use Rattle.dst_tool.specs.Commands.{OutcomeOf}
-use Rattle.dst_tool.specs.Writing.{Stops}
+use Rattle.dst_commands.specs.Writing.{Stops}
 
 -- the lines of the command are reported whole, or a prefix of them, or it refuses the file or a frame
 abbrev pub ReportEnds : Result Summary ToolFault → Command → List ℕ → (old new : Option (List ℕ)) → Option ℕ → Type 0

@@ -10,7 +10,7 @@ ghost use Rattle.dsdiff_spec.specs.Refusal.{refusal};
 ghost use Rattle.dsdiff_spec.specs.Words as words;
 ghost use Rattle.dsdiff_spec.specs.Outcome.{Answer, done};
 ghost use Rattle.dst_tool.specs.Commands.{OutcomeOf};
-ghost use Rattle.dst_tool.specs.Writing.{Adds, Stops};
+ghost use Rattle.dst_commands.specs.Writing.{Adds, Stops};
 
 use crate::accepting::open_walked;
 use crate::faults::{Summary, ToolFault};

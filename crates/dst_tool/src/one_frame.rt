@@ -5,7 +5,7 @@ ghost use Rattle.dst_spec.specs.Sample.{sound_bytes};
 ghost use Rattle.dst_streams.specs.Causes.{Rose};
 ghost use Rattle.dst_streams.specs.Told.{IsCutShort, and_then};
 ghost use Rattle.dsdiff_spec.specs.declared.faults.FileFault.{FileFault};
-ghost use Rattle.dsdiff_spec.specs.Form.{frame_bytes};
+ghost use Rattle.dsdiff_spec.specs.Form.{sound_bytes_of};
 ghost use Rattle.dsdiff_spec.specs.Lines.{frame_line};
 ghost use Rattle.dsdiff_spec.specs.Rules.{accepted};
 ghost use Rattle.dsdiff_spec.specs.Refusal.{refusal};
@@ -57,7 +57,7 @@ pub fn frame_out<S: Source, K: Sink>(
     // every other refusal comes before the first byte
     ensures untouched { (fault : ToolFault) → result ≡ Err fault → (fault ≢ ToolFault.Write) → sink.new ≡ sink.old }
     // by the index little is read
-    ensures given { by_index ≡ true → (file : List ℕ) → S.bytes source.old ≡ Some file → S.given source.new ≤ S.given source.old + 208974 + 2 * frame_bytes (accepted file) }
+    ensures given { by_index ≡ true → (file : List ℕ) → S.bytes source.old ≡ Some file → S.given source.new ≤ S.given source.old + 208974 + 2 * sound_bytes_of (accepted file) }
     ensures given_any { by_index ≡ true → S.given source.new ≤ S.given source.old + 208974 + 225792 }
 {
     let (form, entry) = match open_frame(alloc, source, frame, by_index) {

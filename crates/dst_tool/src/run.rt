@@ -5,7 +5,7 @@ ghost use Rattle.dst_spec.specs.declared.faults.FrameFault.{FrameFault};
 ghost use Rattle.dst_streams.specs.Causes.{Rose};
 ghost use Rattle.dst_streams.specs.Told.{IsCutShort, and_then};
 ghost use Rattle.dsdiff_spec.specs.declared.faults.FileFault.{FileFault};
-ghost use Rattle.dsdiff_spec.specs.Form.{frame_bytes};
+ghost use Rattle.dsdiff_spec.specs.Form.{sound_bytes_of};
 ghost use Rattle.dsdiff_spec.specs.Rules.{accepted};
 ghost use Rattle.dsdiff_spec.specs.Lines as reports;
 ghost use Rattle.dsdiff_spec.specs.Rows.{command_of};
@@ -75,7 +75,7 @@ pub fn dst_run<E: Threads + Sync, S: Source, K: Sink, R: Sink>(
         × (R.written report.new ≡ and_then (R.written report.old) (reports.report (reports.frame_fault_line k fault ∷ []))) }
     // A frame that is found by the index takes few bytes of the source: a frame's sound having so many, or the most.
     ensures by_index { (k : ℕ) → command_of (map string_bytes words.now) ≡ Some (asked.frame k true) → (file : List ℕ) → S.bytes source.old ≡ Some file →
-        S.given source.new ≤ S.given source.old + most_given (frame_bytes (accepted file)) }
+        S.given source.new ≤ S.given source.old + most_given (sound_bytes_of (accepted file)) }
     ensures any_source { (k : ℕ) → command_of (map string_bytes words.now) ≡ Some (asked.frame k true) →
         S.given source.new ≤ S.given source.old + most_given longest_sound }
     ensures status { result ≤ 7 }

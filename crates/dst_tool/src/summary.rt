@@ -7,7 +7,7 @@ ghost use Rattle.dsdiff_spec.specs.Lines as reports;
 ghost use Rattle.dsdiff_chunks.specs.Lawful.{IsLawful};
 ghost use Rattle.dsdiff_chunks.specs.Seen.{form_seen, head_seen, kind_seen};
 ghost use Rattle.dst_tool.specs.Reporting.{kind_name};
-ghost use Rattle.dst_tool.specs.Writing.{Adds, Stops};
+ghost use Rattle.dst_commands.specs.Writing.{Adds, Stops};
 
 use crate::listing::report_lines;
 use crate::sizes::sound_size;

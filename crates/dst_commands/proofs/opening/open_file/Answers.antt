@@ -14,7 +14,7 @@ returns-in-Err-clause-stops g c =
 
 pub returns-in-Ok-keep-clause-accepted : goal.returns-in-Ok-keep-clause-accepted
 returns-in-Ok-keep-clause-accepted g c file told =
-    refusal_of (g.R.Rules.command c.args.rules.now) file (Ok (form_seen c.in-Ok.form)) (c.in-Ok.ensures.form file told) ∙ c.in-Ok-keep.ensures.kept file (c.in-Ok.ensures.bytes ∙ told)
+    refusal_of (g.R.Rules.command c.args.rules.now) file (Ok (form_seen c.in-Ok.form)) (c.in-Ok.ensures.form file told) ∙ c.in-Ok-keep.ensures.passes file (c.in-Ok.ensures.bytes ∙ told)
 
 pub returns-in-Ok-keep-clause-opened : goal.returns-in-Ok-keep-clause-opened
 returns-in-Ok-keep-clause-opened g c file told =

@@ -4,8 +4,8 @@ use Rattle.dsdiff_chunks.specs.Forms.{coded_seen}
 use Rattle.dst_commands.proofs.InOrder.{stops_by, walk_fails, walk_passes}
 use Rattle.dst_commands.proofs.rules.walk_form.Goals as goal
 
-pub returns-in-Ok-clause-kept : goal.returns-in-Ok-clause-kept
-returns-in-Ok-clause-kept g c file told = (walk_passes file (coded_seen c.args.form) c.in-Ok.index (c.in-Ok.ensures.index file told)).0
+pub returns-in-Ok-clause-passes : goal.returns-in-Ok-clause-passes
+returns-in-Ok-clause-passes g c file told = (walk_passes file (coded_seen c.args.form) c.in-Ok.index (c.in-Ok.ensures.index file told)).0
 
 pub returns-in-Ok-clause-entries : goal.returns-in-Ok-clause-entries
 returns-in-Ok-clause-entries g c file told = (walk_passes file (coded_seen c.args.form) c.in-Ok.index (c.in-Ok.ensures.index file told)).1

@@ -1,10 +1,10 @@
 -- In front of the sound, the sound, behind it.
 use Rattle.std.proofs.Common.{◌≡◌, Err, refl, sym, subst, ◌∙◌}
-use Rattle.dsdiff_spec.specs.Pieces.{decoded_head, decoded_end}
+use Rattle.dsdiff_spec.specs.Pieces.{decoded_front, decoded_end}
 use Rattle.dsdiff_chunks.specs.Seen.{form_seen}
 use Rattle.dsdiff_chunks.specs.declared.copy.CopyFault.{CopyFault}
 use Rattle.dst_tool.specs.Decoding.{DecodingEnds}
-use Rattle.dst_tool.specs.Writing.{Adds, Stops}
+use Rattle.dst_commands.specs.Writing.{Adds, Stops}
 use Rattle.dst_tool.proofs.Stopping.{head_of, head_is_front, ends_at_device}
 use Rattle.dst_tool.proofs.Ending.{ends_in_frames, ends_at_end, ends_done}
 use Rattle.dst_tool.proofs.decode.write_decoded.Goals as goal
@@ -13,7 +13,7 @@ pub returns-in-Err-clause-written : goal.returns-in-Err-clause-written
 returns-in-Err-clause-written g c file told =
     let form = form_seen c.args.form.now in
     let bytes = g.met.S.Source.told_are_bytes c.args.source.now file told in
-    let stops = subst (λ n. Stops (c.in-Err.fault ≡ CopyFault.Write) (decoded_head n file form) (g.K.Sink.written c.args.sink.now) (g.K.Sink.written c.write_front.new.sink) (g.K.Sink.room c.args.sink.now)) c.sound_size-size.ensures.size
+    let stops = subst (λ n. Stops (c.in-Err.fault ≡ CopyFault.Write) (decoded_front n file form) (g.K.Sink.written c.args.sink.now) (g.K.Sink.written c.write_front.new.sink) (g.K.Sink.room c.args.sink.now)) c.sound_size-size.ensures.size
     (c.in-Err.ensures.written file told) in
     subst (λ fault. DecodingEnds c.args.workers (Err fault) file (g.K.Sink.written c.args.sink.now) (g.K.Sink.written c.write_front.new.sink) (g.K.Sink.room c.args.sink.now)) (sym c.fault_of_device.ensures)
     (ends_at_device c.args.workers c.in-Err.fault file (head_of file form) _ _ _ bytes (head_is_front c.args.workers file form c.args.index.now bytes (c.requires.opened file told)) stops)
@@ -25,7 +25,7 @@ pub returns-in-Err-write_frames-clause-written : goal.returns-in-Err-write_frame
 returns-in-Err-write_frames-clause-written g c file told =
     let form = form_seen c.args.form.now in
     let bytes = g.met.S.Source.told_are_bytes c.args.source.now file told in
-    let front = subst (λ n. Adds (decoded_head n file form) (g.K.Sink.written c.args.sink.now) (g.K.Sink.written c.write_front.new.sink) (g.K.Sink.room c.args.sink.now) (g.K.Sink.room c.write_front.new.sink)) c.sound_size-size.ensures.size
+    let front = subst (λ n. Adds (decoded_front n file form) (g.K.Sink.written c.args.sink.now) (g.K.Sink.written c.write_front.new.sink) (g.K.Sink.room c.args.sink.now) (g.K.Sink.room c.write_front.new.sink)) c.sound_size-size.ensures.size
     (c.in_default.ensures.written file told) in
     ends_in_frames c.args.workers c.in-Err-write_frames.fault file form c.args.index.now _ _ _ _ _ (g.K.Sink.room c.write_frames.new.sink) bytes (c.requires.opened file told) front
     (c.in-Err-write_frames.ensures.written file (c.in_default.ensures.bytes ∙ told))
@@ -34,7 +34,7 @@ pub returns-in-Err-write_end-clause-written : goal.returns-in-Err-write_end-clau
 returns-in-Err-write_end-clause-written g c file told =
     let form = form_seen c.args.form.now in
     let bytes = g.met.S.Source.told_are_bytes c.args.source.now file told in
-    let front = subst (λ n. Adds (decoded_head n file form) (g.K.Sink.written c.args.sink.now) (g.K.Sink.written c.write_front.new.sink) (g.K.Sink.room c.args.sink.now) (g.K.Sink.room c.write_front.new.sink)) c.sound_size-size.ensures.size
+    let front = subst (λ n. Adds (decoded_front n file form) (g.K.Sink.written c.args.sink.now) (g.K.Sink.written c.write_front.new.sink) (g.K.Sink.room c.args.sink.now) (g.K.Sink.room c.write_front.new.sink)) c.sound_size-size.ensures.size
     (c.in_default.ensures.written file told) in
     let later = c.in_default.ensures.bytes ∙ told in
     let frames = c.in_default-write_frames.ensures.written file later in
@@ -46,7 +46,7 @@ returns-in-Err-write_end-clause-written g c file told =
 pub returns-clause-written : goal.returns-clause-written
 returns-clause-written g c file told =
     let form = form_seen c.args.form.now in
-    let front = subst (λ n. Adds (decoded_head n file form) (g.K.Sink.written c.args.sink.now) (g.K.Sink.written c.write_front.new.sink) (g.K.Sink.room c.args.sink.now) (g.K.Sink.room c.write_front.new.sink)) c.sound_size-size.ensures.size
+    let front = subst (λ n. Adds (decoded_front n file form) (g.K.Sink.written c.args.sink.now) (g.K.Sink.written c.write_front.new.sink) (g.K.Sink.room c.args.sink.now) (g.K.Sink.room c.write_front.new.sink)) c.sound_size-size.ensures.size
     (c.in_default.ensures.written file told) in
     let later = c.in_default.ensures.bytes ∙ told in
     let frames = c.in_default-write_frames.ensures.written file later in

@@ -1,7 +1,7 @@
 -- The line of one more entry behind those that are reported.
 use Rattle.std.proofs.Common.{◌<◌, [], length, ◌∙◌, arith}
 use Rattle.dsdiff_spec.specs.Lines.{index_lines}
-use Rattle.dst_tool.proofs.Writing.{added, cut_off}
+use Rattle.dst_commands.proofs.Writing.{added, cut_off}
 use Rattle.dst_tool.proofs.InTurn.{one_more_part, stops_in_part, all_parts, with_feed, length-index_lines, line_of_entry}
 use Rattle.dst_tool.proofs.listing.report_entries.Goals as goal
 

@@ -2,7 +2,7 @@
 use Rattle.std.proofs.Common.{◌≡◌, ◌≤◌, length, take}
 use Rattle.std.specs.Prelude.{flat_map}
 use Rattle.dsdiff_spec.specs.Lines.{index_lines}
-use Rattle.dst_tool.specs.Writing.{Adds}
+use Rattle.dst_commands.specs.Writing.{Adds}
 use Rattle.dst_tool.proofs.InTurn.{with_feed}
 use Rattle.dst_tool.proofs.listing.report_entries.Given as goal
 

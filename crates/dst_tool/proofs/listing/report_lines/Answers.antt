@@ -1,6 +1,6 @@
 -- One more line behind those that are reported.
 use Rattle.std.proofs.Common.{ap, ◌∙◌, arith}
-use Rattle.dst_tool.proofs.Writing.{added, cut_off}
+use Rattle.dst_commands.proofs.Writing.{added, cut_off}
 use Rattle.dst_tool.proofs.InTurn.{one_more_part, stops_in_part}
 use Rattle.dst_tool.proofs.listing.report_lines.Goals as goal
 

@@ -1,7 +1,7 @@
 -- The lines that the loop has passed are reported.
 use Rattle.std.proofs.Common.{◌≤◌, take}
 use Rattle.std.specs.Prelude.{flat_map}
-use Rattle.dst_tool.specs.Writing.{Adds}
+use Rattle.dst_commands.specs.Writing.{Adds}
 use Rattle.dst_tool.proofs.listing.report_lines.Given as goal
 
 abbrev pub invariant-loop-line : goal.invariant-loop-line

@@ -11,7 +11,7 @@ use Rattle.dst_tool.specs.declared.faults.Summary.{Summary}
 use Rattle.dst_tool.specs.declared.faults.ToolFault.{ToolFault}
 use Rattle.dst_tool.specs.Commands.{OutcomeOf}
 use Rattle.dst_tool.specs.OneFrame.{HasNoSound}
-use Rattle.dst_tool.proofs.Writing.{cut_off, stops_same}
+use Rattle.dst_commands.proofs.Writing.{cut_off, stops_same}
 use Rattle.dst_tool.proofs.FrameSounds.{sound_is_refused, sound_is_written, sink_is_sure}
 use Rattle.dst_tool.proofs.one_frame.frame_out.Goals as goal
 

@@ -8,7 +8,7 @@ use Rattle.dsdiff_spec.specs.Walk.{entries}
 use Rattle.dsdiff_spec.specs.Words.{show}
 use Rattle.dsdiff_chunks.specs.Seen.{form_seen, kind_seen}
 use Rattle.dst_tool.specs.Reporting.{ReportEnds}
-use Rattle.dst_tool.specs.Writing.{Adds, Stops}
+use Rattle.dst_commands.specs.Writing.{Adds, Stops}
 use Rattle.dst_tool.proofs.Accepted.{first_refuses, form_fails, rules_of_show, walk_passes}
 use Rattle.dst_tool.proofs.Reported.{show_outcome, lines_of_plain, shown_as_plain, shown_as_coded, not_shown, reported_ends, only_reported, ends_unopened}
 use Rattle.dst_tool.proofs.show.show_form.Goals as goal

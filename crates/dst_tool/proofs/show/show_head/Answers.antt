@@ -7,7 +7,7 @@ use Rattle.dsdiff_spec.specs.Words.{show_frame}
 use Rattle.dsdiff_chunks.specs.Seen.{form_seen}
 use Rattle.frame_index.specs.Entries.{entry_seen}
 use Rattle.dst_tool.specs.Reporting.{ReportEnds}
-use Rattle.dst_tool.specs.Writing.{Adds, Stops}
+use Rattle.dst_commands.specs.Writing.{Adds, Stops}
 use Rattle.dst_tool.proofs.Reported.{appended, reported_ends, frame_is_shown, ends_unshown}
 use Rattle.dst_tool.proofs.show.show_head.Goals as goal
 

@@ -4,8 +4,8 @@ use Rattle.std.specs.Prelude.{MatchResult}
 use Rattle.dsdiff_spec.specs.Lines.{report, summary_lines, coded_summary_lines}
 use Rattle.dsdiff_chunks.specs.Seen.{form_seen}
 use Rattle.dst_tool.specs.Reporting.{kind_name}
-use Rattle.dst_tool.specs.Writing.{Adds, Stops}
-use Rattle.dst_tool.proofs.Writing.{stops_same, stops_first}
+use Rattle.dst_commands.specs.Writing.{Adds, Stops}
+use Rattle.dst_commands.proofs.Writing.{stops_same, stops_first}
 use Rattle.dst_tool.proofs.Reported.{then_written, lines_of_coded}
 use Rattle.dst_tool.proofs.summary.report_coded.Goals as goal
 

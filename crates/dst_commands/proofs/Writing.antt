@@ -7,7 +7,7 @@ use Rattle.dst_streams.specs.Told.{and_then, IsCutShort, IsSure}
 use Rattle.dst_streams.proofs.Told.{and_then-twice}
 use Rattle.dsdiff_spec.proofs.Progress.{BeginsWith}
 use Rattle.dsdiff_chunks.specs.declared.copy.CopyFault.{CopyFault}
-use Rattle.dst_tool.specs.Writing.{Adds, Stops}
+use Rattle.dst_commands.specs.Writing.{Adds, Stops}
 
 -- ---- nothing
 pub and_then-nothing : (w : Option (List ℕ)) → and_then w [] ≡ w

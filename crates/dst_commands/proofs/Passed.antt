@@ -4,81 +4,61 @@ use Rattle.std.specs.Prelude.{min, bytes_eq, codes, OnOk, OnErr, MatchResult, Re
 use Rattle.dst_streams.specs.Told.{and_then, IsCutShort}
 use Rattle.dsdiff_spec.specs.Written.{prop_with}
 use Rattle.dsdiff_chunks.specs.declared.copy.CopyFault.{CopyFault}
-use Rattle.dst_tool.specs.Writing.{Adds, Stops}
-use Rattle.dst_tool.proofs.Writing.{copied}
+use Rattle.dst_commands.specs.Writing.{Adds, Stops}
+use Rattle.dst_commands.proofs.Writing.{copied}
 use Rattle.std.proofs.lemmas.List.{length-take, length-map, get_or-map, take_all}
 use Rattle.std.proofs.Math.Nat.{mul-le-mul, mul-le-mul_right, div-add-mod}
 use Rattle.byteorder.specs.Endian.{big_bytes}
 use Rattle.dsdiff_spec.specs.Chunks.{Head, body_end, next_place}
-use Rattle.dsdiff_spec.specs.Form.{Form, Kept, plain, coded, frame_bytes, frames_for, kept_size, size_of_sound, whole_chunk}
-use Rattle.dsdiff_spec.specs.Kept.{is_one_chunk}
-use Rattle.dsdiff_spec.specs.Decoded.{kept_cmpr}
+use Rattle.dsdiff_spec.specs.Form.{Form, Origin, plain, coded, sound_bytes_of, frames_for, plain_size, size_of_sound, whole_chunk}
+use Rattle.dsdiff_spec.specs.Origin.{is_one_chunk}
+use Rattle.dsdiff_spec.specs.Decoded.{plain_cmpr}
 use Rattle.dsdiff_spec.specs.Pieces.{decoded_size, opening}
 use Rattle.dsdiff_spec.proofs.PassedOn.{passed, passed_more, passed_in_front}
 use Rattle.dsdiff_spec.proofs.Progress.{BeginsWith}
-use Rattle.dsdiff_chunks.specs.Lawful.{TileTo, IsLawful, IsKeptIfAny, IsCodedForm, IsOfKind}
+use Rattle.dsdiff_chunks.specs.Lawful.{IsLawful, IsOriginIfAny}
 use Rattle.dsdiff_chunks.specs.Seen.{head_seen}
-use Rattle.dsdiff_chunks.specs.declared.form.ChunkHead.{ChunkHead}
-use Rattle.dst_tool.specs.declared.chunks.Side.{Side}
-use Rattle.dst_tool.specs.declared.chunks.Side.TheVariants.{Before, Behind}
-use Rattle.dst_tool.specs.Decoding.{chunks_on}
-use Rattle.dst_tool.specs.Passing.{goes, passed_chunk, whole_end}
+use Rattle.dsdiff_chunks.proofs.LawfulForms.{coded_parts}
+use Rattle.dsdiff_chunks.specs.declared.lists.ChunkHead.{ChunkHead}
+use Rattle.dst_commands.specs.declared.chunks.Side.{Side}
+use Rattle.dst_commands.specs.declared.chunks.Side.TheVariants.{Before, Behind}
+use Rattle.dst_commands.specs.Passing.{chunks_on, goes, passed_chunk, whole_end}
 
--- ---- each chunk lies before the form's end
-pub tiled_inside : (end place : ℕ) (heads : List Head) (j : ℕ) (d : Head) → TileTo end place heads → j < length heads → body_end (get_or heads j d) ≤ end
-tiled_inside end place [] j d t l = absurd (omega arith)
-tiled_inside end place (h ∷ hs) zero d t l = t.1
-tiled_inside end place (h ∷ hs) (suc j) d t l = tiled_inside end (next_place h) hs j d t.2 (omega arith)
+-- ---- the chunk `CMPR` of the plain file, and the size of the sound
+cmpr_if_any : (channels n count : ℕ) (origin : Option Origin) → IsOriginIfAny channels n count origin → (is_one_chunk "CMPR" (plain_cmpr origin) ≡ true) × (length (plain_cmpr origin) ≤ 65536)
+cmpr_if_any channels n count None k = (refl, omega arith)
+cmpr_if_any channels n count (Some origin) k = (k.cmpr, k.cmpr_most)
 
-pub head_inside : (form : Form) (xs : List ChunkHead) (j : ℕ) (d : ChunkHead) → IsLawful form → form.chunks ≡ map head_seen xs → j < length xs → body_end (head_seen (get_or xs j d)) ≤ form.end
-head_inside form xs j d lawful is l =
-    let tiled = subst (TileTo form.end 16) is lawful.chunks in
-    let long = length-map xs head_seen in
-    subst (λ h. body_end h ≤ form.end) (get_or-map head_seen xs j d (head_seen d) l) (tiled_inside form.end 16 (map head_seen xs) j (head_seen d) tiled (omega arith))
+pub cmpr_is_chunk : (form : Form) → IsLawful form → form.kind ≡ coded → (is_one_chunk "CMPR" (plain_cmpr form.origin) ≡ true) × (length (plain_cmpr form.origin) ≤ 65536)
+cmpr_is_chunk form lawful e = cmpr_if_any form.channels (sound_bytes_of form) form.frames form.origin (coded_parts form lawful e).origin
 
-pub sound_inside : (form : Form) → IsLawful form → body_end form.sound ≤ form.end
-sound_inside form lawful =
-    let at = lawful.sound in
-    subst (λ h. body_end h ≤ form.end) at.2 (tiled_inside form.end 16 form.chunks at.0 form.sound lawful.chunks at.1)
-
--- ---- the chunk `CMPR` that is kept, and the size of the sound
-is_coded_form : (form : Form) → IsLawful form → form.kind ≡ coded → IsCodedForm form
-is_coded_form form lawful e = subst (λ k. IsOfKind k form) e lawful.of_kind
-
-cmpr_if_any : (channels n told : ℕ) (kept : Option Kept) → IsKeptIfAny channels n told kept → (is_one_chunk "CMPR" (kept_cmpr kept) ≡ true) × (length (kept_cmpr kept) ≤ 65536)
-cmpr_if_any channels n told None k = (refl, omega arith)
-cmpr_if_any channels n told (Some kept) k = (k.cmpr, k.cmpr_most)
-
-pub cmpr_is_chunk : (form : Form) → IsLawful form → form.kind ≡ coded → (is_one_chunk "CMPR" (kept_cmpr form.kept) ≡ true) × (length (kept_cmpr form.kept) ≤ 65536)
-cmpr_is_chunk form lawful e = cmpr_if_any form.channels (frame_bytes form) form.frames form.kept (is_coded_form form lawful e).kept
-
-pub coded_size : (form : Form) → form.kind ≡ coded → size_of_sound form ≡ kept_size form.kept (form.frames * frame_bytes form)
-coded_size form e = ap (λ k. elim k [ plain ↦ form.sound.size | coded ↦ kept_size form.kept (form.frames * frame_bytes form) ]) e
+pub coded_size : (form : Form) → form.kind ≡ coded → size_of_sound form ≡ plain_size form.origin (form.frames * sound_bytes_of form)
+coded_size form e = ap (λ k. elim k [ plain ↦ form.sound.size | coded ↦ plain_size form.origin (form.frames * sound_bytes_of form) ]) e
 
 needed : (n size frames : ℕ) → 0 < n → frames_for n size ≡ frames → (size ≤ frames * n) × ((k : ℕ) → k < frames → k * n < size)
 needed n size frames h e =
     let whole : n * frames + (size + n - 1) % n ≡ size + n - 1 = ap (λ m. n * m + (size + n - 1) % n) (sym e) ∙ div-add-mod (size + n - 1) n in
     (omega arith, λ k l. let more = mul-le-mul_right n l in omega arith)
 
-needed_if_any : (channels n told : ℕ) (kept : Option Kept) → 0 < n → IsKeptIfAny channels n told kept → (kept_size kept (told * n) ≤ told * n) × ((k : ℕ) → k < told → k * n < kept_size kept (told * n))
-needed_if_any channels n told None h k = (omega arith, λ k l. let more = mul-le-mul_right n l in omega arith)
-needed_if_any channels n told (Some kept) h k = needed n kept.sound told h k.frames
+needed_if_any : (channels n count : ℕ) (origin : Option Origin) → 0 < n → IsOriginIfAny channels n count origin → (plain_size origin (count * n) ≤ count * n) × ((k : ℕ) → k < count → k * n < plain_size origin (count * n))
+needed_if_any channels n count None h k = (omega arith, λ k l. let more = mul-le-mul_right n l in omega arith)
+needed_if_any channels n count (Some origin) h k = needed n origin.sound count h k.count
 
 -- the sound needs all its frames: it ends in the last one
 pub record IsNeeded (form : Form) : Type 0 where
-  pub fits : size_of_sound form ≤ form.frames * frame_bytes form
-  pub reached : (k : ℕ) → k < form.frames → k * frame_bytes form < size_of_sound form
-  pub most : frame_bytes form ≤ 112896 → size_of_sound form ≤ 112896000000
+  pub fits : size_of_sound form ≤ form.frames * sound_bytes_of form
+  pub reached : (k : ℕ) → k < form.frames → k * sound_bytes_of form < size_of_sound form
+  pub most : sound_bytes_of form ≤ 112896 → size_of_sound form ≤ 112896000000
 
-pub sound_is_needed : (form : Form) → IsLawful form → form.kind ≡ coded → 0 < frame_bytes form → IsNeeded form
+pub sound_is_needed : (form : Form) → IsLawful form → form.kind ≡ coded → 0 < sound_bytes_of form → IsNeeded form
 sound_is_needed form lawful e some =
-    let n = needed_if_any form.channels (frame_bytes form) form.frames form.kept some (is_coded_form form lawful e).kept in
+    let n = needed_if_any form.channels (sound_bytes_of form) form.frames form.origin some (coded_parts form lawful e).origin in
     let size = coded_size form e in
     record {
       fits = omega (arith, n.0);
       reached = λ k l. let more = n.1 k l in omega arith;
       most = λ h.
-          let product = mul-le-mul {n₁ = form.frames} {m₁ = frame_bytes form} {n₂ = 1000000} {m₂ = 112896} lawful.frames h in
+          let product = mul-le-mul {n₁ = form.frames} {m₁ = sound_bytes_of form} {n₂ = 1000000} {m₂ = 112896} lawful.frames h in
           omega (arith, n.0);
     }
 
@@ -128,12 +108,12 @@ begins_with_some side file form n = record {
 }
 
 -- ---- one chunk that is written
-pub passed_prop : (file : List ℕ) (form : Form) (h : Head) (prop cmpr : List ℕ) → bytes_eq h.id (codes "PROP") ≡ true → prop ≡ form.prop → cmpr ≡ kept_cmpr form.kept → prop_with prop cmpr ≡ passed_chunk file form h
+pub passed_prop : (file : List ℕ) (form : Form) (h : Head) (prop cmpr : List ℕ) → bytes_eq h.id (codes "PROP") ≡ true → prop ≡ form.prop → cmpr ≡ plain_cmpr form.origin → prop_with prop cmpr ≡ passed_chunk file form h
 passed_prop file form h prop cmpr e p is =
-    ap (λ w. prop_with w cmpr) p ∙ ap (prop_with form.prop) is ∙ sym (ap (λ b. if b then prop_with form.prop (kept_cmpr form.kept) else whole_chunk file form h) e)
+    ap (λ w. prop_with w cmpr) p ∙ ap (prop_with form.prop) is ∙ sym (ap (λ b. if b then prop_with form.prop (plain_cmpr form.origin) else whole_chunk file form h) e)
 
 pub passed_whole : (file : List ℕ) (form : Form) (h : Head) → bytes_eq h.id (codes "PROP") ≡ false → whole_chunk file form h ≡ passed_chunk file form h
-passed_whole file form h e = sym (ap (λ b. if b then prop_with form.prop (kept_cmpr form.kept) else whole_chunk file form h) e)
+passed_whole file form h e = sym (ap (λ b. if b then prop_with form.prop (plain_cmpr form.origin) else whole_chunk file form h) e)
 
 pub copied_chunk : {T : Type 0} (result : Result T CopyFault) (bytes : Option (List ℕ)) (file : List ℕ) (form : Form) (h : Head) (to : ℕ) (old new : Option (List ℕ)) (room left : Option ℕ) →
     to ≡ whole_end form h → bytes ≡ Some file → form.end ≤ length file → body_end h ≤ form.end → bytes_eq h.id (codes "PROP") ≡ false →

@@ -1,20 +1,22 @@
 -- The loop writes chunk by chunk.
 use Rattle.std.proofs.Common.{◌≡◌, ◌+◌, [], map, get_or, ap, sym, ◌∙◌, arith}
-use Rattle.dsdiff_chunks.specs.Seen.{form_seen, head_seen}
-use Rattle.dsdiff_chunks.specs.declared.form.ChunkHead.{ChunkHead}
+use Rattle.dsdiff_chunks.specs.Forms.{coded_seen}
+use Rattle.dsdiff_chunks.specs.Seen.{head_seen}
+use Rattle.dsdiff_chunks.specs.declared.lists.ChunkHead.{ChunkHead}
 use Rattle.dsdiff_chunks.specs.declared.copy.CopyFault.{CopyFault}
-use Rattle.dst_tool.specs.Decoding.{chunks_on}
-use Rattle.dst_tool.specs.Passing.{passed_chunk}
-use Rattle.dst_tool.proofs.Writing.{adds_same, adds_then, stops_same, stops_then, stops_in}
-use Rattle.dst_tool.proofs.Passed.{head_inside, passed_to, one_more_passed, one_more_left, passed_all_of, begins_with_some}
-use Rattle.dst_tool.proofs.chunks.pass_chunks.Goals as goal
+use Rattle.dst_commands.specs.Passing.{chunks_on}
+use Rattle.dst_commands.specs.Passing.{passed_chunk}
+use Rattle.dst_commands.proofs.Writing.{adds_same, adds_then, stops_same, stops_then, stops_in}
+use Rattle.dsdiff_chunks.proofs.LawfulForms.{head_inside}
+use Rattle.dst_commands.proofs.Passed.{passed_to, one_more_passed, one_more_left, passed_all_of, begins_with_some}
+use Rattle.dst_commands.proofs.chunks.pass_chunks.Goals as goal
 
 abbrev none : ChunkHead
 none = record { id = []; place = 0; size = 0 }
 
 pub pass_chunk-requires-clause-within : goal.pass_chunk-requires-clause-within
 pass_chunk-requires-clause-within g c =
-    head_inside (form_seen c.args.form.now) c.as_slice-head-items.result.now c.loop-head.head-index none c.requires.lawful (ap (map head_seen) (sym c.as_slice-head-items.ensures)) c.loop-head-test.true
+    head_inside (coded_seen c.args.form.now) c.as_slice-head-items.result.now c.loop-head.head-index none c.args.form.now.lawful (ap (map head_seen) (sym c.as_slice-head-items.ensures)) c.loop-head-test.true
 
 pub pass_chunk-requires-clause-size : goal.pass_chunk-requires-clause-size
 pass_chunk-requires-clause-size g c = (c.requires.size.0, c.loop-head.invariant.known ∙ c.requires.size.1, c.requires.size.2)
@@ -26,7 +28,7 @@ loop-head-preserved-then-not-passes g c = record {
   source_later = c.loop-head.invariant.source_later;
   sink_later = c.loop-head.invariant.sink_later;
   written = λ file told.
-      adds_same _ _ _ _ _ _ (one_more_left c.args.side file (form_seen c.args.form.now) c.as_slice-head-items.result.now c.loop-head.head-index none (ap (map head_seen) (sym c.as_slice-head-items.ensures)) c.loop-head-test.true (sym c.passes.ensures ∙ c.if-not-passes.true))
+      adds_same _ _ _ _ _ _ (one_more_left c.args.side file (coded_seen c.args.form.now) c.as_slice-head-items.result.now c.loop-head.head-index none (ap (map head_seen) (sym c.as_slice-head-items.ensures)) c.loop-head-test.true (sym c.passes.ensures ∙ c.if-not-passes.true))
       (c.loop-head.invariant.written file told);
 }
 
@@ -37,7 +39,7 @@ loop-head-preserved g c = record {
   source_later = omega (arith, c.in_default.ensures.source_later, c.loop-head.invariant.source_later);
   sink_later = omega (arith, c.in_default.ensures.sink_later, c.loop-head.invariant.sink_later);
   written = λ file told.
-      let form = form_seen c.args.form.now in
+      let form = coded_seen c.args.form.now in
       let head = get_or c.as_slice-head-items.result.now c.loop-head.head-index none in
       adds_same _ _ _ _ _ _ (one_more_passed c.args.side file form c.as_slice-head-items.result.now c.loop-head.head-index none (ap (map head_seen) (sym c.as_slice-head-items.ensures)) c.loop-head-test.true (sym c.passes.ensures ∙ c.if-not-passes.false))
       (adds_then (passed_to c.args.side file form c.loop-head.head-index) (passed_chunk file form (head_seen head)) _ _ _ _ _ _ (c.loop-head.invariant.written file told) (c.in_default.ensures.written file (c.loop-head.invariant.bytes ∙ told)));
@@ -45,7 +47,7 @@ loop-head-preserved g c = record {
 
 pub returns-in-Err-clause-written : goal.returns-in-Err-clause-written
 returns-in-Err-clause-written g c file told =
-    let form = form_seen c.args.form.now in
+    let form = coded_seen c.args.form.now in
     let head = get_or c.as_slice-head-items.result.now c.loop-head.head-index none in
     stops_in (c.in-Err.fault ≡ CopyFault.Write) (chunks_on c.args.side file form) (passed_to c.args.side file form (c.loop-head.head-index + 1)) _ _ _ (begins_with_some c.args.side file form (c.loop-head.head-index + 1))
     (stops_same (c.in-Err.fault ≡ CopyFault.Write) _ _ _ _ _ (one_more_passed c.args.side file form c.as_slice-head-items.result.now c.loop-head.head-index none (ap (map head_seen) (sym c.as_slice-head-items.ensures)) c.loop-head-test.true (sym c.passes.ensures ∙ c.if-not-passes.false))
@@ -53,5 +55,5 @@ returns-in-Err-clause-written g c file told =
 
 pub returns-clause-written : goal.returns-clause-written
 returns-clause-written g c file told =
-    adds_same _ _ _ _ _ _ (passed_all_of c.args.side file (form_seen c.args.form.now) c.as_slice-head-items.result.now c.loop-head.head-index (ap (map head_seen) (sym c.as_slice-head-items.ensures)) c.loop-head-test.false)
+    adds_same _ _ _ _ _ _ (passed_all_of c.args.side file (coded_seen c.args.form.now) c.as_slice-head-items.result.now c.loop-head.head-index (ap (map head_seen) (sym c.as_slice-head-items.ensures)) c.loop-head-test.false)
     (c.loop-head.invariant.written file told)

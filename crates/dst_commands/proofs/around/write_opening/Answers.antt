@@ -1,8 +1,8 @@
 use Rattle.std.proofs.Common.{◌++◌}
 use Rattle.std.specs.Prelude.{codes}
 use Rattle.byteorder.specs.Endian.{big_bytes}
-use Rattle.dst_tool.proofs.Writing.{added, cut_off, then_appended, stops_first}
-use Rattle.dst_tool.proofs.around.write_opening.Goals as goal
+use Rattle.dst_commands.proofs.Writing.{added, cut_off, then_appended, stops_first}
+use Rattle.dst_commands.proofs.around.write_opening.Goals as goal
 
 pub returns-in_default-clause-written : goal.returns-in_default-clause-written
 returns-in_default-clause-written g c =

@@ -1,36 +1,36 @@
 -- The pad byte, the chunks behind the sound, the kept bytes.
 use Rattle.std.proofs.Common.{◌≡◌, ℕ, ◌%◌, ◌==◌, if◌then◌else◌, ◌++◌, ◌∷◌, [], ap}
 use Rattle.std.specs.List.{concat}
-use Rattle.dsdiff_spec.specs.Decoded.{kept_tail}
+use Rattle.dsdiff_spec.specs.Decoded.{kept_bytes}
 use Rattle.dsdiff_spec.specs.Pieces.{decoded_behind, sound_pad}
-use Rattle.dsdiff_chunks.specs.Seen.{form_seen}
+use Rattle.dsdiff_chunks.specs.Forms.{coded_seen}
 use Rattle.dsdiff_chunks.specs.declared.copy.CopyFault.{CopyFault}
-use Rattle.dst_tool.proofs.Writing.{adds_same, adds_then, stops_same, stops_for, stops_first, stops_then}
-use Rattle.dst_tool.proofs.around.write_end.Goals as goal
+use Rattle.dst_commands.proofs.Writing.{adds_same, adds_then, stops_same, stops_for, stops_first, stops_then}
+use Rattle.dst_commands.proofs.around.write_end.Goals as goal
 
 pub returns-in-Err-clause-written : goal.returns-in-Err-clause-written
 returns-in-Err-clause-written g c file told =
-    let form = form_seen c.args.form.now in
-    stops_first (c.in-Err.fault ≡ CopyFault.Write) (sound_pad c.args.sound form ++ concat (decoded_behind file form)) (kept_tail form.kept) _ _ _
+    let form = coded_seen c.args.form.now in
+    stops_first (c.in-Err.fault ≡ CopyFault.Write) (sound_pad c.args.sound form ++ concat (decoded_behind file form)) (kept_bytes form.origin) _ _ _
     (stops_then (c.in-Err.fault ≡ CopyFault.Write) (sound_pad c.args.sound form) (concat (decoded_behind file form)) _ _ _ _ _
     (adds_same _ (sound_pad c.args.sound form) _ _ _ _ (ap (λ (pad : ℕ). if c.args.sound % 2 == 1 then pad ∷ [] else []) c.pad_of.ensures) c.in-Ok.ensures.written)
     (c.in-Err.ensures.written file told))
 
 pub returns-in-Ok-write_any-clause-written : goal.returns-in-Ok-write_any-clause-written
 returns-in-Ok-write_any-clause-written g c file told =
-    let form = form_seen c.args.form.now in
-    adds_then (sound_pad c.args.sound form ++ concat (decoded_behind file form)) (kept_tail form.kept) _ _ _ _ _ _
+    let form = coded_seen c.args.form.now in
+    adds_then (sound_pad c.args.sound form ++ concat (decoded_behind file form)) (kept_bytes form.origin) _ _ _ _ _ _
     (adds_then (sound_pad c.args.sound form) (concat (decoded_behind file form)) _ _ _ _ _ _
     (adds_same _ (sound_pad c.args.sound form) _ _ _ _ (ap (λ (pad : ℕ). if c.args.sound % 2 == 1 then pad ∷ [] else []) c.pad_of.ensures) c.in-Ok.ensures.written)
     (c.in_default-pass_chunks.ensures.written file told))
-    (adds_same _ (kept_tail form.kept) _ _ _ _ c.tail_of.ensures c.in-Ok-write_any.ensures.written)
+    (adds_same _ (kept_bytes form.origin) _ _ _ _ c.kept_of.ensures c.in-Ok-write_any.ensures.written)
 
 pub returns-in-Err-write_any-clause-written : goal.returns-in-Err-write_any-clause-written
 returns-in-Err-write_any-clause-written g c file told =
-    let form = form_seen c.args.form.now in
-    stops_then (CopyFault.Write ≡ CopyFault.Write) (sound_pad c.args.sound form ++ concat (decoded_behind file form)) (kept_tail form.kept) _ _ _ _ _
+    let form = coded_seen c.args.form.now in
+    stops_then (CopyFault.Write ≡ CopyFault.Write) (sound_pad c.args.sound form ++ concat (decoded_behind file form)) (kept_bytes form.origin) _ _ _ _ _
     (adds_then (sound_pad c.args.sound form) (concat (decoded_behind file form)) _ _ _ _ _ _
     (adds_same _ (sound_pad c.args.sound form) _ _ _ _ (ap (λ (pad : ℕ). if c.args.sound % 2 == 1 then pad ∷ [] else []) c.pad_of.ensures) c.in-Ok.ensures.written)
     (c.in_default-pass_chunks.ensures.written file told))
-    (stops_for (Unit {0}) (CopyFault.Write ≡ CopyFault.Write) (kept_tail form.kept) _ _ _ (λ e. tt {0})
-    (stops_same (Unit {0}) _ (kept_tail form.kept) _ _ _ c.tail_of.ensures c.in-Err-write_any.ensures.written))
+    (stops_for (Unit {0}) (CopyFault.Write ≡ CopyFault.Write) (kept_bytes form.origin) _ _ _ (λ e. tt {0})
+    (stops_same (Unit {0}) _ (kept_bytes form.origin) _ _ _ c.kept_of.ensures c.in-Err-write_any.ensures.written))

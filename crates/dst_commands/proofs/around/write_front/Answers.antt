@@ -3,15 +3,15 @@ use Rattle.std.proofs.Common.{◌≡◌, ◌≤◌, ◌++◌, length, arith}
 use Rattle.std.specs.List.{concat}
 use Rattle.dsdiff_spec.specs.Decoded.{decoded_before}
 use Rattle.dsdiff_spec.specs.Pieces.{opening, sound_opening}
-use Rattle.dsdiff_chunks.specs.Seen.{form_seen}
+use Rattle.dsdiff_chunks.specs.Forms.{coded_seen}
 use Rattle.dsdiff_chunks.specs.declared.copy.CopyFault.{CopyFault}
-use Rattle.dst_tool.proofs.Writing.{added, cut_off, adds_same, adds_then, stops_same, stops_for, stops_first, stops_then}
-use Rattle.dst_tool.proofs.Passed.{opening_by}
-use Rattle.dst_tool.proofs.around.write_front.Goals as goal
+use Rattle.dst_commands.proofs.Writing.{added, cut_off, adds_same, adds_then, stops_same, stops_for, stops_first, stops_then}
+use Rattle.dst_commands.proofs.Passed.{opening_by}
+use Rattle.dst_commands.proofs.around.write_front.Goals as goal
 
 pub returns-in_default-clause-written : goal.returns-in_default-clause-written
 returns-in_default-clause-written g c file told =
-    let form = form_seen c.args.form.now in
+    let form = coded_seen c.args.form.now in
     let known = g.met.S.Source.size_is_length c.args.source.now file c.requires.size.0 told c.requires.size.1 in
     let fits : c.args.form.now.end ≤ length file = omega (arith, known, c.requires.size.2) in
     stops_first (CopyFault.Write ≡ CopyFault.Write) (opening c.args.sound file form ++ concat (decoded_before file form)) (sound_opening c.args.sound) _ _ _
@@ -21,7 +21,7 @@ returns-in_default-clause-written g c file told =
 
 pub returns-in-Err-clause-written : goal.returns-in-Err-clause-written
 returns-in-Err-clause-written g c file told =
-    let form = form_seen c.args.form.now in
+    let form = coded_seen c.args.form.now in
     let known = g.met.S.Source.size_is_length c.args.source.now file c.requires.size.0 told c.requires.size.1 in
     let fits : c.args.form.now.end ≤ length file = omega (arith, known, c.requires.size.2) in
     stops_first (c.in-Err.fault ≡ CopyFault.Write) (opening c.args.sound file form ++ concat (decoded_before file form)) (sound_opening c.args.sound) _ _ _
@@ -31,7 +31,7 @@ returns-in-Err-clause-written g c file told =
 
 pub returns-in-Ok-write_head-clause-written : goal.returns-in-Ok-write_head-clause-written
 returns-in-Ok-write_head-clause-written g c file told =
-    let form = form_seen c.args.form.now in
+    let form = coded_seen c.args.form.now in
     let known = g.met.S.Source.size_is_length c.args.source.now file c.requires.size.0 told c.requires.size.1 in
     let fits : c.args.form.now.end ≤ length file = omega (arith, known, c.requires.size.2) in
     adds_then (opening c.args.sound file form ++ concat (decoded_before file form)) (sound_opening c.args.sound) _ _ _ _ _ _
@@ -42,7 +42,7 @@ returns-in-Ok-write_head-clause-written g c file told =
 
 pub returns-in-Err-write_head-clause-written : goal.returns-in-Err-write_head-clause-written
 returns-in-Err-write_head-clause-written g c file told =
-    let form = form_seen c.args.form.now in
+    let form = coded_seen c.args.form.now in
     let known = g.met.S.Source.size_is_length c.args.source.now file c.requires.size.0 told c.requires.size.1 in
     let fits : c.args.form.now.end ≤ length file = omega (arith, known, c.requires.size.2) in
     stops_then (CopyFault.Write ≡ CopyFault.Write) (opening c.args.sound file form ++ concat (decoded_before file form)) (sound_opening c.args.sound) _ _ _ _ _

@@ -1,12 +1,12 @@
 // Pieces that are appended to a sink.
 ghost use Rattle.std.specs.Prelude.{◌≡◌, MatchResult};
 ghost use Rattle.dst_streams.specs.Causes.{HasCause};
-ghost use Rattle.dst_tool.specs.Writing.{Adds, Stops};
+ghost use Rattle.dst_commands.specs.Writing.{Adds, Stops};
 
 use dst_streams::{Failed, Sink};
 
 /// Appends bytes where there are any: no call is made for an empty piece.
-pub(crate) fn write_any<K: Sink>(sink: &mut K, piece: &[u8]) -> Result<(), Failed>
+pub fn write_any<K: Sink>(sink: &mut K, piece: &[u8]) -> Result<(), Failed>
     ensures cause { HasCause (K.faults sink.old) (K.faults sink.new) result }
     ensures written { MatchResult result
         (λ _. Adds piece.now (K.written sink.old) (K.written sink.new) (K.room sink.old) (K.room sink.new))

@@ -3,30 +3,27 @@ ghost use Rattle.std.specs.Prelude.{◌≡◌, ◌≤◌, ◌<◌, ◌++◌, ℕ
 ghost use Rattle.byteorder.specs.Endian.{big_bytes};
 ghost use Rattle.dst_streams.specs.Causes.{HasCause};
 ghost use Rattle.dsdiff_spec.specs.Form.{coded};
-ghost use Rattle.dsdiff_spec.specs.Pieces.{decoded_head, decoded_end};
-ghost use Rattle.dsdiff_chunks.specs.Lawful.{IsLawful};
-ghost use Rattle.dsdiff_chunks.specs.Seen.{form_seen};
+ghost use Rattle.dsdiff_spec.specs.Pieces.{decoded_front, decoded_end};
+ghost use Rattle.dsdiff_chunks.specs.Forms.{coded_seen};
 ghost use Rattle.dsdiff_chunks.specs.declared.copy.CopyFault.{CopyFault};
-ghost use Rattle.dst_tool.specs.Passing.{FailedBy};
-ghost use Rattle.dst_tool.specs.Writing.{Adds, Stops};
+ghost use Rattle.dst_commands.specs.Passing.{FailedBy};
+ghost use Rattle.dst_commands.specs.Writing.{Adds, Stops};
 
-use crate::chunks::{Side, pad_of, pass_chunks, tail_of};
+use crate::chunks::{Side, pad_of, pass_chunks, kept_of};
 use crate::pieces::write_any;
 use crate::sizes::form_size;
-use dsdiff_chunks::{CopyFault, Form, write_head};
+use dsdiff_chunks::{CodedForm, CopyFault, write_head};
 use dst_streams::{Failed, Sink, Source};
 
 /// Writes what stands in front of a sound of so many bytes.
-pub(crate) fn write_front<S: Source, K: Sink>(
+pub fn write_front<S: Source, K: Sink>(
     source: &mut S,
     sink: &mut K,
-    form: &Form,
+    form: &CodedForm,
     sound: u64,
     buffer: &mut [u8],
 ) -> Result<(), CopyFault>
     requires buffer { 0 < length buffer.old }
-    requires lawful { IsLawful (form_seen form.now) }
-    requires is_coded { (form_seen form.now).kind ≡ coded }
     requires most { sound ≤ 112896000000 }
     requires size { (n : ℕ) × (S.known source.old ≡ Some n) × (form.now.end ≤ n) }
     ensures bytes { S.bytes source.new ≡ S.bytes source.old }
@@ -35,8 +32,8 @@ pub(crate) fn write_front<S: Source, K: Sink>(
     ensures sink_later { K.faults sink.old ≤ K.faults sink.new }
     ensures cause { IfErr result (λ fault. FailedBy fault (S.faults source.old) (S.faults source.new) (K.faults sink.old) (K.faults sink.new)) }
     ensures written { (file : List ℕ) → S.bytes source.old ≡ Some file → MatchResult result
-        (λ _. Adds (decoded_head sound file (form_seen form.now)) (K.written sink.old) (K.written sink.new) (K.room sink.old) (K.room sink.new))
-        (λ fault. Stops (fault ≡ CopyFault.Write) (decoded_head sound file (form_seen form.now)) (K.written sink.old) (K.written sink.new) (K.room sink.old)) }
+        (λ _. Adds (decoded_front sound file (coded_seen form.now)) (K.written sink.old) (K.written sink.new) (K.room sink.old) (K.room sink.new))
+        (λ fault. Stops (fault ≡ CopyFault.Write) (decoded_front sound file (coded_seen form.now)) (K.written sink.old) (K.written sink.new) (K.room sink.old)) }
 {
     let Ok(()) = write_opening(sink, form_size(form, sound)) else {
         return Err(CopyFault::Write);
@@ -64,24 +61,22 @@ fn write_opening<K: Sink>(sink: &mut K, size: u64) -> Result<(), Failed>
 }
 
 /// Writes what stands behind a sound of so many bytes.
-pub(crate) fn write_end<S: Source, K: Sink>(
+pub fn write_end<S: Source, K: Sink>(
     source: &mut S,
     sink: &mut K,
-    form: &Form,
+    form: &CodedForm,
     sound: u64,
     buffer: &mut [u8],
 ) -> Result<(), CopyFault>
     requires buffer { 0 < length buffer.old }
-    requires lawful { IsLawful (form_seen form.now) }
-    requires is_coded { (form_seen form.now).kind ≡ coded }
     requires size { (n : ℕ) × (S.known source.old ≡ Some n) × (form.now.end ≤ n) }
     ensures bytes { S.bytes source.new ≡ S.bytes source.old }
     ensures source_later { S.faults source.old ≤ S.faults source.new }
     ensures sink_later { K.faults sink.old ≤ K.faults sink.new }
     ensures cause { IfErr result (λ fault. FailedBy fault (S.faults source.old) (S.faults source.new) (K.faults sink.old) (K.faults sink.new)) }
     ensures written { (file : List ℕ) → S.bytes source.old ≡ Some file → MatchResult result
-        (λ _. Adds (decoded_end sound file (form_seen form.now)) (K.written sink.old) (K.written sink.new) (K.room sink.old) (K.room sink.new))
-        (λ fault. Stops (fault ≡ CopyFault.Write) (decoded_end sound file (form_seen form.now)) (K.written sink.old) (K.written sink.new) (K.room sink.old)) }
+        (λ _. Adds (decoded_end sound file (coded_seen form.now)) (K.written sink.old) (K.written sink.new) (K.room sink.old) (K.room sink.new))
+        (λ fault. Stops (fault ≡ CopyFault.Write) (decoded_end sound file (coded_seen form.now)) (K.written sink.old) (K.written sink.new) (K.room sink.old)) }
 {
     let Ok(()) = write_pad(sink, sound, pad_of(form)) else {
         return Err(CopyFault::Write);
@@ -89,7 +84,7 @@ pub(crate) fn write_end<S: Source, K: Sink>(
     if let Err(fault) = pass_chunks(source, sink, form, Side::Behind, buffer) {
         return Err(fault);
     }
-    match write_any(sink, tail_of(form)) {
+    match write_any(sink, kept_of(form)) {
         Ok(()) => Ok(()),
         Err(_) => Err(CopyFault::Write),
     }
