@@ -1,15 +1,15 @@
 -- Rules in order: what the ones before leave, and the first that fails.
-use Rattle.std.proofs.Common.{◌≡◌, ℕ, ◌<◌, List, Bool, true, Option, Some, None, Result, Ok, Err, refl, ap, ◌∙◌}
+use Rattle.std.proofs.Common.{◌≡◌, ℕ, ◌<◌, List, Bool, true, false, Option, Some, None, Result, Ok, Err, refl, ap, ◌∙◌}
 use Rattle.std.specs.Prelude.{not}
 use Rattle.std.proofs.lemmas.Bool.{ltb-true, not-false}
 use Rattle.dst_streams.specs.Causes.{Rose}
 use Rattle.dsdiff_spec.specs.Bytes.{◌above◌}
 use Rattle.dsdiff_spec.specs.Faults.{◌when◌, ◌otherwise◌}
 use Rattle.dsdiff_spec.specs.Form.{Form, plain, coded, is_plain}
-use Rattle.dsdiff_spec.specs.Refusal.{command_fault, form_refusal, no_frame, not_coded}
+use Rattle.dsdiff_spec.specs.Refusal.{command_fault, form_refusal, no_frame, not_coded, refusal}
 use Rattle.dsdiff_spec.specs.Rules.{form_fault, form, accepted}
 use Rattle.dsdiff_spec.specs.Walk.{Entry, by_index_fault, entries, walk, walk_fault}
-use Rattle.dsdiff_spec.specs.Words.{Command, frame}
+use Rattle.dsdiff_spec.specs.Words.{Command, check, decode, frame, index, show, show_frame}
 use Rattle.dsdiff_spec.specs.declared.faults.FileFault.{FileFault}
 use Rattle.dsdiff_spec.specs.declared.faults.FileFault.TheVariants.{NotCoded, Range}
 use Rattle.dsdiff_spec.proofs.CodedFiles.{form_by, refused_by}
@@ -79,3 +79,38 @@ pub indexed_is : (k : ℕ) (file : List ℕ) (f : Form) (fault : FileFault) → 
     command_fault (frame k true) file f ≡ Some fault
 indexed_is k file f fault none e is_coded =
     then_is (not_coded f) (no_frame k f.frames otherwise by_index_fault file f k) (coded_passes f is_coded) ∙ then_is (no_frame k f.frames) (by_index_fault file f k) none ∙ e
+
+-- ---- the commands whose rules are these
+pub rules_of_decode : (file : List ℕ) → refusal decode file ≡ form_refusal index file
+unfolding refusal
+rules_of_decode file = refl
+
+pub rules_of_index : (file : List ℕ) → refusal index file ≡ form_refusal index file
+unfolding refusal
+rules_of_index file = refl
+
+pub rules_of_check : (file : List ℕ) → refusal check file ≡ form_refusal check file
+unfolding refusal
+rules_of_check file = refl
+
+pub rules_of_show : (file : List ℕ) → refusal show file ≡ form_refusal show file
+unfolding refusal
+rules_of_show file = refl
+
+pub rules_of_show_frame : (k : ℕ) (file : List ℕ) → refusal (show_frame k) file ≡ form_refusal (show_frame k) file
+unfolding refusal
+rules_of_show_frame k file = refl
+
+pub rules_by_walk : (k : ℕ) (file : List ℕ) → refusal (frame k false) file ≡ form_refusal (show_frame k) file
+unfolding refusal
+rules_by_walk k file = refl
+
+pub rules_by_index : (k : ℕ) (file : List ℕ) → refusal (frame k true) file ≡ form_refusal (frame k true) file
+unfolding refusal
+rules_by_index k file = refl
+
+-- rules that refuse the same stop a step for the same cause
+pub stops_as : (a b : List ℕ → Option FileFault) (fault : OpenFault) (bytes : Option (List ℕ)) (before now : ℕ) → ((file : List ℕ) → b file ≡ a file) → Stops a bytes before now fault → Stops b bytes before now fault
+stops_as a b (File f) bytes before now same stops = λ file told. same file ∙ stops file told
+stops_as a b Read bytes before now same stops = stops
+stops_as a b Memory bytes before now same stops = stops

@@ -1,3 +1,4 @@
+pub mod Commands
 pub mod Opened
 pub mod Writing
 pub mod Passing

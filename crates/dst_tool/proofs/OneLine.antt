@@ -14,16 +14,16 @@ use Rattle.dsdiff_spec.specs.Lines.{Line, report}
 use Rattle.dsdiff_spec.specs.Outcome.{Answer, done, file_refused, frame_refused, OfCommand}
 use Rattle.dsdiff_spec.proofs.Stopping.{One}
 use Rattle.dsdiff_spec.proofs.OneAnswer.{ReadsCoded, command_has_one_outcome}
-use Rattle.dst_tool.specs.declared.faults.Summary.{Summary}
-use Rattle.dst_tool.specs.declared.faults.ToolFault.{ToolFault}
-use Rattle.dst_tool.specs.declared.faults.ToolFault.TheVariants.{Read, Write, Memory, Report, File, Frame}
+use Rattle.dst_tool.specs.declared.answers.Numbers.{Numbers}
+use Rattle.dst_tool.specs.declared.answers.Fault.{Fault}
+use Rattle.dst_tool.specs.declared.answers.Fault.TheVariants.{Read, Write, Memory, Report, File, Frame}
 use Rattle.dst_tool.specs.Answers.{status_of, done_line, fault_line, line_of}
-use Rattle.dst_tool.specs.Commands.{OutcomeOf}
+use Rattle.dst_commands.specs.Commands.{OutcomeOf}
 use Rattle.dst_tool.specs.Runs.{DidNotRise, EndsAsOne, EndsBy, Reports, WritesNowhere, most_given, longest_sound, Counts, Held, IsRun}
 use Rattle.dst_tool.proofs.Statuses.{status_is_read, status_is_write, status_is_memory, status_is_file, status_is_not_words, status_is_below}
 use Rattle.dst_commands.proofs.Writing.{and_then-nothing}
 
-pub record IsAnswer (c : Command) (r : Result Summary ToolFault) (file : List ℕ) (old new : Option (List ℕ)) : Type 0 where
+pub record IsAnswer (c : Command) (r : Result Numbers Fault) (file : List ℕ) (old new : Option (List ℕ)) : Type 0 where
   pub finished : IfOk r (λ s. (out : List ℕ) × OutcomeOf c file (done out (done_line c s ∷ [])) × (new ≡ and_then old out))
   pub file_is : (fault : FileFault) → r ≡ Err (File fault) → refusal c file ≡ Some fault
   pub untouched : (fault : FileFault) → r ≡ Err (File fault) → new ≡ old
@@ -33,7 +33,7 @@ pub record IsAnswer (c : Command) (r : Result Summary ToolFault) (file : List �
   pub no_report : r ≡ Err Report → ⊥
 
 -- what holds of every file that is told holds of this one
-pub at_file : (r : Result Summary ToolFault) (P : Summary → List ℕ → Type 0) (bytes : Option (List ℕ)) (file : List ℕ) → bytes ≡ Some file → IfOk r (λ s. (xs : List ℕ) → bytes ≡ Some xs → P s xs) → IfOk r (λ s. P s file)
+pub at_file : (r : Result Numbers Fault) (P : Numbers → List ℕ → Type 0) (bytes : Option (List ℕ)) (file : List ℕ) → bytes ≡ Some file → IfOk r (λ s. (xs : List ℕ) → bytes ≡ Some xs → P s xs) → IfOk r (λ s. P s file)
 at_file (Ok s) P bytes file told h = h file told
 at_file (Err fault) P bytes file told h = tt {0}
 
@@ -41,7 +41,7 @@ at_file (Err fault) P bytes file told h = tt {0}
 pub refusal_is : (c : Command) (file : List ℕ) (fault : FileFault) → refusal c file ≡ Some fault → OutcomeOf c file (file_refused fault)
 refusal_is c file fault e = subst (λ q. OfCommand c file q (file_refused fault)) (sym e) refl
 
-done_ends : (c : Command) (s : Summary) (file : List ℕ) (old new : Option (List ℕ)) → IsAnswer c (Ok s) file old new → EndsAsOne (OutcomeOf c file) 0 (line_of c (Ok s) ∷ []) old new
+done_ends : (c : Command) (s : Numbers) (file : List ℕ) (old new : Option (List ℕ)) → IsAnswer c (Ok s) file old new → EndsAsOne (OutcomeOf c file) 0 (line_of c (Ok s) ∷ []) old new
 done_ends c s file old new a = (done a.finished.0 (done_line c s ∷ []), a.finished.1, refl, refl, a.finished.2)
 
 file_ends : (c : Command) (fault : FileFault) (file : List ℕ) (old new : Option (List ℕ)) → IsAnswer c (Err (File fault)) file old new → EndsAsOne (OutcomeOf c file) 5 (fault_line (File fault) ∷ []) old new
@@ -52,7 +52,7 @@ frame_ends c k fault file old new a =
     let f = a.frame_is k fault refl in
     (frame_refused k fault f.0, f.1, refl, refl, f.2)
 
-pub answer_ends : (c : Command) (r : Result Summary ToolFault) (file : List ℕ) (old new : Option (List ℕ)) → IsAnswer c r file old new → EndsBy (OutcomeOf c file) ⊤ (status_of r) (line_of c r ∷ []) old new
+pub answer_ends : (c : Command) (r : Result Numbers Fault) (file : List ℕ) (old new : Option (List ℕ)) → IsAnswer c r file old new → EndsBy (OutcomeOf c file) ⊤ (status_of r) (line_of c r ∷ []) old new
 answer_ends c (Ok s) file old new a = inr (inr (inr (done_ends c s file old new a)))
 answer_ends c (Err Read) file old new a = inl (refl, refl, a.cut_short (inl refl))
 answer_ends c (Err Write) file old new a = inr (inl (refl, refl, a.cut_short (inr refl)))
@@ -67,7 +67,7 @@ same_lines c file status lines old new o reads bytes h (p, is, st, same, w) =
     let one = command_has_one_outcome c file reads bytes in
     ap (λ (a : Answer). a.lines) (one.2 o h ∙ sym (one.2 p is)) ∙ same
 
-line_fits : (c : Command) (r : Result Summary ToolFault) (file : List ℕ) (old new : Option (List ℕ)) (o : Answer) (n : ℕ) → ReadsCoded c → AreBytes file → IsAnswer c r file old new → OutcomeOf c file o →
+line_fits : (c : Command) (r : Result Numbers Fault) (file : List ℕ) (old new : Option (List ℕ)) (o : Answer) (n : ℕ) → ReadsCoded c → AreBytes file → IsAnswer c r file old new → OutcomeOf c file o →
     (r ≡ Err Read → ⊥) → (r ≡ Err Write → ⊥) → 7 ≤ n → length (report o.lines) ≤ n → length (report (line_of c r ∷ [])) ≤ n
 line_fits c (Ok s) file old new o n reads bytes a h no_read no_write least fits = subst (λ lines. length (report lines) ≤ n) (same_lines c file 0 (line_of c (Ok s) ∷ []) old new o reads bytes h (done_ends c s file old new a)) fits
 line_fits c (Err Read) file old new o n reads bytes a h no_read no_write least fits = absurd (no_read refl)
@@ -97,7 +97,7 @@ pub record TellsLine (status : ℕ) (line : Line) (result : ℕ) (counts : Count
   pub sure : result ≡ 7 → (n : ℕ) → told.room ≡ Some n → length (report (line ∷ [])) ≤ n → ⊥
 
 -- ---- the run
-pub record HasCauses (c : Command) (r : Result Summary ToolFault) (bytes : Option (List ℕ)) (source sink given : Counts) (written : Held) (Same : Type 0) : Type 0 where
+pub record HasCauses (c : Command) (r : Result Numbers Fault) (bytes : Option (List ℕ)) (source sink given : Counts) (written : Held) (Same : Type 0) : Type 0 where
   pub read : r ≡ Err Read → Rose source.before source.now
   pub write : r ≡ Err Write → Rose sink.before sink.now
   pub sure : r ≡ Err Write → (file : List ℕ) → bytes ≡ Some file → (o : Answer) → OutcomeOf c file o → (n : ℕ) → written.room ≡ Some n → length o.out ≤ n → ⊥
@@ -108,7 +108,7 @@ pub record HasCauses (c : Command) (r : Result Summary ToolFault) (bytes : Optio
   pub any_source : (k : ℕ) → c ≡ frame k true → given.now ≤ given.before + most_given longest_sound
   pub no_report : r ≡ Err Report → ⊥
 
-pub run_of_answer : (c : Command) (r : Result Summary ToolFault) (result : ℕ) (bytes : Option (List ℕ)) (source sink counts given : Counts) (written told : Held) (Same : Type 0) → ReadsCoded c →
+pub run_of_answer : (c : Command) (r : Result Numbers Fault) (result : ℕ) (bytes : Option (List ℕ)) (source sink counts given : Counts) (written told : Held) (Same : Type 0) → ReadsCoded c →
     ((file : List ℕ) → bytes ≡ Some file → AreBytes file) → ((file : List ℕ) → bytes ≡ Some file → IsAnswer c r file written.old written.new) →
     HasCauses c r bytes source sink given written Same → TellsLine (status_of r) (line_of c r) result counts told → IsRun c result bytes source sink counts given written told Same
 run_of_answer c r result bytes source sink counts given written told Same reads are answer h t = record {
@@ -136,11 +136,11 @@ run_of_answer c r result bytes source sink counts given written told Same reads 
 pub same_run : {a c : Command} {result : ℕ} {bytes : Option (List ℕ)} {source sink counts given : Counts} {written told : Held} {Same : Type 0} → a ≡ c → IsRun c result bytes source sink counts given written told Same → IsRun a result bytes source sink counts given written told Same
 same_run {a} {c} {result} {bytes} {source} {sink} {counts} {given} {written} {told} {Same} e h = subst (λ c. IsRun c result bytes source sink counts given written told Same) (sym e) h
 
-pub decoding_is_no_frame : (workers k : ℕ) → decode workers ≡ frame k true → ⊥
-decoding_is_no_frame workers k e = absurd cc
+pub decoding_is_no_frame : (k : ℕ) → decode ≡ frame k true → ⊥
+decoding_is_no_frame k e = absurd cc
 
-pub checking_is_no_frame : (workers k : ℕ) → check workers ≡ frame k true → ⊥
-checking_is_no_frame workers k e = absurd cc
+pub checking_is_no_frame : (k : ℕ) → check ≡ frame k true → ⊥
+checking_is_no_frame k e = absurd cc
 
 pub showing_is_no_frame : (k : ℕ) → show ≡ frame k true → ⊥
 showing_is_no_frame k e = absurd cc
@@ -159,18 +159,18 @@ pub nothing_cut : (old : Option (List ℕ)) (bytes : List ℕ) → IsCutShort ol
 nothing_cut old bytes = record { kept = 0; within = omega arith; written = nothing_added old }
 
 -- a finished command that writes nothing
-pub finished_alone : (c : Command) (r : Result Summary ToolFault) (old : Option (List ℕ)) (file : List ℕ) → IfOk r (λ s. OutcomeOf c file (done [] (done_line c s ∷ []))) → IfOk r (λ s. (out : List ℕ) × OutcomeOf c file (done out (done_line c s ∷ [])) × (old ≡ and_then old out))
+pub finished_alone : (c : Command) (r : Result Numbers Fault) (old : Option (List ℕ)) (file : List ℕ) → IfOk r (λ s. OutcomeOf c file (done [] (done_line c s ∷ []))) → IfOk r (λ s. (out : List ℕ) × OutcomeOf c file (done out (done_line c s ∷ [])) × (old ≡ and_then old out))
 finished_alone c (Ok s) old file h = ([], h, nothing_added old)
 finished_alone c (Err fault) old file h = tt {0}
 
-pub not_both_faults : (r : Result Summary ToolFault) (a b : ToolFault) → r ≡ Err a → r ≡ Err b → a ≡ b
+pub not_both_faults : (r : Result Numbers Fault) (a b : Fault) → r ≡ Err a → r ≡ Err b → a ≡ b
 not_both_faults r a b e f = same (sym e ∙ f)
   where
-    same : ◌≡◌ {A = Result Summary ToolFault} (Err a) (Err b) → a ≡ b
+    same : ◌≡◌ {A = Result Numbers Fault} (Err a) (Err b) → a ≡ b
     same h = cc
 
 -- where the source failed nothing is written; where the sink did, a prefix
-pub cut_or_nothing : (c : Command) (r : Result Summary ToolFault) (file : List ℕ) (old new : Option (List ℕ)) → One (OutcomeOf c file) → (r ≡ Err Read → new ≡ old) → (r ≡ Err Write → (o : Answer) × OutcomeOf c file o × IsCutShort old o.out new) →
+pub cut_or_nothing : (c : Command) (r : Result Numbers Fault) (file : List ℕ) (old new : Option (List ℕ)) → One (OutcomeOf c file) → (r ≡ Err Read → new ≡ old) → (r ≡ Err Write → (o : Answer) × OutcomeOf c file o × IsCutShort old o.out new) →
     (r ≡ Err Read) ⊎ (r ≡ Err Write) → (o : Answer) × OutcomeOf c file o × IsCutShort old o.out new
 cut_or_nothing c r file old new one nothing cut (inl e) = (one.0, one.1, subst (λ w. IsCutShort old one.0.out w) (sym (nothing e)) (nothing_cut old one.0.out))
 cut_or_nothing c r file old new one nothing cut (inr e) = cut e

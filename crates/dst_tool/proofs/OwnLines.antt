@@ -11,18 +11,18 @@ use Rattle.dsdiff_spec.specs.Refusal.{refusal}
 use Rattle.dsdiff_spec.specs.Lines.{Line, report, memory_line, read_fault_line}
 use Rattle.dsdiff_spec.specs.Outcome.{Answer, done, file_refused, frame_refused, OfCommand}
 use Rattle.dsdiff_spec.proofs.OneAnswer.{ReadsCoded, command_has_one_outcome}
-use Rattle.dst_tool.specs.declared.faults.Summary.{Summary}
-use Rattle.dst_tool.specs.declared.faults.ToolFault.{ToolFault}
-use Rattle.dst_tool.specs.declared.faults.ToolFault.TheVariants.{Read, Write, Memory, Report, File, Frame}
+use Rattle.dst_tool.specs.declared.answers.Numbers.{Numbers}
+use Rattle.dst_tool.specs.declared.answers.Fault.{Fault}
+use Rattle.dst_tool.specs.declared.answers.Fault.TheVariants.{Read, Write, Memory, Report, File, Frame}
 use Rattle.dst_tool.specs.Answers.{status_of, fault_line}
-use Rattle.dst_tool.specs.Commands.{OutcomeOf}
+use Rattle.dst_commands.specs.Commands.{OutcomeOf}
 use Rattle.dst_tool.specs.Runs.{DidNotRise, EndsAsOne, EndsBy, Reports, WritesNowhere, Counts, Held, IsRun}
 use Rattle.dst_tool.proofs.Statuses.{status_is_read, status_is_write, status_is_not_words}
 use Rattle.dst_tool.proofs.OneLine.{refusal_is, same_lines, reports_line, status_told}
 use Rattle.dst_commands.proofs.Writing.{and_then-nothing}
 
 -- what it answered of a file, the report holding `told` before and `mid` then
-pub record IsListing (c : Command) (r : Result Summary ToolFault) (file : List ℕ) (told mid : Option (List ℕ)) : Type 0 where
+pub record IsListing (c : Command) (r : Result Numbers Fault) (file : List ℕ) (told mid : Option (List ℕ)) : Type 0 where
   pub lines : IfOk r (λ s. (lines : List Line) × OutcomeOf c file (done [] lines) × (mid ≡ and_then told (report lines)))
   pub file_is : (fault : FileFault) → r ≡ Err (File fault) → refusal c file ≡ Some fault
   pub frame_is : (k : ℕ) (fault : FrameFault) → r ≡ Err (Frame k fault) → OutcomeOf c file (frame_refused k fault [])
@@ -30,28 +30,28 @@ pub record IsListing (c : Command) (r : Result Summary ToolFault) (file : List �
   pub cut_short : r ≡ Err Report → (lines : List Line) × OutcomeOf c file (done [] lines) × IsCutShort told (report lines) mid
 
 -- whatever the source tells
-pub record Lists (r : Result Summary ToolFault) (source counts middle : Counts) (told mid : Held) : Type 0 where
+pub record Lists (r : Result Numbers Fault) (source counts middle : Counts) (told mid : Held) : Type 0 where
   pub read : r ≡ Err Read → Rose source.before source.now
   pub no_write : r ≡ Err Write → ⊥
   pub reported : r ≡ Err Report → Rose counts.before middle.before
-  pub untouched : (fault : ToolFault) → r ≡ Err fault → fault ≢ Report → (mid.old ≡ told.old) × (mid.room ≡ told.room) × (middle.before ≡ counts.before)
+  pub untouched : (fault : Fault) → r ≡ Err fault → fault ≢ Report → (mid.old ≡ told.old) × (mid.room ≡ told.room) × (middle.before ≡ counts.before)
 
 -- what is reported of it then
-pub record TellsFault (r : Result Summary ToolFault) (result : ℕ) (middle : Counts) (mid : Held) : Type 0 where
+pub record TellsFault (r : Result Numbers Fault) (result : ℕ) (middle : Counts) (mid : Held) : Type 0 where
   pub reported : (result ≡ status_of r) ⊎ (result ≡ 7)
-  pub done : (s : Summary) → r ≡ Ok s → (result ≡ 0) × (mid.new ≡ mid.old) × (middle.now ≡ middle.before)
+  pub done : (s : Numbers) → r ≡ Ok s → (result ≡ 0) × (mid.new ≡ mid.old) × (middle.now ≡ middle.before)
   pub failed : r ≡ Err Report → (result ≡ 7) × (mid.new ≡ mid.old) × (middle.now ≡ middle.before)
-  pub whole : (fault : ToolFault) → r ≡ Err fault → fault ≢ Report → result ≡ status_of r → mid.new ≡ and_then mid.old (report (fault_line fault ∷ []))
-  pub cut_short : (fault : ToolFault) → r ≡ Err fault → fault ≢ Report → result ≡ 7 → IsCutShort mid.old (report (fault_line fault ∷ [])) mid.new
-  pub cause : (fault : ToolFault) → r ≡ Err fault → fault ≢ Report → result ≡ 7 → Rose middle.before middle.now
-  pub sure : (fault : ToolFault) → r ≡ Err fault → fault ≢ Report → result ≡ 7 → (n : ℕ) → mid.room ≡ Some n → length (report (fault_line fault ∷ [])) ≤ n → ⊥
+  pub whole : (fault : Fault) → r ≡ Err fault → fault ≢ Report → result ≡ status_of r → mid.new ≡ and_then mid.old (report (fault_line fault ∷ []))
+  pub cut_short : (fault : Fault) → r ≡ Err fault → fault ≢ Report → result ≡ 7 → IsCutShort mid.old (report (fault_line fault ∷ [])) mid.new
+  pub cause : (fault : Fault) → r ≡ Err fault → fault ≢ Report → result ≡ 7 → Rose middle.before middle.now
+  pub sure : (fault : Fault) → r ≡ Err fault → fault ≢ Report → result ≡ 7 → (n : ℕ) → mid.room ≡ Some n → length (report (fault_line fault ∷ [])) ≤ n → ⊥
 
 -- ---- how it ends
 none_cut : (old : Option (List ℕ)) (bytes : List ℕ) → IsCutShort old bytes old
 none_cut old bytes = record { kept = 0; within = omega arith; written = sym (and_then-nothing old) }
 
 -- a fault that isn't the report's is reported
-abbrev IsTold : ToolFault → Type 0
+abbrev IsTold : Fault → Type 0
 IsTold Read = ⊤
 IsTold Memory = ⊤
 IsTold (File fault) = ⊤
@@ -59,13 +59,13 @@ IsTold (Frame k fault) = ⊤
 IsTold Write = ⊥
 IsTold Report = ⊥
 
-not_report : (fault : ToolFault) → IsTold fault → fault ≢ Report
+not_report : (fault : Fault) → IsTold fault → fault ≢ Report
 not_report fault h e = subst IsTold e h
 
 abbrev EndsListing : Command → List ℕ → ℕ → Option (List ℕ) → Held → Type 0
 EndsListing c file result written told = (wanted : ℕ) × (lines : List Line) × EndsBy (OutcomeOf c file) ⊤ wanted lines written written × Reports wanted lines result told.old told.new
 
-fault_ends : (c : Command) (fault : ToolFault) (file : List ℕ) (written : Option (List ℕ)) (told mid : Option (List ℕ)) → IsTold fault → IsListing c (Err fault) file told mid →
+fault_ends : (c : Command) (fault : Fault) (file : List ℕ) (written : Option (List ℕ)) (told mid : Option (List ℕ)) → IsTold fault → IsListing c (Err fault) file told mid →
     EndsBy (OutcomeOf c file) ⊤ (status_of (Err fault)) (fault_line fault ∷ []) written written
 fault_ends c Read file written told mid h l = inl (refl, refl, (l.some.0, l.some.1, none_cut written l.some.0.out))
 fault_ends c Memory file written told mid h l = inr (inr (inl (refl, refl, tt, refl)))
@@ -74,7 +74,7 @@ fault_ends c (Frame k fault) file written told mid h l = inr (inr (inr (frame_re
 fault_ends c Write file written told mid h l = absurd h
 fault_ends c Report file written told mid h l = absurd h
 
-told_ends : (c : Command) (fault : ToolFault) (result : ℕ) (file : List ℕ) (written : Option (List ℕ)) (source counts middle : Counts) (told mid : Held) → IsTold fault → mid.new ≡ told.new →
+told_ends : (c : Command) (fault : Fault) (result : ℕ) (file : List ℕ) (written : Option (List ℕ)) (source counts middle : Counts) (told mid : Held) → IsTold fault → mid.new ≡ told.new →
     IsListing c (Err fault) file told.old mid.old → Lists (Err fault) source counts middle told mid → TellsFault (Err fault) result middle mid → EndsListing c file result written told
 told_ends c fault result file written source counts middle told mid h last l s t =
     let other = not_report fault h in
@@ -87,7 +87,7 @@ told_ends c fault result file written source counts middle told mid h last l s t
           (λ e. subst (λ w. IsCutShort told.old (report (fault_line fault ∷ [])) w) last (subst (λ w. IsCutShort w (report (fault_line fault ∷ [])) mid.new) same (t.cut_short fault refl other e))),
     )
 
-listing_ends : (c : Command) (r : Result Summary ToolFault) (result : ℕ) (file : List ℕ) (written : Option (List ℕ)) (source counts middle : Counts) (told mid : Held) → mid.new ≡ told.new →
+listing_ends : (c : Command) (r : Result Numbers Fault) (result : ℕ) (file : List ℕ) (written : Option (List ℕ)) (source counts middle : Counts) (told mid : Held) → mid.new ≡ told.new →
     IsListing c r file told.old mid.old → Lists r source counts middle told mid → TellsFault r result middle mid → EndsListing c file result written told
 listing_ends c (Ok s) result file written source counts middle told mid last l h t =
     let d = t.done s refl in (
@@ -114,7 +114,7 @@ listing_ends c (Err Write) result file written source counts middle told mid las
 moved : (counts middle : Counts) → middle.before ≡ counts.before → middle.now ≡ counts.now → Rose middle.before middle.now → Rose counts.before counts.now
 moved counts middle a b rose = subst (λ m. Rose counts.before m) b (subst (λ m. Rose m middle.now) a rose)
 
-seven_has_cause : (r : Result Summary ToolFault) (result : ℕ) (source counts middle : Counts) (told mid : Held) → middle.now ≡ counts.now → Lists r source counts middle told mid → TellsFault r result middle mid → result ≡ 7 → Rose counts.before counts.now
+seven_has_cause : (r : Result Numbers Fault) (result : ℕ) (source counts middle : Counts) (told mid : Held) → middle.now ≡ counts.now → Lists r source counts middle told mid → TellsFault r result middle mid → result ≡ 7 → Rose counts.before counts.now
 seven_has_cause (Ok s) result source counts middle told mid last h t seven = let d = t.done s refl in absurd (omega (arith, d.0))
 seven_has_cause (Err Report) result source counts middle told mid last h t seven = subst (λ n. Rose counts.before n) (sym (t.failed refl).2 ∙ last) (h.reported refl)
 seven_has_cause (Err Read) result source counts middle told mid last h t seven = moved counts middle (h.untouched Read refl (λ e. absurd cc)).2 last (t.cause Read refl (λ e. absurd cc) seven)
@@ -124,11 +124,11 @@ seven_has_cause (Err (Frame k fault)) result source counts middle told mid last 
 seven_has_cause (Err Write) result source counts middle told mid last h t seven = absurd (h.no_write refl)
 
 -- ---- a report that is sure to take the outcome's lines takes the line of a fault
-abbrev IsSure : Result Summary ToolFault → Command → Option (List ℕ) → Held → Type 0
+abbrev IsSure : Result Numbers Fault → Command → Option (List ℕ) → Held → Type 0
 IsSure r c bytes told =
     r ≡ Err Report → (file : List ℕ) → bytes ≡ Some file → (o : Answer) → OutcomeOf c file o → (n : ℕ) → told.room ≡ Some n → length (report o.lines) ≤ n → ⊥
 
-fault_fits : (c : Command) (fault : ToolFault) (result n : ℕ) (file : List ℕ) (written : Option (List ℕ)) (o : Answer) (source counts middle : Counts) (told mid : Held) → ReadsCoded c → AreBytes file → IsTold fault →
+fault_fits : (c : Command) (fault : Fault) (result n : ℕ) (file : List ℕ) (written : Option (List ℕ)) (o : Answer) (source counts middle : Counts) (told mid : Held) → ReadsCoded c → AreBytes file → IsTold fault →
     OutcomeOf c file o → IsListing c (Err fault) file told.old mid.old → Lists (Err fault) source counts middle told mid → TellsFault (Err fault) result middle mid →
     DidNotRise source.before source.now → told.room ≡ Some n → 7 ≤ n → length (report o.lines) ≤ n → result ≡ 7 → ⊥
 fault_fits c Read result n file written o source counts middle told mid reads bytes h is l s t no_read room least fits seven = no_read (s.read refl)
@@ -143,7 +143,7 @@ fault_fits c (Frame k fault) result n file written o source counts middle told m
 fault_fits c Write result n file written o source counts middle told mid reads bytes h is l s t no_read room least fits seven = absurd h
 fault_fits c Report result n file written o source counts middle told mid reads bytes h is l s t no_read room least fits seven = absurd h
 
-listing_fits : (c : Command) (r : Result Summary ToolFault) (result n : ℕ) (bytes : Option (List ℕ)) (file : List ℕ) (written : Option (List ℕ)) (o : Answer) (source counts middle : Counts) (told mid : Held) → ReadsCoded c → AreBytes file → bytes ≡ Some file →
+listing_fits : (c : Command) (r : Result Numbers Fault) (result n : ℕ) (bytes : Option (List ℕ)) (file : List ℕ) (written : Option (List ℕ)) (o : Answer) (source counts middle : Counts) (told mid : Held) → ReadsCoded c → AreBytes file → bytes ≡ Some file →
     OutcomeOf c file o → IsListing c r file told.old mid.old → Lists r source counts middle told mid → TellsFault r result middle mid → IsSure r c bytes told →
     DidNotRise source.before source.now → told.room ≡ Some n → 7 ≤ n → length (report o.lines) ≤ n → result ≡ 7 → ⊥
 listing_fits c (Ok s) result n bytes file written o source counts middle told mid reads are e is l h t sure no_read room least fits seven = let d = t.done s refl in omega (arith, d.0)
@@ -159,10 +159,10 @@ listing_fits c (Err (Frame k fault)) result n bytes file written o source counts
 listing_fits c (Err Write) result n bytes file written o source counts middle told mid reads are e is l h t sure no_read room least fits seven = h.no_write refl
 
 -- ---- the run
-status_of_two : (r : Result Summary ToolFault) (result : ℕ) → (result ≡ status_of r) ⊎ (result ≡ 7) → result ≡ 2 → r ≡ Err Read
+status_of_two : (r : Result Numbers Fault) (result : ℕ) → (result ≡ status_of r) ⊎ (result ≡ 7) → result ≡ 2 → r ≡ Err Read
 status_of_two r result t two = status_is_read r (status_told (status_of r) result 2 t two (omega arith))
 
-at_most : (r : Result Summary ToolFault) (result : ℕ) → (result ≡ status_of r) ⊎ (result ≡ 7) → result ≤ 7
+at_most : (r : Result Numbers Fault) (result : ℕ) → (result ≡ status_of r) ⊎ (result ≡ 7) → result ≤ 7
 at_most r result (inr e) = omega arith
 at_most (Ok s) result (inl e) = omega arith
 at_most (Err Read) result (inl e) = omega arith
@@ -172,7 +172,7 @@ at_most (Err Report) result (inl e) = omega arith
 at_most (Err (File fault)) result (inl e) = omega arith
 at_most (Err (Frame k fault)) result (inl e) = omega arith
 
-pub run_of_listing : (c : Command) (r : Result Summary ToolFault) (result : ℕ) (bytes : Option (List ℕ)) (source sink counts middle given : Counts) (written told mid : Held) (Same : Type 0) → ReadsCoded c → ((k : ℕ) → c ≡ frame k true → ⊥) →
+pub run_of_listing : (c : Command) (r : Result Numbers Fault) (result : ℕ) (bytes : Option (List ℕ)) (source sink counts middle given : Counts) (written told mid : Held) (Same : Type 0) → ReadsCoded c → ((k : ℕ) → c ≡ frame k true → ⊥) →
     ((file : List ℕ) → bytes ≡ Some file → AreBytes file) → written.old ≡ written.new → Same → mid.new ≡ told.new → middle.now ≡ counts.now →
     ((file : List ℕ) → bytes ≡ Some file → IsListing c r file told.old mid.old) → Lists r source counts middle told mid → TellsFault r result middle mid → IsSure r c bytes told →
     IsRun c result bytes source sink counts given written told Same

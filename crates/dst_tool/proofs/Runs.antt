@@ -14,7 +14,7 @@ use Rattle.dsdiff_spec.specs.Lines.{Line, report, words_line, file_line, frame_f
 use Rattle.dsdiff_spec.specs.Outcome.{Answer, not_understood, file_refused, frame_refused, NoneRefused, run, IsStopped, Does, IsDone, OfCommand, OfWords, Outcome}
 use Rattle.dsdiff_spec.proofs.Stopping.{not_both}
 use Rattle.dsdiff_spec.proofs.OneAnswer.{ReadsCoded}
-use Rattle.dst_tool.specs.Commands.{OutcomeOf}
+use Rattle.dst_commands.specs.Commands.{OutcomeOf}
 use Rattle.dst_tool.specs.Runs.{DidNotRise, EndsAsOne, EndsBy, EndsAs, Ends, Reports, IsRefused, NoFrameIsRefused, Counts, Held, IsRun}
 use Rattle.dst_commands.proofs.Writing.{and_then-nothing}
 
@@ -64,10 +64,10 @@ run_headline words c file result bytes source sink counts given written told Sam
 
 -- a command that is done has status 0
 done_is_0 : (c : Command) (file : List ℕ) (form : Form) (o : Answer) → Does c file form o → o.status ≡ 0
-done_is_0 (decode workers) file form o (out, plain, e) = ap (λ (a : Answer). a.status) e
+done_is_0 decode file form o (out, plain, e) = ap (λ (a : Answer). a.status) e
 done_is_0 (frame k true) file form o (sound, means, e) = ap (λ (a : Answer). a.status) e
 done_is_0 (frame k false) file form o (sound, means, e) = ap (λ (a : Answer). a.status) e
-done_is_0 (check workers) file form o (sounds, all, e) = ap (λ (a : Answer). a.status) e
+done_is_0 check file form o (sounds, all, e) = ap (λ (a : Answer). a.status) e
 done_is_0 show file form o e = ap (λ (a : Answer). a.status) e
 done_is_0 (show_frame k) file form o (line, shows, e) = ap (λ (a : Answer). a.status) e
 done_is_0 index file form o e = ap (λ (a : Answer). a.status) e

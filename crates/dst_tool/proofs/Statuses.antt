@@ -2,12 +2,12 @@
 use Rattle.std.proofs.Common.{◌≡◌, ℕ, ◌<◌, Result, Ok, Err, refl, arith}
 use Rattle.dst_spec.specs.declared.faults.FrameFault.{FrameFault}
 use Rattle.dsdiff_spec.specs.declared.faults.FileFault.{FileFault}
-use Rattle.dst_tool.specs.declared.faults.Summary.{Summary}
-use Rattle.dst_tool.specs.declared.faults.ToolFault.{ToolFault}
-use Rattle.dst_tool.specs.declared.faults.ToolFault.TheVariants.{Read, Write, Memory, Report, File, Frame}
+use Rattle.dst_tool.specs.declared.answers.Numbers.{Numbers}
+use Rattle.dst_tool.specs.declared.answers.Fault.{Fault}
+use Rattle.dst_tool.specs.declared.answers.Fault.TheVariants.{Read, Write, Memory, Report, File, Frame}
 use Rattle.dst_tool.specs.Answers.{status_of}
 
-pub status_is_read : (r : Result Summary ToolFault) → status_of r ≡ 2 → r ≡ Err Read
+pub status_is_read : (r : Result Numbers Fault) → status_of r ≡ 2 → r ≡ Err Read
 status_is_read (Err Read) e = refl
 status_is_read (Ok s) e = absurd (omega arith)
 status_is_read (Err Write) e = absurd (omega arith)
@@ -16,7 +16,7 @@ status_is_read (Err Report) e = absurd (omega arith)
 status_is_read (Err (File fault)) e = absurd (omega arith)
 status_is_read (Err (Frame k fault)) e = absurd (omega arith)
 
-pub status_is_write : (r : Result Summary ToolFault) → status_of r ≡ 3 → r ≡ Err Write
+pub status_is_write : (r : Result Numbers Fault) → status_of r ≡ 3 → r ≡ Err Write
 status_is_write (Err Write) e = refl
 status_is_write (Ok s) e = absurd (omega arith)
 status_is_write (Err Read) e = absurd (omega arith)
@@ -25,7 +25,7 @@ status_is_write (Err Report) e = absurd (omega arith)
 status_is_write (Err (File fault)) e = absurd (omega arith)
 status_is_write (Err (Frame k fault)) e = absurd (omega arith)
 
-pub status_is_memory : (r : Result Summary ToolFault) → status_of r ≡ 4 → r ≡ Err Memory
+pub status_is_memory : (r : Result Numbers Fault) → status_of r ≡ 4 → r ≡ Err Memory
 status_is_memory (Err Memory) e = refl
 status_is_memory (Ok s) e = absurd (omega arith)
 status_is_memory (Err Read) e = absurd (omega arith)
@@ -34,7 +34,7 @@ status_is_memory (Err Report) e = absurd (omega arith)
 status_is_memory (Err (File fault)) e = absurd (omega arith)
 status_is_memory (Err (Frame k fault)) e = absurd (omega arith)
 
-pub status_is_file : (r : Result Summary ToolFault) → status_of r ≡ 5 → (fault : FileFault) × (r ≡ Err (File fault))
+pub status_is_file : (r : Result Numbers Fault) → status_of r ≡ 5 → (fault : FileFault) × (r ≡ Err (File fault))
 status_is_file (Err (File fault)) e = (fault, refl)
 status_is_file (Ok s) e = absurd (omega arith)
 status_is_file (Err Read) e = absurd (omega arith)
@@ -43,7 +43,7 @@ status_is_file (Err Memory) e = absurd (omega arith)
 status_is_file (Err Report) e = absurd (omega arith)
 status_is_file (Err (Frame k fault)) e = absurd (omega arith)
 
-pub status_is_frame : (r : Result Summary ToolFault) → status_of r ≡ 6 → (k : ℕ) × (fault : FrameFault) × (r ≡ Err (Frame k fault))
+pub status_is_frame : (r : Result Numbers Fault) → status_of r ≡ 6 → (k : ℕ) × (fault : FrameFault) × (r ≡ Err (Frame k fault))
 status_is_frame (Err (Frame k fault)) e = (k, fault, refl)
 status_is_frame (Ok s) e = absurd (omega arith)
 status_is_frame (Err Read) e = absurd (omega arith)
@@ -52,7 +52,7 @@ status_is_frame (Err Memory) e = absurd (omega arith)
 status_is_frame (Err Report) e = absurd (omega arith)
 status_is_frame (Err (File fault)) e = absurd (omega arith)
 
-pub status_is_not_words : (r : Result Summary ToolFault) → status_of r ≡ 1 → ⊥
+pub status_is_not_words : (r : Result Numbers Fault) → status_of r ≡ 1 → ⊥
 status_is_not_words (Ok s) e = absurd (omega arith)
 status_is_not_words (Err Read) e = absurd (omega arith)
 status_is_not_words (Err Write) e = absurd (omega arith)
@@ -61,7 +61,7 @@ status_is_not_words (Err Report) e = absurd (omega arith)
 status_is_not_words (Err (File fault)) e = absurd (omega arith)
 status_is_not_words (Err (Frame k fault)) e = absurd (omega arith)
 
-pub status_is_below : (r : Result Summary ToolFault) → (r ≡ Err Report → ⊥) → status_of r < 7
+pub status_is_below : (r : Result Numbers Fault) → (r ≡ Err Report → ⊥) → status_of r < 7
 status_is_below (Err Report) h = absurd (h refl)
 status_is_below (Ok s) h = omega arith
 status_is_below (Err Read) h = omega arith

@@ -2,11 +2,21 @@
 use Rattle.std.specs.Prelude.{ℕ, List, [], ⊤, Result, Ok, Err}
 use Rattle.dsdiff_spec.specs.Words.{Command, encode, decode, cut, frame, check, show, show_frame, index, make, make_run, encode_dsf, decode_dsf, range}
 use Rattle.dsdiff_spec.specs.Lines.{Line, read_fault_line, write_fault_line, memory_line, file_line, frame_fault_line, decoded_line, frame_line, check_line}
-use Rattle.dst_tool.specs.declared.faults.Summary.{Summary}
-use Rattle.dst_tool.specs.declared.faults.ToolFault.{ToolFault}
-use Rattle.dst_tool.specs.declared.faults.ToolFault.TheVariants.{Read, Write, Memory, Report, File, Frame}
+use Rattle.dsdiff_chunks.specs.declared.open.OpenFault.{OpenFault}
+use Rattle.dsdiff_chunks.specs.declared.open.OpenFault.TheVariants as opening
+use Rattle.dst_read.specs.declared.faults.DecodeFault.{DecodeFault}
+use Rattle.dst_read.specs.declared.faults.DecodeFault.TheVariants as decoding
+use Rattle.dst_read.specs.declared.faults.CheckFault.{CheckFault}
+use Rattle.dst_read.specs.declared.faults.CheckFault.TheVariants as checking
+use Rattle.dst_read.specs.declared.faults.ShowFault.{ShowFault}
+use Rattle.dst_read.specs.declared.faults.ShowFault.TheVariants as showing
+use Rattle.dst_read.specs.declared.faults.ListFault.{ListFault}
+use Rattle.dst_read.specs.declared.faults.ListFault.TheVariants as listing
+use Rattle.dst_tool.specs.declared.answers.Numbers.{Numbers}
+use Rattle.dst_tool.specs.declared.answers.Fault.{Fault}
+use Rattle.dst_tool.specs.declared.answers.Fault.TheVariants.{Read, Write, Memory, Report, File, Frame}
 
-abbrev pub status_of : Result Summary ToolFault → ℕ
+abbrev pub status_of : Result Numbers Fault → ℕ
 status_of (Ok s) = 0
 status_of (Err Read) = 2
 status_of (Err Write) = 3
@@ -16,20 +26,20 @@ status_of (Err (Frame k fault)) = 6
 status_of (Err Report) = 7
 
 -- the one line of a command that is done; those that report more lines than one write them themselves
-abbrev pub done_line : Command → Summary → Line
-done_line (decode workers) s = decoded_line s.frames s.bytes
+abbrev pub done_line : Command → Numbers → Line
+done_line decode s = decoded_line s.frames s.bytes
 done_line (frame k by_index) s = frame_line k s.bytes
-done_line (check workers) s = check_line s.frames s.unread
+done_line check s = check_line s.frames s.unread
 done_line c s = []
 
 abbrev pub TellsOneLine : Command → Type 0
-TellsOneLine (decode workers) = ⊤
+TellsOneLine decode = ⊤
 TellsOneLine (frame k by_index) = ⊤
-TellsOneLine (check workers) = ⊤
+TellsOneLine check = ⊤
 TellsOneLine c = ⊥
 
 -- a failed report has no line
-abbrev pub fault_line : ToolFault → Line
+abbrev pub fault_line : Fault → Line
 fault_line Read = read_fault_line
 fault_line Write = write_fault_line
 fault_line Memory = memory_line
@@ -37,6 +47,34 @@ fault_line (File fault) = file_line fault
 fault_line (Frame k fault) = frame_fault_line k fault
 fault_line Report = []
 
-abbrev pub line_of : Command → Result Summary ToolFault → Line
+abbrev pub line_of : Command → Result Numbers Fault → Line
 line_of c (Ok s) = done_line c s
 line_of c (Err fault) = fault_line fault
+
+-- ---- what each command answers, in these words
+abbrev pub answered : {A E : Type 0} → (A → Numbers) → (E → Fault) → Result A E → Result Numbers Fault
+answered f g (Ok a) = Ok (f a)
+answered f g (Err e) = Err (g e)
+
+abbrev pub of_source : OpenFault → Fault
+of_source opening.Read = Read
+of_source opening.Memory = Memory
+of_source (opening.File fault) = File fault
+
+abbrev pub of_decode : DecodeFault → Fault
+of_decode (decoding.Source fault) = of_source fault
+of_decode decoding.Write = Write
+of_decode (decoding.Frame k fault) = Frame k fault
+
+abbrev pub of_check : CheckFault → Fault
+of_check (checking.Source fault) = of_source fault
+of_check (checking.Frame k fault) = Frame k fault
+
+abbrev pub of_show : ShowFault → Fault
+of_show (showing.Source fault) = of_source fault
+of_show showing.Report = Report
+of_show (showing.Frame k fault) = Frame k fault
+
+abbrev pub of_list : ListFault → Fault
+of_list (listing.Source fault) = of_source fault
+of_list listing.Report = Report

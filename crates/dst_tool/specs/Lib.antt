@@ -1,16 +1,2 @@
-pub mod Commands
-pub mod Runs
-pub mod Writing
-pub mod Jobs
-pub mod Feeding
-pub mod Draining
-pub mod Frames
-pub mod Decoding
-pub mod Checking
-pub mod Opening
-pub mod Passing
 pub mod Answers
-pub mod Devices
-pub mod Accepted
-pub mod Reporting
-pub mod OneFrame
+pub mod Runs

@@ -10,7 +10,7 @@ use Rattle.dsdiff_spec.specs.Refusal.{refusal}
 use Rattle.dsdiff_spec.specs.Rules.{accepted}
 use Rattle.dsdiff_spec.specs.Outcome.{Answer, Outcome, NoneRefused, run}
 use Rattle.dsdiff_spec.specs.declared.faults.FileFault.{FileFault}
-use Rattle.dst_tool.specs.Commands.{OutcomeOf}
+use Rattle.dst_commands.specs.Commands.{OutcomeOf}
 
 -- a count of faults didn't rise: the device didn't fail
 abbrev pub DidNotRise : ℕ → ℕ → Type 0
@@ -58,7 +58,7 @@ NoFrameIsRefused words file =
 -- ---- commands
 -- one that makes no call on the sink
 abbrev pub WritesNowhere : Command → Type 0
-WritesNowhere (check workers) = ⊤
+WritesNowhere check = ⊤
 WritesNowhere show = ⊤
 WritesNowhere (show_frame k) = ⊤
 WritesNowhere index = ⊤

@@ -3,16 +3,12 @@ ghost use Rattle.std.specs.Prelude.{◌≡◌, ◌≢◌, ◌⊎◌, ◌<◌, �
 ghost use Rattle.dst_streams.specs.Causes.{Rose};
 ghost use Rattle.dst_streams.specs.Told.{IsCutShort, and_then};
 ghost use Rattle.dsdiff_spec.specs.Lines as reports;
-ghost use Rattle.dst_words.specs.Commands.{command_seen, HasFewWorkers};
+ghost use Rattle.dst_words.specs.Commands.{command_seen};
 ghost use Rattle.dst_tool.specs.Answers.{status_of, done_line, fault_line, line_of, TellsOneLine};
 ghost use Rattle.dst_tool.specs.Runs.{IsRun, Counts, Held};
 
-use crate::check::check_file;
-use crate::decode::decode_file;
-use crate::faults::{Summary, ToolFault};
-use crate::listing::index_file;
-use crate::one_frame::frame_out;
-use crate::show::show_file;
+use crate::answers::{Fault, Numbers, checked, decoded, frame_written, listed, shown};
+use dst_read::{check_file, decode_file, frame_out, index_file, show_file};
 use dst_streams::{Sink, Source};
 use dst_words::{Command, lines};
 use frame_crew::OpenGate;
@@ -24,11 +20,13 @@ pub(crate) fn run_command<E: Threads + Sync, S: Source, K: Sink, R: Sink>(
     rt: &E,
     alloc: Global,
     command: Command,
+    workers: u32,
     source: &mut S,
     sink: &mut K,
     report: &mut R,
 ) -> u8
-    requires { HasFewWorkers command }
+    requires least { 1 ≤ workers }
+    requires most { workers ≤ 16 }
     ensures { IsRun (command_seen command) result (S.bytes source.old)
         (record { before = S.faults source.old; now = S.faults source.new }) (record { before = K.faults sink.old; now = K.faults sink.new })
         (record { before = R.faults report.old; now = R.faults report.new }) (record { before = S.given source.old; now = S.given source.new })
@@ -37,36 +35,36 @@ pub(crate) fn run_command<E: Threads + Sync, S: Source, K: Sink, R: Sink>(
         (sink.new ≡ sink.old) }
 {
     match command {
-        Command::Decode { workers } => {
+        Command::Decode => {
             let answer = decode_file(rt, alloc, source, sink, workers, &OpenGate);
-            tell(report, command, answer)
+            tell(report, command, decoded(answer))
         }
         Command::Frame { frame, by_index } => {
             let answer = frame_out(alloc, source, sink, frame, by_index);
-            tell(report, command, answer)
+            tell(report, command, frame_written(answer))
         }
-        Command::Check { workers } => {
+        Command::Check => {
             let answer = check_file(rt, alloc, source, workers, &OpenGate);
-            tell(report, command, answer)
+            tell(report, command, checked(answer))
         }
         Command::Show => {
             let answer = show_file(alloc, source, report, None);
-            tell_fault(report, answer)
+            tell_fault(report, shown(answer))
         }
         Command::ShowFrame { frame } => {
             let answer = show_file(alloc, source, report, Some(frame));
-            tell_fault(report, answer)
+            tell_fault(report, shown(answer))
         }
         Command::Index => {
             let answer = index_file(alloc, source, report);
-            tell_fault(report, answer)
+            tell_fault(report, listed(answer))
         }
     }
 }
 
 // Reports the line of what a command answered that reports one line.
-fn tell<R: Sink>(report: &mut R, command: Command, answer: Result<Summary, ToolFault>) -> u8
-    requires no_report { answer ≡ Err ToolFault.Report → ⊥ }
+fn tell<R: Sink>(report: &mut R, command: Command, answer: Result<Numbers, Fault>) -> u8
+    requires no_report { answer ≡ Err Fault.Report → ⊥ }
     requires one_line { TellsOneLine (command_seen command) }
     ensures reported { (result ≡ status_of answer) ⊎ (result ≡ 7) }
     ensures whole { result ≡ status_of answer → R.written report.new ≡ and_then (R.written report.old) (reports.report (line_of (command_seen command) answer ∷ [])) }
@@ -84,21 +82,21 @@ fn tell<R: Sink>(report: &mut R, command: Command, answer: Result<Summary, ToolF
 }
 
 // Reports the fault of a command that reports its lines itself: nothing where these are reported, or where the report failed.
-fn tell_fault<R: Sink>(report: &mut R, answer: Result<Summary, ToolFault>) -> u8
+fn tell_fault<R: Sink>(report: &mut R, answer: Result<Numbers, Fault>) -> u8
     ensures reported { (result ≡ status_of answer) ⊎ (result ≡ 7) }
-    ensures done { (s : Summary) → answer ≡ Ok s → (result ≡ 0) × (report.new ≡ report.old) }
-    ensures failed { answer ≡ Err ToolFault.Report → (result ≡ 7) × (report.new ≡ report.old) }
-    ensures whole { (fault : ToolFault) → answer ≡ Err fault → (fault ≢ ToolFault.Report) → result ≡ status_of answer
+    ensures done { (s : Numbers) → answer ≡ Ok s → (result ≡ 0) × (report.new ≡ report.old) }
+    ensures failed { answer ≡ Err Fault.Report → (result ≡ 7) × (report.new ≡ report.old) }
+    ensures whole { (fault : Fault) → answer ≡ Err fault → (fault ≢ Fault.Report) → result ≡ status_of answer
         → R.written report.new ≡ and_then (R.written report.old) (reports.report (fault_line fault ∷ [])) }
-    ensures cut_short { (fault : ToolFault) → answer ≡ Err fault → (fault ≢ ToolFault.Report) → result ≡ 7
+    ensures cut_short { (fault : Fault) → answer ≡ Err fault → (fault ≢ Fault.Report) → result ≡ 7
         → IsCutShort (R.written report.old) (reports.report (fault_line fault ∷ [])) (R.written report.new) }
-    ensures cause { (fault : ToolFault) → answer ≡ Err fault → (fault ≢ ToolFault.Report) → result ≡ 7 → Rose (R.faults report.old) (R.faults report.new) }
-    ensures sure { (fault : ToolFault) → answer ≡ Err fault → (fault ≢ ToolFault.Report) → result ≡ 7
+    ensures cause { (fault : Fault) → answer ≡ Err fault → (fault ≢ Fault.Report) → result ≡ 7 → Rose (R.faults report.old) (R.faults report.new) }
+    ensures sure { (fault : Fault) → answer ≡ Err fault → (fault ≢ Fault.Report) → result ≡ 7
         → (room : ℕ) → R.room report.old ≡ Some room → length (reports.report (fault_line fault ∷ [])) ≤ room → ⊥ }
 {
     match answer {
         Ok(_) => 0,
-        Err(ToolFault::Report) => 7,
+        Err(Fault::Report) => 7,
         Err(fault) => {
             let (status, line) = told(fault);
             report_line(report, status, line)
@@ -107,32 +105,32 @@ fn tell_fault<R: Sink>(report: &mut R, answer: Result<Summary, ToolFault>) -> u8
 }
 
 // The line of a command that is done.
-fn done_line(command: Command, done: Summary) -> lines::Line
+fn done_line(command: Command, done: Numbers) -> lines::Line
     requires { TellsOneLine (command_seen command) }
     ensures { result.bytes ≡ reports.report (done_line (command_seen command) done ∷ []) }
 {
     match command {
-        Command::Decode { .. } => lines::decoded(done.frames, done.bytes),
+        Command::Decode => lines::decoded(done.frames, done.bytes),
         Command::Frame { frame, .. } => lines::frame_written(frame, done.bytes),
-        Command::Check { .. } => lines::checked(done.frames, done.unread),
+        Command::Check => lines::checked(done.frames, done.unread),
         _ => unreachable!(),
     }
 }
 
 // The status and the line of a fault.
-fn told(fault: ToolFault) -> (u8, lines::Line)
-    requires { fault ≡ ToolFault.Report → ⊥ }
+fn told(fault: Fault) -> (u8, lines::Line)
+    requires { fault ≡ Fault.Report → ⊥ }
     ensures status { result.0 ≡ status_of (Err fault) }
     ensures below { result.0 < 7 }
     ensures line { result.1.bytes ≡ reports.report (fault_line fault ∷ []) }
 {
     match fault {
-        ToolFault::Read => (2, lines::read_fault()),
-        ToolFault::Write => (3, lines::write_fault()),
-        ToolFault::Memory => (4, lines::memory()),
-        ToolFault::File(fault) => (5, lines::file_refused(fault)),
-        ToolFault::Frame { frame, fault } => (6, lines::frame_refused(frame, fault)),
-        ToolFault::Report => unreachable!(),
+        Fault::Read => (2, lines::read_fault()),
+        Fault::Write => (3, lines::write_fault()),
+        Fault::Memory => (4, lines::memory()),
+        Fault::File(fault) => (5, lines::file_refused(fault)),
+        Fault::Frame { frame, fault } => (6, lines::frame_refused(frame, fault)),
+        Fault::Report => unreachable!(),
     }
 }
 

@@ -15,36 +15,16 @@
 //! means, behind a failed device a prefix of it, behind refused words, a refused file or want of memory nothing.
 #![tactic(auto)]
 
-mod accepting;
-mod around;
-mod check;
-mod chunks;
+mod answers;
 mod command;
-mod decode;
-mod drain;
-mod faults;
-mod feed;
-mod frames;
-mod jobs;
-mod listing;
-mod one_frame;
-mod opening;
-mod pieces;
 mod run;
-mod show;
-mod sizes;
-mod summary;
-mod tails;
-mod work;
 
-pub use check::check_file;
-pub use decode::decode_file;
-pub use dst_words::{Command, read_words};
-pub use faults::{Summary, ToolFault};
-pub use listing::index_file;
-pub use one_frame::frame_out;
+pub use dst_read::{
+    CheckFault, Checked, DecodeFault, Decoded, FrameWritten, ListFault, Reported, ShowFault,
+    check_file, decode_file, frame_out, index_file, show_file,
+};
+pub use dst_words::{Command, Task, read_words};
 pub use run::dst_run;
-pub use show::show_file;
 
 #[cfg(test)]
 mod tests;

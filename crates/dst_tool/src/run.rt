@@ -15,7 +15,7 @@ ghost use Rattle.dst_tool.specs.Runs.{DidNotRise, Ends, EndsAs, Reports, IsRefus
 
 use crate::command::{report_line, run_command};
 use dst_streams::{Sink, Source};
-use dst_words::{lines, read_words};
+use dst_words::{Task, lines, read_words};
 use std::alloc::Global;
 use std::thread::Threads;
 
@@ -82,6 +82,8 @@ pub fn dst_run<E: Threads + Sync, S: Source, K: Sink, R: Sink>(
 {
     match read_words(words) {
         None => report_line(report, 1, lines::words_not_understood()),
-        Some(command) => run_command(rt, alloc, command, source, sink, report),
+        Some(Task { command, workers }) => {
+            run_command(rt, alloc, command, workers, source, sink, report)
+        }
     }
 }

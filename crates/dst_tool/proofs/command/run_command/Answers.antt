@@ -7,10 +7,10 @@ use Rattle.dsdiff_spec.specs.Lines.{Line, report, check_line}
 use Rattle.dsdiff_spec.proofs.Stopping.{One}
 use Rattle.dsdiff_spec.proofs.OneAnswer.{command_has_one_outcome}
 use Rattle.dst_words.specs.Commands.{command_seen}
-use Rattle.dst_tool.specs.declared.faults.Summary.{Summary}
-use Rattle.dst_tool.specs.declared.faults.ToolFault.{ToolFault}
-use Rattle.dst_tool.specs.declared.faults.ToolFault.TheVariants.{Read, Write, Memory, Report, File, Frame}
-use Rattle.dst_tool.specs.Commands.{OutcomeOf, shown}
+use Rattle.dst_read.specs.declared.faults.Summary.{Summary}
+use Rattle.dst_read.specs.declared.faults.ToolFault.{ToolFault}
+use Rattle.dst_read.specs.declared.faults.ToolFault.TheVariants.{Read, Write, Memory, Report, File, Frame}
+use Rattle.dst_commands.specs.Commands.{OutcomeOf, shown}
 use Rattle.dst_tool.proofs.OneLine.{few_given, most_for_any, IsAnswer, TellsLine, HasCauses, run_of_answer, at_file, same_run, nothing_added, nothing_cut, finished_alone, cut_or_nothing, decoding_is_no_frame, checking_is_no_frame, showing_is_no_frame, showing_one_is_no_frame, listing_is_no_frame}
 use Rattle.dst_tool.proofs.OwnLines.{IsListing, Lists, TellsFault, run_of_listing}
 use Rattle.dst_tool.proofs.command.run_command.Goals as goal

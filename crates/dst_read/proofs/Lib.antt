@@ -1,0 +1,16 @@
+pub mod Bytes
+pub mod Checks
+pub mod ReportedLines
+pub mod Ending
+pub mod Feeding
+pub mod FrameSounds
+pub mod Framing
+pub mod InTurn
+pub mod Running
+pub mod Shapes
+pub mod ShownFiles
+pub mod Stopping
+pub mod Summing
+pub mod Underway
+pub mod Viewed
+pub mod Working

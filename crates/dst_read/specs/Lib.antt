@@ -1,0 +1,8 @@
+pub mod Jobs
+pub mod Feeding
+pub mod Draining
+pub mod Decoding
+pub mod Frames
+pub mod Checking
+pub mod OneFrame
+pub mod Reporting

@@ -1,0 +1,69 @@
+// What commands that read a file answer.
+use dsdiff_chunks::OpenFault;
+use dst_spec::FrameFault;
+
+/// A file was decoded: how many frames it has, and the bytes of its sound.
+#[derive(Clone, Copy, Debug, PartialEq, Eq)]
+pub struct Decoded {
+    pub frames: u32,
+    pub bytes: u64,
+}
+
+/// A file is sound: how many frames it has, and how many bytes of them decoding doesn't read.
+#[derive(Clone, Copy, Debug, PartialEq, Eq)]
+pub struct Checked {
+    pub frames: u32,
+    pub unread: u64,
+}
+
+/// The sound of one frame was written: its bytes.
+#[derive(Clone, Copy, Debug, PartialEq, Eq)]
+pub struct FrameWritten {
+    pub bytes: u64,
+}
+
+/// The lines of a file were reported: how many frames it has.
+#[derive(Clone, Copy, Debug, PartialEq, Eq)]
+pub struct Reported {
+    pub frames: u32,
+}
+
+/// Why sound wasn't written.
+#[derive(Clone, Copy, Debug, Drop, PartialEq, Eq)]
+pub enum DecodeFault {
+    /// The source failed, memory was refused, or the file breaks a rule of the command.
+    Source(OpenFault),
+    /// The sink failed.
+    Write,
+    /// A frame offends.
+    Frame { frame: u32, fault: FrameFault },
+}
+
+/// Why a file isn't sound.
+#[derive(Clone, Copy, Debug, Drop, PartialEq, Eq)]
+pub enum CheckFault {
+    /// The source failed, memory was refused, or the file breaks a rule.
+    Source(OpenFault),
+    /// A frame offends.
+    Frame { frame: u32, fault: FrameFault },
+}
+
+/// Why a file or a frame wasn't shown.
+#[derive(Clone, Copy, Debug, Drop, PartialEq, Eq)]
+pub enum ShowFault {
+    /// The source failed, memory was refused, or the file breaks a rule of the command.
+    Source(OpenFault),
+    /// The report failed.
+    Report,
+    /// A frame offends.
+    Frame { frame: u32, fault: FrameFault },
+}
+
+/// Why the frames of a file weren't listed.
+#[derive(Clone, Copy, Debug, Drop, PartialEq, Eq)]
+pub enum ListFault {
+    /// The source failed, memory was refused, or the file breaks a rule of the command.
+    Source(OpenFault),
+    /// The report failed.
+    Report,
+}

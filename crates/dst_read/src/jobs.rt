@@ -1,0 +1,103 @@
+// The memory that frames are worked in.
+ghost use Rattle.std.specs.Prelude.{◌≡◌, ◌<◌, ◌≤◌, IfOk};
+ghost use Rattle.dst_spec.specs.Sample.{IsShape};
+ghost use Rattle.dst_read.specs.Jobs.{shape_of_job, shape_of_tables, shape_number, AreJobsFor, AreTablesFor};
+
+use dst_frames::Scratch;
+use dst_num::{Channels, FrameFault};
+use frame_crew::Slot;
+use std::alloc::{AllocError, Global};
+
+/// A frame that is worked: its number, its stored bytes at the front of `frame`, the sound that it means, and what decoding
+/// it answered: the bytes that aren't read, or why the frame is refused.
+#[derive(Drop)]
+pub(crate) struct Job {
+    pub(crate) number: u32,
+    /// Bytes of the stored frame.
+    pub(crate) size: u32,
+    pub(crate) channels: Channels,
+    pub(crate) frame: Vec<u8>,
+    pub(crate) sound: Vec<u8>,
+    pub(crate) answer: Result<u32, FrameFault>,
+}
+
+impl Slot for Job {
+    ghost shape = { shape_of_job };
+}
+
+/// What one worker decodes with.
+#[derive(Drop)]
+pub(crate) struct Tables {
+    pub(crate) scratch: Scratch,
+}
+
+impl Slot for Tables {
+    ghost shape = { shape_of_tables };
+}
+
+/// Most jobs for each worker at 64 times 44.1 kHz: they are fewer where frames are longer.
+const MOST_JOBS: u32 = 16;
+
+impl Job {
+    /// Room for the longest frame of these channels, and for its sound.
+    fn new(alloc: Global, channels: Channels) -> Result<Job, AllocError>
+        ensures lawful { IfOk result (λ _. IsShape channels) }
+        ensures shape { IfOk result (λ j. shape_of_job j ≡ shape_number channels) }
+    {
+        let size = channels.sound_bytes();
+        Ok(Job {
+            number: 0,
+            size: 0,
+            channels,
+            frame: vec![in alloc; 0; 2 * (size + 1)]?,
+            sound: vec![in alloc; 0; size]?,
+            answer: Ok(0),
+        })
+    }
+}
+
+impl Tables {
+    /// Room for the tables of these channels.
+    fn new(alloc: Global, channels: Channels) -> Result<Tables, AllocError>
+        ensures shape { IfOk result (λ t. shape_of_tables t ≡ shape_number channels) }
+    {
+        Ok(Tables {
+            scratch: Scratch::new(alloc, channels)?,
+        })
+    }
+}
+
+/// The jobs of so many workers, no more than there are frames.
+pub(crate) fn jobs_for(
+    alloc: Global,
+    channels: Channels,
+    frames: u32,
+    workers: u32,
+) -> Result<Vec<Job>, AllocError>
+    ensures { IfOk result (λ jobs. AreJobsFor channels jobs.items) }
+{
+    let each = MOST_JOBS / channels.multiple() as u32;
+    let count = frames.min(each.saturating_mul(workers)).max(1);
+    let mut jobs = Vec::with_capacity(alloc, count as usize)?;
+    for _ in 0..count {
+        jobs.push(Job::new(alloc, channels)?)?;
+    }
+    Ok(jobs)
+}
+
+/// What so many workers decode with.
+pub(crate) fn tables_for(
+    alloc: Global,
+    channels: Channels,
+    workers: u32,
+) -> Result<Vec<Tables>, AllocError>
+    requires least { 0 < workers }
+    requires most { workers ≤ 16 }
+    ensures { IfOk result (λ tables. AreTablesFor channels tables.items) }
+{
+    let mut tables = Vec::with_capacity(alloc, workers as usize)?;
+    for _ in 0..workers {
+        tables.push(Tables::new(alloc, channels)?)?;
+    }
+    Ok(tables)
+}

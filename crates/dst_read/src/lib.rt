@@ -1,0 +1,38 @@
+//! The commands that read a file: each of them alone, over a source and a sink or a report.
+//!
+//! [`decode_file`] writes the plain file of a coded one, [`check_file`] has every frame decoded and writes nothing,
+//! [`frame_out`] writes the sound of one frame, [`show_file`] and [`index_file`] report lines. Each answers what it did, or
+//! the first fault, of a type that has the faults that it can give and no others.
+//!
+//! ```text
+//! match decode_file(&rt, alloc, &mut source, &mut sink, 4, &OpenGate) {
+//!     Ok(Decoded { frames, bytes }) => ..
+//!     Err(DecodeFault::Source(fault)) => .. // read fault, want of memory, or the file is refused
+//!     Err(DecodeFault::Write) => ..
+//!     Err(DecodeFault::Frame { frame, fault }) => .. // the first frame that is refused
+//! }
+//! ```
+#![tactic(auto)]
+
+mod check;
+mod decode;
+mod drain;
+mod faults;
+mod feed;
+mod frames;
+mod jobs;
+mod listing;
+mod one_frame;
+mod show;
+mod summary;
+mod tails;
+mod work;
+
+pub use check::check_file;
+pub use decode::decode_file;
+pub use faults::{
+    CheckFault, Checked, DecodeFault, Decoded, FrameWritten, ListFault, Reported, ShowFault,
+};
+pub use listing::index_file;
+pub use one_frame::frame_out;
+pub use show::show_file;

@@ -1,0 +1,128 @@
+-- The answer of a command is told from its faults in the words of the report.
+use Rattle.std.proofs.Common.{◌≡◌, ℕ, Result, Ok, Err, IfOk, refl, ap, sym, ◌∙◌}
+use Rattle.dst_spec.specs.declared.faults.FrameFault.{FrameFault}
+use Rattle.dsdiff_chunks.specs.declared.open.OpenFault.TheVariants as opening
+use Rattle.dst_read.specs.declared.faults.DecodeFault.{DecodeFault}
+use Rattle.dst_read.specs.declared.faults.DecodeFault.TheVariants as decoding
+use Rattle.dst_read.specs.declared.faults.CheckFault.{CheckFault}
+use Rattle.dst_read.specs.declared.faults.CheckFault.TheVariants as checking
+use Rattle.dst_read.specs.declared.faults.ShowFault.{ShowFault}
+use Rattle.dst_read.specs.declared.faults.ShowFault.TheVariants as showing
+use Rattle.dst_read.specs.declared.faults.ListFault.{ListFault}
+use Rattle.dst_read.specs.declared.faults.ListFault.TheVariants as listing
+use Rattle.dst_tool.specs.declared.answers.Numbers.{Numbers}
+use Rattle.dst_tool.specs.declared.answers.Fault.{Fault}
+use Rattle.dst_tool.specs.declared.answers.Fault.TheVariants.{Read, Write, Memory, Report, File, Frame}
+use Rattle.dst_tool.specs.Answers.{answered, of_check, of_decode, of_list, of_show}
+
+-- what is done is so in these words too
+pub if_answered : {A E : Type 0} (f : A → Numbers) (h : E → Fault) (r : Result A E) (P : Numbers → Type 0) → IfOk r (λ a. P (f a)) → IfOk (answered f h r) P
+if_answered f h (Ok a) P is = is
+if_answered f h (Err e) P is = tt {0}
+
+-- a fault is the one that it came from
+same_fault : (a b : Fault) → ◌≡◌ {A = Result Numbers Fault} (Err a) (Err b) → a ≡ b
+same_fault a b e = cc
+
+pub back_from : {A E : Type 0} (f : A → Numbers) (h : E → Fault) (back : Fault → E) → ((e : E) → back (h e) ≡ e) → (r : Result A E) (fault : Fault) → answered f h r ≡ Err fault → r ≡ Err (back fault)
+back_from f h back is (Ok a) fault e = absurd cc
+back_from f h back is (Err x) fault e = ap Err (sym (is x) ∙ ap back (same_fault (h x) fault e))
+
+abbrev pub to_decode : Fault → DecodeFault
+to_decode Read = decoding.Source opening.Read
+to_decode Memory = decoding.Source opening.Memory
+to_decode (File fault) = decoding.Source (opening.File fault)
+to_decode Write = decoding.Write
+to_decode (Frame k fault) = decoding.Frame k fault
+to_decode Report = decoding.Write
+
+pub decode_again : (e : DecodeFault) → to_decode (of_decode e) ≡ e
+decode_again (decoding.Source opening.Read) = refl
+decode_again (decoding.Source opening.Memory) = refl
+decode_again (decoding.Source (opening.File fault)) = refl
+decode_again decoding.Write = refl
+decode_again (decoding.Frame k fault) = refl
+
+pub decode_reports : {A : Type 0} (f : A → Numbers) (r : Result A DecodeFault) → answered f of_decode r ≡ Err Report → ⊥
+decode_reports f (Ok a) e = absurd cc
+decode_reports f (Err (decoding.Source opening.Read)) e = absurd cc
+decode_reports f (Err (decoding.Source opening.Memory)) e = absurd cc
+decode_reports f (Err (decoding.Source (opening.File fault))) e = absurd cc
+decode_reports f (Err decoding.Write) e = absurd cc
+decode_reports f (Err (decoding.Frame k fault)) e = absurd cc
+
+abbrev pub to_check : Fault → CheckFault
+to_check Read = checking.Source opening.Read
+to_check Memory = checking.Source opening.Memory
+to_check (File fault) = checking.Source (opening.File fault)
+to_check (Frame k fault) = checking.Frame k fault
+to_check fault = checking.Source opening.Read
+
+pub check_again : (e : CheckFault) → to_check (of_check e) ≡ e
+check_again (checking.Source opening.Read) = refl
+check_again (checking.Source opening.Memory) = refl
+check_again (checking.Source (opening.File fault)) = refl
+check_again (checking.Frame k fault) = refl
+
+pub check_reports : {A : Type 0} (f : A → Numbers) (r : Result A CheckFault) → answered f of_check r ≡ Err Report → ⊥
+check_reports f (Ok a) e = absurd cc
+check_reports f (Err (checking.Source opening.Read)) e = absurd cc
+check_reports f (Err (checking.Source opening.Memory)) e = absurd cc
+check_reports f (Err (checking.Source (opening.File fault))) e = absurd cc
+check_reports f (Err (checking.Frame k fault)) e = absurd cc
+
+pub check_writes : {A : Type 0} (f : A → Numbers) (r : Result A CheckFault) → answered f of_check r ≡ Err Write → ⊥
+check_writes f (Ok a) e = absurd cc
+check_writes f (Err (checking.Source opening.Read)) e = absurd cc
+check_writes f (Err (checking.Source opening.Memory)) e = absurd cc
+check_writes f (Err (checking.Source (opening.File fault))) e = absurd cc
+check_writes f (Err (checking.Frame k fault)) e = absurd cc
+
+abbrev pub to_show : Fault → ShowFault
+to_show Read = showing.Source opening.Read
+to_show Memory = showing.Source opening.Memory
+to_show (File fault) = showing.Source (opening.File fault)
+to_show Report = showing.Report
+to_show (Frame k fault) = showing.Frame k fault
+to_show Write = showing.Report
+
+pub show_again : (e : ShowFault) → to_show (of_show e) ≡ e
+show_again (showing.Source opening.Read) = refl
+show_again (showing.Source opening.Memory) = refl
+show_again (showing.Source (opening.File fault)) = refl
+show_again showing.Report = refl
+show_again (showing.Frame k fault) = refl
+
+pub show_writes : {A : Type 0} (f : A → Numbers) (r : Result A ShowFault) → answered f of_show r ≡ Err Write → ⊥
+show_writes f (Ok a) e = absurd cc
+show_writes f (Err (showing.Source opening.Read)) e = absurd cc
+show_writes f (Err (showing.Source opening.Memory)) e = absurd cc
+show_writes f (Err (showing.Source (opening.File fault))) e = absurd cc
+show_writes f (Err showing.Report) e = absurd cc
+show_writes f (Err (showing.Frame k fault)) e = absurd cc
+
+abbrev pub to_list : Fault → ListFault
+to_list Read = listing.Source opening.Read
+to_list Memory = listing.Source opening.Memory
+to_list (File fault) = listing.Source (opening.File fault)
+to_list fault = listing.Report
+
+pub list_again : (e : ListFault) → to_list (of_list e) ≡ e
+list_again (listing.Source opening.Read) = refl
+list_again (listing.Source opening.Memory) = refl
+list_again (listing.Source (opening.File fault)) = refl
+list_again listing.Report = refl
+
+pub list_writes : {A : Type 0} (f : A → Numbers) (r : Result A ListFault) → answered f of_list r ≡ Err Write → ⊥
+list_writes f (Ok a) e = absurd cc
+list_writes f (Err (listing.Source opening.Read)) e = absurd cc
+list_writes f (Err (listing.Source opening.Memory)) e = absurd cc
+list_writes f (Err (listing.Source (opening.File fault))) e = absurd cc
+list_writes f (Err listing.Report) e = absurd cc
+
+pub list_refuses : {A : Type 0} (f : A → Numbers) (r : Result A ListFault) (k : ℕ) (fault : FrameFault) → answered f of_list r ≡ Err (Frame k fault) → ⊥
+list_refuses f (Ok a) k fault e = absurd cc
+list_refuses f (Err (listing.Source opening.Read)) k fault e = absurd cc
+list_refuses f (Err (listing.Source opening.Memory)) k fault e = absurd cc
+list_refuses f (Err (listing.Source (opening.File other))) k fault e = absurd cc
+list_refuses f (Err listing.Report) k fault e = absurd cc

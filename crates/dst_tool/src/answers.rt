@@ -1,0 +1,122 @@
+// What commands answer, as far as the line of a report says it.
+ghost use Rattle.std.specs.Prelude.{◌≡◌};
+ghost use Rattle.dst_tool.specs.Answers.{answered, of_check, of_decode, of_list, of_show, of_source};
+
+use dsdiff_chunks::{FileFault, OpenFault};
+use dst_num::FrameFault;
+use dst_read::{
+    CheckFault, Checked, DecodeFault, Decoded, FrameWritten, ListFault, Reported, ShowFault,
+};
+
+/// The numbers that the line of a command has which is done.
+#[derive(Clone, Copy)]
+pub(crate) struct Numbers {
+    pub(crate) frames: u32,
+    pub(crate) bytes: u64,
+    pub(crate) unread: u64,
+}
+
+/// Why a command wasn't done.
+#[derive(Clone, Copy, Drop)]
+pub(crate) enum Fault {
+    Read,
+    Write,
+    Memory,
+    Report,
+    File(FileFault),
+    Frame { frame: u32, fault: FrameFault },
+}
+
+fn of_source(fault: OpenFault) -> Fault
+    ensures { result ≡ of_source fault }
+{
+    match fault {
+        OpenFault::Read => Fault::Read,
+        OpenFault::Memory => Fault::Memory,
+        OpenFault::File(fault) => Fault::File(fault),
+    }
+}
+
+fn of_decode(fault: DecodeFault) -> Fault
+    ensures { result ≡ of_decode fault }
+{
+    match fault {
+        DecodeFault::Source(fault) => of_source(fault),
+        DecodeFault::Write => Fault::Write,
+        DecodeFault::Frame { frame, fault } => Fault::Frame { frame, fault },
+    }
+}
+
+/// The answer of `decode`.
+pub(crate) fn decoded(answer: Result<Decoded, DecodeFault>) -> Result<Numbers, Fault>
+    ensures { result ≡ answered (λ d. record { frames = d.frames; bytes = d.bytes; unread = 0 }) of_decode answer }
+{
+    match answer {
+        Ok(Decoded { frames, bytes }) => Ok(Numbers {
+            frames,
+            bytes,
+            unread: 0,
+        }),
+        Err(fault) => Err(of_decode(fault)),
+    }
+}
+
+/// The answer of `frame`.
+pub(crate) fn frame_written(answer: Result<FrameWritten, DecodeFault>) -> Result<Numbers, Fault>
+    ensures { result ≡ answered (λ f. record { frames = 1; bytes = f.bytes; unread = 0 }) of_decode answer }
+{
+    match answer {
+        Ok(FrameWritten { bytes }) => Ok(Numbers {
+            frames: 1,
+            bytes,
+            unread: 0,
+        }),
+        Err(fault) => Err(of_decode(fault)),
+    }
+}
+
+/// The answer of `check`.
+pub(crate) fn checked(answer: Result<Checked, CheckFault>) -> Result<Numbers, Fault>
+    ensures { result ≡ answered (λ d. record { frames = d.frames; bytes = 0; unread = d.unread }) of_check answer }
+{
+    match answer {
+        Ok(Checked { frames, unread }) => Ok(Numbers {
+            frames,
+            bytes: 0,
+            unread,
+        }),
+        Err(CheckFault::Source(fault)) => Err(of_source(fault)),
+        Err(CheckFault::Frame { frame, fault }) => Err(Fault::Frame { frame, fault }),
+    }
+}
+
+/// The answer of `show`.
+pub(crate) fn shown(answer: Result<Reported, ShowFault>) -> Result<Numbers, Fault>
+    ensures { result ≡ answered (λ d. record { frames = d.frames; bytes = 0; unread = 0 }) of_show answer }
+{
+    match answer {
+        Ok(Reported { frames }) => Ok(Numbers {
+            frames,
+            bytes: 0,
+            unread: 0,
+        }),
+        Err(ShowFault::Source(fault)) => Err(of_source(fault)),
+        Err(ShowFault::Report) => Err(Fault::Report),
+        Err(ShowFault::Frame { frame, fault }) => Err(Fault::Frame { frame, fault }),
+    }
+}
+
+/// The answer of `index`.
+pub(crate) fn listed(answer: Result<Reported, ListFault>) -> Result<Numbers, Fault>
+    ensures { result ≡ answered (λ d. record { frames = d.frames; bytes = 0; unread = 0 }) of_list answer }
+{
+    match answer {
+        Ok(Reported { frames }) => Ok(Numbers {
+            frames,
+            bytes: 0,
+            unread: 0,
+        }),
+        Err(ListFault::Source(fault)) => Err(of_source(fault)),
+        Err(ListFault::Report) => Err(Fault::Report),
+    }
+}
