@@ -10,3 +10,4 @@ pub mod Padding
 pub mod Scaling
 pub mod Counting
 pub mod Picking
+pub mod Writing

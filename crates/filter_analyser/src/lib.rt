@@ -16,6 +16,8 @@ mod picker;
 mod picks;
 mod recursion;
 mod scale;
+#[cfg(test)]
+mod tests;
 mod words;
 
 pub use counts::count_table;
