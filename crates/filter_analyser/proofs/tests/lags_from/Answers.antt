@@ -1,7 +1,6 @@
-use Rattle.std.proofs.Common.{◌≡◌, ℕ, zero, suc, ◌+◌, ◌^◌, ◌<◌, ◌≤◌, ◌≢◌, ◌≤ℤ◌, ℤ, pos, nat_abs, to_z, of_z, List, length, get_or, set, get_or-set_other, get_or-set_same, length-set, inl, inr, refl, ap, sym, ◌∙◌, subst, rules, arith}
+use Rattle.std.proofs.Common.{◌≡◌, ◌^◌, ◌<◌, ◌≤ℤ◌, ℤ, pos, nat_abs, to_z, of_z, length, get_or, set, get_or-set_same, length-set, refl, arith}
 use mir.Syntax.{w64}
 use Rattle.std.proofs.lemmas.Int.{ints, clamps}
-use Rattle.level_spec.specs.Laws.{AreCorrelations}
 use Rattle.filter_analyser.proofs.Padding.{zeros-at}
 use Rattle.filter_analyser.proofs.Writing.{set-most}
 use Rattle.filter_analyser.proofs.tests.lags_from.Goals as goal
@@ -19,8 +18,7 @@ loop-lag-preserved c =
     let less = c.min-value.ensures.value in
     let more = c.max-in-loop-lag.ensures.value in
     let least = c.loop-lag.invariant.2 in
-    let most = c.loop-lag.invariant.3 in
-    (
+    let most = c.loop-lag.invariant.3 in (
       omega (arith, length-set {A = ℤ}, c.loop-lag.invariant.0),
       set-most c.loop-lag.lags c.loop-lag.lag (nat_abs (to_z w64 (of_z w64 c.min-first.result))) (to_z w64 (of_z w64 c.min-value.result)) (omega (arith, c.loop-lag.invariant.0)) c.loop-lag.invariant.1 (omega (arith, ints, clamps)),
       least,

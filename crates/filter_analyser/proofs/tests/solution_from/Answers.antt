@@ -1,7 +1,6 @@
-use Rattle.std.proofs.Common.{◌≡◌, ℕ, ◌+◌, ◌^◌, ◌<◌, ◌≤◌, ◌≢◌, ℤ, pos, nat_abs, to_z, of_z, List, length, get_or, set, get_or-set_other, get_or-set_same, length-set, inl, inr, refl, ap, sym, ◌∙◌, subst, rules, arith}
+use Rattle.std.proofs.Common.{◌^◌, ℤ, to_z, of_z, length-set, refl, arith}
 use mir.Syntax.{w64}
 use Rattle.std.proofs.lemmas.Int.{ints, clamps}
-use Rattle.std.proofs.lemmas.Bool.{cases_eq}
 use Rattle.filter_analyser.proofs.Writing.{set-most}
 use Rattle.filter_analyser.proofs.Padding.{zeros-at}
 use Rattle.filter_analyser.proofs.tests.solution_from.Goals as goal
