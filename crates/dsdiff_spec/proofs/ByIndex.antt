@@ -112,7 +112,7 @@ index_is_walk file form k l none =
     same_is_equal (indexed file form k) (entry (entries file form) k) (not_is_false _ (when_not _ _ moved))
 
 -- ---- so a frame that is there is found by the index without a fault
-found_by_index : (file : List ℕ) (form : Form) (k : ℕ) → walk_fault file form ≡ None → compare_fault file form ≡ None → 1 ≤ length (index_heads form) → length (frame_heads file form) ≡ form.frames → k < form.frames → by_index_fault file form k ≡ None
+pub found_by_index : (file : List ℕ) (form : Form) (k : ℕ) → walk_fault file form ≡ None → compare_fault file form ≡ None → 1 ≤ length (index_heads form) → length (frame_heads file form) ≡ form.frames → k < form.frames → by_index_fault file form k ≡ None
 found_by_index file form k walked compared some count l =
     let d : Head = record { id = []; place = 0; size = 0 } in
     let within : k < length (frame_heads file form) = omega (arith, count, l) in

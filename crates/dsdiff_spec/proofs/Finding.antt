@@ -95,7 +95,7 @@ found_stand m file end most place = stand_from m file end place place _ (omega a
 abbrev pub part_of : List ℕ → ℕ → Head → List ℕ
 part_of file end h = between file h.place (min (next_place h) end)
 
-split_part : (file : List ℕ) (place next end : ℕ) → place ≤ next → place ≤ end →
+pub split_part : (file : List ℕ) (place next end : ℕ) → place ≤ next → place ≤ end →
     between file place end ≡ between file place (min next end) ++ between file next end
 split_part file place next end p q = elim (cases_lt end next) [
   | inl l ↦

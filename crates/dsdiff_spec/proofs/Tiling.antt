@@ -22,18 +22,18 @@ big_from-behind i (suc n) front xs =
     rw (here, next, big_from-behind (suc i) n front xs) refl
 
 -- the same of lists in the place of a chunk's parts
-length_of_parts : (id size body pad : List ℕ) → length (id ++ size ++ body ++ pad) ≡ length id + length size + length body + length pad
+pub length_of_parts : (id size body pad : List ℕ) → length (id ++ size ++ body ++ pad) ≡ length id + length size + length body + length pad
 length_of_parts id size body pad =
     omega (arith, length-append (id ++ size ++ body) pad, length-append (id ++ size) body, length-append id size)
 
-number_behind_id : (front id rest : List ℕ) → length id ≡ 4 → big_from (length front + 4) 8 (front ++ (id ++ rest)) ≡ big_from 0 8 rest
+pub number_behind_id : (front id rest : List ℕ) → length id ≡ 4 → big_from (length front + 4) 8 (front ++ (id ++ rest)) ≡ big_from 0 8 rest
 number_behind_id front id rest h =
     let four : 4 ≡ length id + 0 = omega (arith, h) in
     big_from-behind 4 8 front (id ++ rest)
     ∙ ap (λ i. big_from i 8 (id ++ rest)) four
     ∙ big_from-behind 0 8 id rest
 
-id_behind : (front id rest : List ℕ) → length id ≡ 4 → take 4 (drop (length front) (front ++ (id ++ rest))) ≡ id
+pub id_behind : (front id rest : List ℕ) → length id ≡ 4 → take 4 (drop (length front) (front ++ (id ++ rest))) ≡ id
 id_behind front id rest h = ap (take 4) (drop_at front (id ++ rest) (length front) refl) ∙ take_at id rest 4 h
 
 abbrev pub head_of : List ℕ → ℕ → ℕ → Head
@@ -42,21 +42,21 @@ head_of id place size = record { id = id; place = place; size = size }
 pub same_head : (a b : List ℕ) (place m n : ℕ) → a ≡ b → m ≡ n → head_of a place m ≡ head_of b place n
 same_head a b place m n p q = rw (p, q) refl
 
-head_of_parts : (front id size rest : List ℕ) (n : ℕ) → length id ≡ 4 → big_from 0 8 (size ++ rest) ≡ n →
+pub head_of_parts : (front id size rest : List ℕ) (n : ℕ) → length id ≡ 4 → big_from 0 8 (size ++ rest) ≡ n →
     head_at (front ++ (id ++ (size ++ rest))) (length front) ≡ head_of id (length front) n
 head_of_parts front id size rest n h e =
     same_head _ id (length front) _ n (id_behind front id (size ++ rest) h) (number_behind_id front id (size ++ rest) h ∙ e)
 
-length_of_chunk : (c : Chunk) → IsChunk c → length (bytes_of_chunk c) ≡ length c.body + 12 + length c.body % 2
+pub length_of_chunk : (c : Chunk) → IsChunk c → length (bytes_of_chunk c) ≡ length c.body + 12 + length c.body % 2
 length_of_chunk c h =
     let a = length_of_parts c.id (big_bytes 8 (length c.body)) c.body c.pad in
     let b : length (big_bytes 8 (length c.body)) ≡ 8 = length-bytes_high_first 8 (length c.body) in
     a ∙ omega (arith, h.id, h.pad)
 
-regroup : (front id size body pad rest : List ℕ) → front ++ (id ++ size ++ body ++ pad) ++ rest ≡ front ++ (id ++ (size ++ (body ++ pad ++ rest)))
+pub regroup : (front id size body pad rest : List ℕ) → front ++ (id ++ size ++ body ++ pad) ++ rest ≡ front ++ (id ++ (size ++ (body ++ pad ++ rest)))
 regroup front id size body pad rest = simp append_assoc refl
 
-head_of_chunk : (front : List ℕ) (c : Chunk) (rest : List ℕ) → IsChunk c →
+pub head_of_chunk : (front : List ℕ) (c : Chunk) (rest : List ℕ) → IsChunk c →
     head_at (front ++ bytes_of_chunk c ++ rest) (length front) ≡ head_of c.id (length front) (length c.body)
 head_of_chunk front c rest h =
     ap (λ w. head_at w (length front)) (regroup front c.id (big_bytes 8 (length c.body)) c.body c.pad rest)
@@ -64,7 +64,7 @@ head_of_chunk front c rest h =
     (big_number-reads_back 8 (length c.body) (c.body ++ c.pad ++ rest) h.size)
 
 -- ---- one chunk, and what is found behind it
-step : (m : List ℕ → Bool) (file : List ℕ) (end most place : ℕ) (h : Head) (later : Found) → head_at file place ≡ h →
+pub step : (m : List ℕ → Bool) (file : List ℕ) (end most place : ℕ) (h : Head) (later : Found) → head_at file place ≡ h →
     place < end → fits m end h ≡ true → chunks_from m file end most (next_place h) ≡ later →
     chunks_from m file end (suc most) place ≡ with_head h later
 step m file end most place h later p q r s =
@@ -73,10 +73,10 @@ step m file end most place h later p q r s =
     ∙ ap (with_head h) s
 
 -- ---- all chunks
-regroup_chunks : (front w F rest : List ℕ) → front ++ (w ++ F) ++ rest ≡ front ++ w ++ F ++ rest
+pub regroup_chunks : (front w F rest : List ℕ) → front ++ (w ++ F) ++ rest ≡ front ++ w ++ F ++ rest
 regroup_chunks front w F rest = simp append_assoc refl
 
-regroup_first : (front w F rest : List ℕ) → front ++ (w ++ F) ++ rest ≡ front ++ w ++ (F ++ rest)
+pub regroup_first : (front w F rest : List ℕ) → front ++ (w ++ F) ++ rest ≡ front ++ w ++ (F ++ rest)
 regroup_first front w F rest = simp append_assoc refl
 
 -- chunks in front of what is found behind them

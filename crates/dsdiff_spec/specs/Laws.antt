@@ -1,16 +1,17 @@
 -- The laws of files, as statements.
 use Rattle.std.specs.Prelude.{◌≡◌, ◌↔◌, ℕ, ◌+◌, ◌-◌, ◌<◌, ◌≤◌, Bool, true, false, List, ◌∷◌, ◌++◌, length, take, drop, Some, None}
-use Rattle.std.specs.List.{AllByRecursion}
+use Rattle.std.specs.List.{AllByRecursion, concat}
 use Rattle.dst_spec.specs.Bits.{AreBytes}
-use Rattle.dst_spec.specs.Sample.{Shape}
+use Rattle.dst_spec.specs.Sample.{Shape, IsShape, IsSound}
 use Rattle.dst_spec.specs.Header.{IsParams}
+use Rattle.dsdiff_spec.specs.Form.{sound_bytes_of}
 use Rattle.dsdiff_spec.specs.Rules.{accepted}
 use Rattle.dsdiff_spec.specs.Walk.{index_heads, compare_fault}
-use Rattle.dsdiff_spec.specs.Coded.{Picks, stored_frames, coded}
+use Rattle.dsdiff_spec.specs.Coded.{Picks, pieces, stored_frames, coded}
 use Rattle.dsdiff_spec.specs.Decoded.{Plain, frames_of}
 use Rattle.dsdiff_spec.specs.Cut as cutting
 use Rattle.dsdiff_spec.specs.Dsf.{dsf_fault, dsdiff, ToDsf, bare}
-use Rattle.dsdiff_spec.specs.Words.{Word, Command, Task, encode, decode, cut, frame}
+use Rattle.dsdiff_spec.specs.Words.{Word, Command, Task, encode, decode, cut, frame, check, index}
 use Rattle.dsdiff_spec.specs.Rows.{Row, rows, row_task}
 use Rattle.dsdiff_spec.specs.Refusal.{refusal}
 use Rattle.dsdiff_spec.specs.Outcome.{Answer, OfCommand, Outcome}
@@ -25,16 +26,16 @@ IsPlainFile file = IsAccepted (encode 1) file
 abbrev pub IsCodedFile : List ℕ → Type 0
 IsCodedFile file = IsAccepted decode file
 
--- an encoder tries at most eight parameters for a sound, and each is lawful for its channels
+-- an encoder tries at most eleven parameters for a frame's sound, and each is lawful for its channels
 abbrev pub ArePicks : Picks → Type 0
 ArePicks picks =
-    (sound : List ℕ) (f : Shape) → (length (picks sound f) ≤ 8) × AllByRecursion (IsParams f.channels) (picks sound f)
+    (sound : List ℕ) (f : Shape) → IsShape f → IsSound f sound → (length (picks sound f) ≤ 11) × AllByRecursion (IsParams f.channels) (picks sound f)
 
 abbrev pub coded_file : Picks → List ℕ → List ℕ
 coded_file picks file = coded picks file (accepted file)
 
--- What encoding writes is accepted for decoding, and each frame of it for writing its sound, by the walk and by the
--- index. Its frames are the stored ones, and its one index is its walk.
+-- What encoding writes is accepted for decoding, checking and listing, and each frame of it for writing its sound, by the
+-- walk and by the index. Its frames are the stored ones, none longer than a plain frame, and its one index is its walk.
 abbrev pub FrameIsAccepted : List ℕ → ℕ → Type 0
 FrameIsAccepted file k = (b : Bool) → IsAccepted (frame k b) file
 
@@ -45,8 +46,11 @@ abbrev pub AcceptanceLaw : Type 0
 AcceptanceLaw =
     (file : List ℕ) (picks : Picks) → IsPlainFile file → ArePicks picks →
     IsCodedFile (coded_file picks file)
+    × IsAccepted check (coded_file picks file)
+    × IsAccepted index (coded_file picks file)
     × ((k : ℕ) → k < (accepted file).frames → FrameIsAccepted (coded_file picks file) k)
     × (frames_of (coded_file picks file) (accepted (coded_file picks file)) ≡ stored_frames picks file (accepted file))
+    × AllByRecursion (λ w. length w ≤ 1 + sound_bytes_of (accepted file)) (stored_frames picks file (accepted file))
     × HasIndexOfWalk (coded_file picks file)
 
 -- it is decoded to one file, the one that was encoded
@@ -58,6 +62,10 @@ RestoringLaw =
     (file : List ℕ) (picks : Picks) → IsPlainFile file → ArePicks picks →
     IsDecodedTo (coded_file picks file) file
     × ((other : List ℕ) → IsDecodedTo (coded_file picks file) other → other ≡ file)
+
+-- a sound in pieces, joined and cut to its size, is the sound
+abbrev pub PiecesLaw : Type 0
+PiecesLaw = (n : ℕ) (sound : List ℕ) → 0 < n → take (length sound) (concat (pieces n sound)) ≡ sound
 
 -- what cutting writes is accepted for decoding, and its frames are those that were asked for
 abbrev pub cut_file : List ℕ → ℕ → ℕ → List ℕ

@@ -1,0 +1,5 @@
+use Rattle.dsdiff_laws.proofs.Joined.{pieces_join as law}
+use Rattle.dsdiff_laws.proofs.laws.pieces.Goals as goal
+
+pub returns : goal.returns
+returns c = law

@@ -1,0 +1,20 @@
+// Laws of files. The functions do nothing: their clauses are what is proved.
+ghost use Rattle.dsdiff_spec.specs.Laws.{AcceptanceLaw, RestoringLaw, PiecesLaw};
+
+/// What encoding writes of an accepted plain file is accepted for decoding, checking and listing, and each of its frames for
+/// writing its sound, by the walk and by the index. Its frames are the stored ones in order, none of them longer than its
+/// plain form of one byte more than its sound, and its one index is its walk.
+pub fn acceptance()
+    ensures { AcceptanceLaw }
+{}
+
+/// What encoding writes of an accepted plain file is decoded to that file, byte for byte, and to no other.
+pub fn restoring()
+    ensures { RestoringLaw }
+{}
+
+/// A sound that is cut into pieces of so many bytes, the last one filled up, comes back where the pieces are joined and cut
+/// to its size.
+pub fn pieces()
+    ensures { PiecesLaw }
+{}
