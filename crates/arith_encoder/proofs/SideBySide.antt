@@ -1,19 +1,16 @@
 -- A symbol in a lane of sixteen bits, and symbols one after the other.
-use Rattle.std.proofs.Common.{◌≡◌, ℕ, ◌+◌, ◌-◌, ◌*◌, ◌/◌, ◌%◌, ◌^◌, ◌<◌, ◌≤◌, Bool, true, false, nat_lt, if◌then◌else◌, List, [], ◌∷◌, ◌++◌, length, get_or, take, refl, ap, ap₂, sym, subst, ◌∙◌, arith, lt-ltb, le-ltb, length-take-le}
+use Rattle.std.proofs.Common.{◌≡◌, ℕ, ◌+◌, ◌-◌, ◌*◌, ◌/◌, ◌%◌, ◌^◌, ◌<◌, ◌≤◌, Bool, true, false, nat_lt, if◌then◌else◌, List, [], ◌∷◌, length, get_or, take, refl, ap, subst, ◌∙◌, arith, lt-ltb, le-ltb, length-take-le}
 use mir.Val.{bool_byte}
-use lib.Dec.{leb}
 use Rattle.std.proofs.lemmas.List.{take_more, get_or_default}
 use Rattle.std.proofs.lemmas.Nat.{mul-le}
 use Rattle.dst_spec.specs.Interval.{Interval, scale, narrowed, interval_from}
-use Rattle.dst_spec.specs.Laws.{AreAlike}
-use Rattle.dst_spec.proofs.Intervals.{scale-least, scale-below, interval_from-append}
-use Rattle.arith_core.specs.Range.{IsRange, IsShift}
+use Rattle.dst_spec.proofs.Intervals.{scale-below, interval_from-append}
+use Rattle.arith_core.specs.Range.{IsRange}
 use Rattle.arith_core.proofs.Masks.{high_least}
 use Rattle.arith_core.proofs.Shifts.{shift_of, is_shift}
-use Rattle.arith_encoder.specs.Registers.{IsScaling}
 use Rattle.arith_encoder.specs.declared.scaling.Scaling.{Scaling}
 use Rattle.arith_encoder.specs.Lanes.{IsStep, AreSteps, Narrows, TakesStep, Leaves}
-use Rattle.arith_encoder.proofs.Narrowing.{IsNarrowed, narrow_is, spans, starts, shifts}
+use Rattle.arith_encoder.proofs.Narrowing.{IsNarrowed, narrow_is}
 
 doubled_is : (m : ℕ) → m < 4096 → (e : Bool) → (if e then m * 2 % 65536 else m) ≡ m + (if e then m else 0)
 doubled_is m lt true = omega arith

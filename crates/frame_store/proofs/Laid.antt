@@ -1,14 +1,12 @@
 -- Steps laid side by side.
-use Rattle.std.proofs.Common.{◌≡◌, ◌≢◌, ◌⊎◌, inl, inr, ℕ, zero, suc, ◌+◌, ◌-◌, ◌*◌, ◌<◌, ◌≤◌, Bool, false, List, [], ◌∷◌, ◌++◌, length, get_or, set, take, drop, map, replicate, refl, ap, ap₂, sym, subst, ◌∙◌, arith, get_or-set_same, get_or-set_other, length-set, length-drop, length-take-le, get_or-take, get_or-drop}
+use Rattle.std.proofs.Common.{◌≡◌, ◌≢◌, ◌⊎◌, inl, inr, ℕ, zero, suc, ◌+◌, ◌<◌, ◌≤◌, Bool, false, List, [], ◌∷◌, ◌++◌, length, get_or, set, take, drop, map, replicate, refl, ap, sym, subst, ◌∙◌, arith, get_or-set_same, get_or-set_other, length-set, length-take-le, get_or-take}
 use Rattle.std.proofs.lemmas.Bool.{cases_eq}
 use Rattle.std.proofs.lemmas.List.{get_or-map, length-map, map-append}
 use Rattle.std.proofs.Math.Seq.{take-add}
-use Rattle.dst_spec.specs.Interval.{Interval, whole, interval_from, interval}
-use Rattle.dst_spec.specs.Laws.{AreAlike}
+use Rattle.dst_spec.specs.Interval.{whole, interval_from, interval}
 use Rattle.dst_spec.proofs.Intervals.{interval_from-append}
 use Rattle.dst_spec.specs.Spell.{code_spelling}
 use Rattle.dst_spec.proofs.CodeLengths.{code_bits}
-use Rattle.arith_core.specs.Range.{IsRange}
 use Rattle.arith_encoder.specs.Lanes.{IsStep, AreSteps, Leaves}
 use Rattle.frame_store.specs.Measured.{IsMeasured}
 use Rattle.frame_store.specs.Pairs.{pair_of}

@@ -9,6 +9,7 @@ use Rattle.dst_spec.specs.Symbols.{symbols}
 use Rattle.dst_spec.specs.Spell.{code_spelling, header_spelling, spell, shorter, stored}
 use Rattle.dst_spec.proofs.CodeLengths.{spelling_bytes, code_bits}
 use Rattle.frame_store.specs.Pairs.{all_pairs}
+use Rattle.frame_store.specs.Choosing.{IsFirst, IsChosen}
 
 pub spelled-bytes : (f : Shape) (P : Params) (sound xs : List ℕ) → all_pairs P xs ≡ symbols f P sound false → octets (header_spelling P ++ code_spelling (all_pairs P xs)) ≡ spell f P sound
 unfolding spell
@@ -29,15 +30,6 @@ pub stored-more : (f : Shape) (sound : List ℕ) (found : List Params) (n : ℕ)
 stored-more f sound found n P lt =
     ap (fold shorter (0 ∷ sound)) (ap (map (λ Q. spell f Q sound)) (take_more found n P lt) ∙ map-append (λ Q. spell f Q sound) (take n found) (get_or found n P ∷ []))
     ∙ fold-more (0 ∷ sound) (map (λ Q. spell f Q sound) (take n found)) (spell f (get_or found n P) sound)
-
--- the first of the shortest of the first n, none being the plain form
-abbrev pub IsFirst : Shape → List ℕ → List Params → ℕ → Option ℕ → Type 0
-IsFirst f sound found n None = stored f sound (take n found) ≡ 0 ∷ sound
-IsFirst f sound found n (Some k) = (k < n) × ((other : Params) → stored f sound (take n found) ≡ spell f (get_or found k other) sound)
-
-pub record IsChosen (f : Shape) (sound : List ℕ) (found : List Params) (n : ℕ) (best : Option ℕ) (least : ℕ) : Type 0 where
-  pub first : IsFirst f sound found n best
-  pub least_is : least ≡ length (stored f sound (take n found))
 
 pub none-chosen : (f : Shape) (sound : List ℕ) (found : List Params) (least : ℕ) → least ≡ 1 + length sound → IsChosen f sound found 0 None least
 none-chosen f sound found least is = record { first = refl; least_is = omega (arith, is) }

@@ -1,3 +1,4 @@
+pub mod Choosing
 pub mod Measured
 pub mod Pairs
 pub mod Storing

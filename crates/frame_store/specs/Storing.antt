@@ -22,9 +22,10 @@ IsWriter f None = ⊥
 IsWriter f (Some w) = (length w.bits % 8 ≡ 0) × (w.room + length w.bits ≡ 8 * (1 + sound_bytes f))
 
 -- Everything has the size that the channels need.
-pub record IsStorage (f : Shape) (predictions : Predicting) (symbols : List ℕ) (writer : Option Writing) (plain : List ℕ) : Type 0 where
+pub record IsStorage (f : Shape) (predictions : Predicting) (symbols : List ℕ) (steps : List (List ℕ)) (writer : Option Writing) (plain : List ℕ) : Type 0 where
   pub is_shape : IsShape f
   pub predicts : predictions.channels ≡ f
-  pub many : length symbols ≡ 8 * sound_bytes f
+  pub many : length symbols ≡ 8 * (8 * sound_bytes f)
+  pub parts : length steps ≡ 1024
   pub is_writer : IsWriter f writer
   pub long : length plain ≡ 1 + sound_bytes f

@@ -10,14 +10,15 @@ use frame_predictions::Predictions;
 use std::alloc::{AllocError, Global};
 use std::marker::Model;
 
-/// The memory in which frames of some channels are stored: predictions, candidates, the symbols of one of them, its spelling and
-/// the plain form. Nothing of one frame is used for the next one.
+/// The memory in which frames of some channels are stored: predictions, candidates, the symbols of eight of them, a spelling
+/// and the plain form. Nothing of one frame is used for the next one.
 #[derive(Drop)]
 pub struct StoreScratch {
     pub(crate) channels: Channels,
     pub(crate) predictions: Predictions,
     pub(crate) found: Candidates,
     pub(crate) symbols: Vec<u8>,
+    pub(crate) steps: Vec<[u16; 8]>,
     // a writer that isn't there is at work
     pub(crate) writer: Option<BitWriter>,
     pub(crate) plain: Vec<u8>,
@@ -32,11 +33,11 @@ impl Model for StoreScratch {
 
     ghost view = { λ s. record { channels = s.channels; spelled = written s.writer; stored = if s.is_plain then s.plain.items else (written s.writer) } };
 
-    ghost invariant = { λ s. IsStorage s.channels s.predictions s.symbols.items s.writer s.plain.items };
+    ghost invariant = { λ s. IsStorage s.channels s.predictions s.symbols.items s.steps.items s.writer s.plain.items };
 }
 
 impl StoreScratch {
-    /// Takes all memory that storing needs: for a frame's sound of F bytes, 64 F for predictions, 8 F for symbols and 3 F for the sound,
+    /// Takes all memory that storing needs: for a frame's sound of F bytes, 64 F for predictions, 64 F for symbols and 3 F for the sound,
     /// its plain form and a spelling, and less than 200,000 bytes besides.
     pub fn new(alloc: Global, channels: Channels) -> Result<StoreScratch, AllocError>
         ensures { IfOk result (λ s. s.channels ≡ channels) }
@@ -46,7 +47,8 @@ impl StoreScratch {
             channels,
             predictions: Predictions::new(alloc, channels)?,
             found: Candidates::new(),
-            symbols: vec![in alloc; 0u8; 8 * bytes]?,
+            symbols: vec![in alloc; 0u8; 64 * bytes]?,
+            steps: vec![in alloc; [0u16; 8]; 1024]?,
             writer: Some(BitWriter::new(alloc, 1 + bytes)?),
             plain: vec![in alloc; 0u8; 1 + bytes]?,
             is_plain: true,

@@ -1,11 +1,12 @@
 // A sound, stored.
-ghost use Rattle.std.specs.Prelude.{◌≡◌, ◌+◌, ◌*◌, ◌<◌, ◌≤◌, ◌^◌, ◌∷◌, length, get_or, All, IfSome, IfNone};
-ghost use Rattle.dst_spec.specs.Sample.{sound_bytes};
+ghost use Rattle.std.specs.Prelude.{◌≡◌, ℕ, ◌+◌, ◌*◌, ◌<◌, ◌≤◌, ◌^◌, List, ◌∷◌, length, get_or, All, IfSome, IfNone};
+ghost use Rattle.dst_spec.specs.Sample.{Shape, IsShape, sound_bytes};
 ghost use Rattle.dst_spec.specs.Header.{IsParams, Params as Parameters};
 ghost use Rattle.dst_spec.specs.Spell.{spell, stored as stored_of};
+ghost use Rattle.frame_store.specs.Choosing.{IsChosen};
 
-use crate::lay_out::lay_out;
-use crate::measure::spelling_length;
+use crate::lay_out::lay_out_first;
+use crate::measure::spelling_lengths;
 use crate::picker::Picker;
 use crate::scratch::StoreScratch;
 use crate::spell::write_into;
@@ -34,54 +35,86 @@ pub fn store_frame<P: Picker>(
     );
     let found = scratch.found.as_slice();
     let symbols = scratch.symbols.as_mut_slice();
-    match shortest(found, &mut scratch.predictions, symbols, 1 + sound.len()) {
+    let steps = scratch.steps.as_mut_slice();
+    match shortest(found, &mut scratch.predictions, symbols, steps, sound.len()) {
         None => {
             keep_plain(scratch.plain.as_mut_slice(), sound);
             scratch.is_plain = true;
         }
         Some(place) => {
             let params = &found[place];
-            lay_out(params, &mut scratch.predictions, symbols);
+            lay_out_first(params, &mut scratch.predictions, symbols);
             write_into(params, symbols, channels, &mut scratch.writer);
             scratch.is_plain = false;
         }
     }
 }
 
-// The place of the first of the shortest spellings, if it is shorter than the plain form, which has so many bytes.
+// The place of the first of the shortest spellings, if it is shorter than the plain form of a sound of so many bytes. Eight are
+// measured at once.
 fn shortest(
     found: &[Params],
     predictions: &mut Predictions,
     symbols: &mut [u8],
-    plain: usize,
+    steps: &mut [[u16; 8]],
+    bytes: usize,
 ) -> Option<usize>
     requires lawful { All (IsParams predictions.old.channels.channels) found.now }
-    requires many { length symbols.old ≡ 8 * sound_bytes predictions.old.channels }
-    requires some { 0 < predictions.old.channels.channels }
-    requires few { length symbols.old ≤ 2 ^ 30 }
-    requires plain { plain ≡ 1 + sound_bytes predictions.old.channels }
-    requires sound { length predictions.old.sound ≡ sound_bytes predictions.old.channels }
+    requires few { length found.now ≤ 11 }
+    requires shape { IsShape predictions.old.channels }
+    requires bytes { bytes ≡ sound_bytes predictions.old.channels }
+    requires sound { length predictions.old.sound ≡ bytes }
+    requires many { length symbols.old ≡ 8 * (8 * bytes) }
+    requires some { 0 < length steps.old }
+    requires most { length steps.old ≤ 8000 }
     ensures none { IfNone result (stored_of predictions.old.channels predictions.old.sound found.now ≡ 0 ∷ predictions.old.sound) }
     ensures inside { IfSome result (λ place. place < length found.now) }
     ensures some { IfSome result (λ place. (other : Parameters) → stored_of predictions.old.channels predictions.old.sound found.now
         ≡ spell predictions.old.channels (get_or found.now place other) predictions.old.sound) }
-    ensures fits { IfSome result (λ place. (other : Parameters) → length (spell predictions.old.channels (get_or found.now place other) predictions.old.sound) ≤ plain) }
+    ensures fits { IfSome result (λ place. (other : Parameters) → length (spell predictions.old.channels (get_or found.now place other) predictions.old.sound) ≤ 1 + bytes) }
     ensures many { length symbols.new ≡ length symbols.old }
+    ensures steps { length steps.new ≡ length steps.old }
     ensures sound { predictions.new.sound ≡ predictions.old.sound }
     ensures channels { predictions.new.channels ≡ predictions.old.channels }
 {
-    let mut best = None;
-    let mut least = plain as u64;
-    for place in 0..found.len() {
-        let params = &found[place];
-        lay_out(params, predictions, symbols);
-        let length = spelling_length(params, symbols);
-        if length < least {
-            best = Some(place);
-            least = length;
+    let mut choice = Choice {
+        best: None,
+        least: 1 + bytes as u64,
+    };
+    let mut first = 0;
+    while first < found.len() {
+        let count = (found.len() - first).min(8);
+        let group = &found[first..first + count];
+        let lengths = spelling_lengths(group, predictions, symbols, steps, 8 * bytes);
+        choose(&mut choice, &lengths, first, count);
+        first += count;
+    }
+    choice.best
+}
+
+// The first of the shortest so far, none being the plain form, and its bytes.
+#[derive(Drop)]
+struct Choice {
+    best: Option<usize>,
+    least: u64,
+}
+
+// Goes on with the lengths of some more candidates.
+fn choose(choice: &mut Choice, lengths: &[u64; 8], first: usize, count: usize)
+    requires few { count ≤ 8 }
+    requires small { first ≤ 2 ^ 32 }
+    ensures chosen { (f : Shape) (sound : List ℕ) (found : List Parameters) → first + count ≤ length found
+        → ((lane : ℕ) (other : Parameters) → lane < count → get_or lengths.now lane 0 ≡ length (spell f (get_or found (first + lane) other) sound))
+        → IsChosen f sound found first choice.old.best choice.old.least → IsChosen f sound found (first + count) choice.new.best choice.new.least }
+    ensures fits { choice.new.least ≤ choice.old.least }
+{
+    for lane in 0..count {
+        let length = lengths[lane];
+        if length < choice.least {
+            choice.best = Some(first + lane);
+            choice.least = length;
         }
     }
-    best
 }
 
 // The plain form: a byte 0 and the sound.

@@ -1,4 +1,4 @@
-use Rattle.std.proofs.Common.{◌≡◌, ◌≤◌, false, [], length, get_or, take, sym, subst, arith}
+use Rattle.std.proofs.Common.{◌≤◌, false, [], length, get_or, sym, subst, arith}
 use Rattle.std.proofs.lemmas.List.{take_all}
 use Rattle.dst_spec.proofs.Lists.{get_or-zeros}
 use Rattle.arith_encoder.specs.Lanes.{Leaves}

@@ -1,7 +1,5 @@
-use Rattle.std.proofs.Common.{◌≡◌, ◌+◌, ◌*◌, ◌≤◌, false, [], ◌∷◌, ◌++◌, length, get_or, map, take, drop, set, replicate, ap, sym, subst, subst₂, ◌∙◌, arith, length-set}
+use Rattle.std.proofs.Common.{◌≡◌, ◌+◌, ◌*◌, ◌≤◌, false, [], ◌∷◌, ◌++◌, get_or, map, take, drop, replicate, ap, sym, subst, ◌∙◌, arith, length-set}
 use Rattle.std.proofs.lemmas.List.{drop-drop}
-use Rattle.arith_encoder.specs.Lanes.{IsStep, AreSteps, Leaves}
-use Rattle.arith_core.specs.Range.{IsRange}
 use Rattle.frame_store.specs.Pairs.{pair_of}
 use Rattle.frame_store.specs.Measured.{IsMeasured}
 use Rattle.frame_store.proofs.Laid.{measured-more, none-measured, all-measured, first-step, same-at_most, same-at, mapped-part}

@@ -1,4 +1,4 @@
-use Rattle.std.proofs.Common.{◌≡◌, ◌≢◌, ◌<◌, [], length, get_or, set, ◌∙◌, arith, below_more, length-set}
+use Rattle.std.proofs.Common.{◌≢◌, ◌<◌, [], length, get_or, set, ◌∙◌, arith, below_more, length-set}
 use Rattle.frame_store.proofs.Laid.{lane-same, lane-row, lane-other, lane-eights}
 use Rattle.frame_store.proofs.lanes.fill_lane.Goals as goal
 

@@ -1,4 +1,4 @@
-use Rattle.std.proofs.Common.{◌≡◌, ◌+◌, ◌*◌, ◌^◌, ◌++◌, ◌∷◌, [], refl, ap, sym, subst, subst₂, ◌∙◌}
+use Rattle.std.proofs.Common.{refl, ap, sym, subst, subst₂, ◌∙◌}
 use Rattle.dst_spec.specs.Interval.{Interval, interval, narrowed}
 use Rattle.dst_spec.specs.Laws.{AreAlike}
 use Rattle.dst_spec.proofs.Intervals.{interval-push}
