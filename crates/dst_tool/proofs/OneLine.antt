@@ -33,7 +33,7 @@ pub record IsAnswer (c : Command) (r : Result Numbers Fault) (file : List ℕ) (
   pub no_report : r ≡ Err Report → ⊥
 
 -- what holds of every file that is told holds of this one
-pub at_file : (r : Result Numbers Fault) (P : Numbers → List ℕ → Type 0) (bytes : Option (List ℕ)) (file : List ℕ) → bytes ≡ Some file → IfOk r (λ s. (xs : List ℕ) → bytes ≡ Some xs → P s xs) → IfOk r (λ s. P s file)
+pub at_file : {A E : Type 0} (r : Result A E) (P : A → List ℕ → Type 0) (bytes : Option (List ℕ)) (file : List ℕ) → bytes ≡ Some file → IfOk r (λ s. (xs : List ℕ) → bytes ≡ Some xs → P s xs) → IfOk r (λ s. P s file)
 at_file (Ok s) P bytes file told h = h file told
 at_file (Err fault) P bytes file told h = tt {0}
 

@@ -71,12 +71,12 @@ done_is_0 check file form o (sounds, all, e) = ap (λ (a : Answer). a.status) e
 done_is_0 show file form o e = ap (λ (a : Answer). a.status) e
 done_is_0 (show_frame k) file form o (line, shows, e) = ap (λ (a : Answer). a.status) e
 done_is_0 index file form o e = ap (λ (a : Answer). a.status) e
-done_is_0 (encode level workers) file form o h = absurd h
+done_is_0 (encode level) file form o h = absurd h
 done_is_0 (cut first last) file form o h = absurd h
 done_is_0 (make start frames channels multiple) file form o h = absurd h
 done_is_0 (make_run start frames channels multiple) file form o h = absurd h
-done_is_0 (encode_dsf level workers) file form o h = absurd h
-done_is_0 (decode_dsf workers) file form o h = absurd h
+done_is_0 (encode_dsf level) file form o h = absurd h
+done_is_0 decode_dsf file form o h = absurd h
 done_is_0 (range pairs) file form o h = absurd h
 
 pub run_completes : (words : List Word) (c : Command) (file : List ℕ) (result : ℕ) (old new told_old told_new : Option (List ℕ)) → command_of words ≡ Some c → NoFrameIsRefused words file → Headline words file result old new told_old told_new → (result ≡ 0) ⊎ (result ≡ 4)

@@ -7,74 +7,112 @@ use Rattle.dsdiff_spec.specs.Lines.{Line, report, check_line}
 use Rattle.dsdiff_spec.proofs.Stopping.{One}
 use Rattle.dsdiff_spec.proofs.OneAnswer.{command_has_one_outcome}
 use Rattle.dst_words.specs.Commands.{command_seen}
-use Rattle.dst_read.specs.declared.faults.Summary.{Summary}
-use Rattle.dst_read.specs.declared.faults.ToolFault.{ToolFault}
-use Rattle.dst_read.specs.declared.faults.ToolFault.TheVariants.{Read, Write, Memory, Report, File, Frame}
+use Rattle.dst_tool.specs.declared.answers.Numbers.{Numbers}
+use Rattle.dst_tool.specs.declared.answers.Fault.{Fault}
+use Rattle.dst_tool.specs.declared.answers.Fault.TheVariants.{Read, Write, Memory, Report, File, Frame}
 use Rattle.dst_commands.specs.Commands.{OutcomeOf, shown}
 use Rattle.dst_tool.proofs.OneLine.{few_given, most_for_any, IsAnswer, TellsLine, HasCauses, run_of_answer, at_file, same_run, nothing_added, nothing_cut, finished_alone, cut_or_nothing, decoding_is_no_frame, checking_is_no_frame, showing_is_no_frame, showing_one_is_no_frame, listing_is_no_frame}
+use Rattle.dst_read.specs.declared.faults.DecodeFault.{DecodeFault}
+use Rattle.dst_read.specs.declared.faults.DecodeFault.TheVariants as decoding
+use Rattle.dst_read.specs.declared.faults.ShowFault.TheVariants as showing
+use Rattle.dst_read.specs.declared.faults.ListFault.TheVariants as listing
+use Rattle.dst_tool.specs.Answers.{answered, done_line, line_of, status_of, of_check, of_decode, of_list, of_show}
+use Rattle.dst_tool.proofs.Inverting.{back_from, check_again, check_reports, check_writes, decode_again, decode_reports, if_answered, list_again, list_refuses, list_writes, show_again, show_writes, to_check, to_decode, to_list, to_show}
+use Rattle.dst_read.specs.declared.faults.Decoded.{Decoded}
+use Rattle.dst_read.specs.declared.faults.FrameWritten.{FrameWritten}
+use Rattle.dst_read.specs.declared.faults.Checked.{Checked}
+use Rattle.dst_read.specs.declared.faults.Reported.{Reported}
 use Rattle.dst_tool.proofs.OwnLines.{IsListing, Lists, TellsFault, run_of_listing}
 use Rattle.dst_tool.proofs.command.run_command.Goals as goal
+
+-- ---- what each command answers, in the words of the report
+abbrev of_decoded : Decoded → Numbers
+of_decoded d = record { frames = d.frames; bytes = d.bytes; unread = 0 }
+
+abbrev of_written : FrameWritten → Numbers
+of_written f = record { frames = 1; bytes = f.bytes; unread = 0 }
+
+abbrev of_checked : Checked → Numbers
+of_checked d = record { frames = d.frames; bytes = 0; unread = d.unread }
+
+abbrev of_reported : Reported → Numbers
+of_reported d = record { frames = d.frames; bytes = 0; unread = 0 }
+
+either : {A B C D : Type 0} → (A → C) → (B → D) → A ⊎ B → C ⊎ D
+either f h (inl a) = inl (f a)
+either f h (inr b) = inr (h b)
 
 -- ---- commands that report one line
 pub returns-in-Decode : goal.returns-in-Decode
 returns-in-Decode g c =
-    let r = c.decode_file-answer.result in
+    let d = c.decode_file-answer.result in
     let e = c.decode_file-answer.ensures in
+    let r = c.decoded.result in
+    let is : r ≡ answered of_decoded of_decode d = c.decoded.ensures in
+    let back : (f : Fault) → r ≡ Err f → d ≡ Err (to_decode f) = λ f h. back_from of_decoded of_decode to_decode decode_again d f (sym is ∙ h) in
     let t = c.tell.ensures in
     let bytes = g.S.Source.bytes c.args.source.now in
+    let written = g.K.Sink.written c.args.sink.now in
     let same = ap command_seen c.in-Decode.is in
-    same_run same (run_of_answer (asked.decode c.in-Decode.workers) r c.tell.result bytes _ _ _ _ _ _ _ tt (λ file told. g.met.S.Source.told_are_bytes c.args.source.now file told)
+    let asks = asked.decode in
+    same_run same (run_of_answer asks r c.tell.result bytes _ _ _ _ _ _ _ tt (λ file told. g.met.S.Source.told_are_bytes c.args.source.now file told)
     (λ file told. record {
-      finished = at_file r _ bytes file told e.decoded;
-      file_is = λ fault is. e.file fault is file told;
-      untouched = λ fault is. ap g.K.Sink.written (e.untouched fault is);
-      frame_is = λ k fault is. e.frame k fault is file told;
-      cut_short = λ is. e.cut_short is file told;
-      memory = λ is. ap g.K.Sink.written (e.memory is);
-      no_report = e.no_report;
+      finished = subst (λ r. IfOk r (λ s. (out : List ℕ) × OutcomeOf asks file (done out (done_line asks s ∷ [])) × (g.K.Sink.written c.decode_file-answer.new.sink ≡ and_then written out))) (sym is)
+          (if_answered of_decoded of_decode d _ (at_file d (λ s file. (out : List ℕ) × OutcomeOf asks file (done out (done_line asks (of_decoded s) ∷ [])) × (g.K.Sink.written c.decode_file-answer.new.sink ≡ and_then written out)) bytes file told e.decoded));
+      file_is = λ fault h. e.file fault (back (File fault) h) file told;
+      untouched = λ fault h. ap g.K.Sink.written (e.untouched fault (back (File fault) h));
+      frame_is = λ k fault h. e.frame k fault (back (Frame k fault) h) file told;
+      cut_short = λ h. e.cut_short (either (back Read) (back Write) h) file told;
+      memory = λ h. ap g.K.Sink.written (e.memory (back Memory h));
+      no_report = λ h. decode_reports of_decoded d (sym is ∙ h);
     })
     (record {
-      read = e.read;
-      write = e.write;
-      sure = e.sure;
-      memory = e.memory;
-      untouched = e.untouched;
+      read = λ h. e.read (back Read h);
+      write = λ h. e.write (back Write h);
+      sure = λ h. e.sure (back Write h);
+      memory = λ h. e.memory (back Memory h);
+      untouched = λ fault h. e.untouched fault (back (File fault) h);
       idle = λ w. absurd w;
-      by_index = λ k is. absurd (decoding_is_no_frame c.in-Decode.workers k is);
-      any_source = λ k is. absurd (decoding_is_no_frame c.in-Decode.workers k is);
-      no_report = e.no_report;
+      by_index = λ k h. absurd (decoding_is_no_frame k h);
+      any_source = λ k h. absurd (decoding_is_no_frame k h);
+      no_report = λ h. decode_reports of_decoded d (sym is ∙ h);
     })
-    (record { reported = t.reported; whole = t.whole; cut_short = t.cut_short; cause = t.cause; sure = t.sure }))
+    (subst (λ q. TellsLine (status_of r) (line_of q r) c.tell.result (record { before = g.R.Sink.faults c.args.report.now; now = g.R.Sink.faults c.tell.new.report }) (record { old = g.R.Sink.written c.args.report.now; new = g.R.Sink.written c.tell.new.report; room = g.R.Sink.room c.args.report.now })) same (record { reported = t.reported; whole = t.whole; cut_short = t.cut_short; cause = t.cause; sure = t.sure })))
 
 pub returns-in-Frame : goal.returns-in-Frame
 returns-in-Frame g c =
-    let r = c.frame_out-answer.result in
+    let d = c.frame_out-answer.result in
     let e = c.frame_out-answer.ensures in
+    let r = c.frame_written.result in
+    let is : r ≡ answered of_written of_decode d = c.frame_written.ensures in
+    let back : (f : Fault) → r ≡ Err f → d ≡ Err (to_decode f) = λ f h. back_from of_written of_decode to_decode decode_again d f (sym is ∙ h) in
     let t = c.tell-in-Frame.ensures in
     let bytes = g.S.Source.bytes c.args.source.now in
     let written = g.K.Sink.written c.args.sink.now in
     let same = ap command_seen c.in-Frame.is in
     let asks = asked.frame c.in-Frame.frame c.in-Frame.by_index in
+    let other : (f : DecodeFault) → d ≡ Err f → (f ≢ decoding.Write) → g.K.Sink.written c.frame_out-answer.new.sink ≡ written = λ f h other. ap g.K.Sink.written (e.untouched f h other) in
     same_run same (run_of_answer asks r c.tell-in-Frame.result bytes _ _ _ _ _ _ _ tt (λ file told. g.met.S.Source.told_are_bytes c.args.source.now file told)
     (λ file told. record {
-      finished = at_file r _ bytes file told e.written;
-      file_is = λ fault is. e.file fault is file told;
-      untouched = λ fault is. ap g.K.Sink.written (e.untouched (File fault) is (λ w. absurd cc));
-      frame_is = λ k fault is. ([], e.frame k fault is file told, ap g.K.Sink.written (e.untouched (Frame k fault) is (λ w. absurd cc)) ∙ nothing_added written);
-      cut_short = cut_or_nothing asks r file written _ (command_has_one_outcome asks file tt (g.met.S.Source.told_are_bytes c.args.source.now file told)) (λ is. ap g.K.Sink.written (e.untouched Read is (λ w. absurd cc))) (λ is. e.cut_short is file told);
-      memory = λ is. ap g.K.Sink.written (e.untouched Memory is (λ w. absurd cc));
-      no_report = e.no_report;
+      finished = subst (λ r. IfOk r (λ s. (out : List ℕ) × OutcomeOf asks file (done out (done_line asks s ∷ [])) × (g.K.Sink.written c.frame_out-answer.new.sink ≡ and_then written out))) (sym is)
+          (if_answered of_written of_decode d _ (at_file d (λ s file. (out : List ℕ) × OutcomeOf asks file (done out (done_line asks (of_written s) ∷ [])) × (g.K.Sink.written c.frame_out-answer.new.sink ≡ and_then written out)) bytes file told e.written));
+      file_is = λ fault h. e.file fault (back (File fault) h) file told;
+      untouched = λ fault h. other _ (back (File fault) h) (λ w. absurd cc);
+      frame_is = λ k fault h. ([], e.frame k fault (back (Frame k fault) h) file told, other _ (back (Frame k fault) h) (λ w. absurd cc) ∙ nothing_added written);
+      cut_short = cut_or_nothing asks r file written _ (command_has_one_outcome asks file tt (g.met.S.Source.told_are_bytes c.args.source.now file told)) (λ h. other _ (back Read h) (λ w. absurd cc)) (λ h. e.cut_short (back Write h) file told);
+      memory = λ h. other _ (back Memory h) (λ w. absurd cc);
+      no_report = λ h. decode_reports of_written d (sym is ∙ h);
     })
     (record {
-      read = e.read;
-      write = e.write;
-      sure = e.sure;
-      memory = λ is. e.untouched Memory is (λ w. absurd cc);
-      untouched = λ fault is. e.untouched (File fault) is (λ w. absurd cc);
+      read = λ h. e.read (back Read h);
+      write = λ h. e.write (back Write h);
+      sure = λ h. e.sure (back Write h);
+      memory = λ h. e.untouched _ (back Memory h) (λ w. absurd cc);
+      untouched = λ fault h. e.untouched _ (back (File fault) h) (λ w. absurd cc);
       idle = λ w. absurd w;
-      by_index = λ k is file told. few_given _ _ _ (e.given (by_index_is c.in-Frame.frame k c.in-Frame.by_index is) file told);
-      any_source = λ k is. most_for_any _ _ (e.given_any (by_index_is c.in-Frame.frame k c.in-Frame.by_index is));
-      no_report = e.no_report;
+      by_index = λ k h file told. few_given _ _ _ (e.given (by_index_is c.in-Frame.frame k c.in-Frame.by_index h) file told);
+      any_source = λ k h. most_for_any _ _ (e.given_any (by_index_is c.in-Frame.frame k c.in-Frame.by_index h));
+      no_report = λ h. decode_reports of_written d (sym is ∙ h);
     })
     (record { reported = t.reported; whole = t.whole; cut_short = t.cut_short; cause = t.cause; sure = t.sure }))
   where
@@ -83,139 +121,183 @@ returns-in-Frame g c =
 
 pub returns-in-Check : goal.returns-in-Check
 returns-in-Check g c =
-    let r = c.check_file-answer.result in
+    let d = c.check_file-answer.result in
     let e = c.check_file-answer.ensures in
+    let r = c.checked.result in
+    let is : r ≡ answered of_checked of_check d = c.checked.ensures in
+    let back : (f : Fault) → r ≡ Err f → d ≡ Err (to_check f) = λ f h. back_from of_checked of_check to_check check_again d f (sym is ∙ h) in
     let t = c.tell-in-Check.ensures in
     let bytes = g.S.Source.bytes c.args.source.now in
     let written = g.K.Sink.written c.args.sink.now in
     let same = ap command_seen c.in-Check.is in
-    let asks = asked.check c.in-Check.workers in
+    let asks = asked.check in
     let one : (file : List ℕ) → bytes ≡ Some file → One (OutcomeOf asks file) = λ file told. command_has_one_outcome asks file tt (g.met.S.Source.told_are_bytes c.args.source.now file told) in
     same_run same (run_of_answer asks r c.tell-in-Check.result bytes _ _ _ _ _ _ _ tt (λ file told. g.met.S.Source.told_are_bytes c.args.source.now file told)
     (λ file told. record {
-      finished = finished_alone asks r written file (at_file r (λ s file. OutcomeOf asks file (done [] (check_line s.frames s.unread ∷ []))) bytes file told e.sound);
-      file_is = λ fault is. e.file fault is file told;
-      untouched = λ fault is. refl;
-      frame_is = λ k fault is. ([], e.frame k fault is file told, nothing_added written);
-      cut_short = λ is. ((one file told).0, (one file told).1, nothing_cut written (one file told).0.out);
-      memory = λ is. refl;
-      no_report = e.no_report;
+      finished = finished_alone asks r written file (subst (λ r. IfOk r (λ s. OutcomeOf asks file (done [] (done_line asks s ∷ [])))) (sym is)
+          (if_answered of_checked of_check d _ (at_file d (λ s file. OutcomeOf asks file (done [] (check_line s.frames s.unread ∷ []))) bytes file told e.sound)));
+      file_is = λ fault h. e.file fault (back (File fault) h) file told;
+      untouched = λ fault h. refl;
+      frame_is = λ k fault h. ([], e.frame k fault (back (Frame k fault) h) file told, nothing_added written);
+      cut_short = λ h. ((one file told).0, (one file told).1, nothing_cut written (one file told).0.out);
+      memory = λ h. refl;
+      no_report = λ h. check_reports of_checked d (sym is ∙ h);
     })
     (record {
-      read = e.read;
-      write = λ is. absurd (e.no_write is);
-      sure = λ is. absurd (e.no_write is);
-      memory = λ is. refl;
-      untouched = λ fault is. refl;
+      read = λ h. e.read (back Read h);
+      write = λ h. absurd (check_writes of_checked d (sym is ∙ h));
+      sure = λ h. absurd (check_writes of_checked d (sym is ∙ h));
+      memory = λ h. refl;
+      untouched = λ fault h. refl;
       idle = λ w. refl;
-      by_index = λ k is. absurd (checking_is_no_frame c.in-Check.workers k is);
-      any_source = λ k is. absurd (checking_is_no_frame c.in-Check.workers k is);
-      no_report = e.no_report;
+      by_index = λ k h. absurd (checking_is_no_frame k h);
+      any_source = λ k h. absurd (checking_is_no_frame k h);
+      no_report = λ h. check_reports of_checked d (sym is ∙ h);
     })
-    (record { reported = t.reported; whole = t.whole; cut_short = t.cut_short; cause = t.cause; sure = t.sure }))
+    (subst (λ q. TellsLine (status_of r) (line_of q r) c.tell-in-Check.result (record { before = g.R.Sink.faults c.args.report.now; now = g.R.Sink.faults c.tell-in-Check.new.report }) (record { old = g.R.Sink.written c.args.report.now; new = g.R.Sink.written c.tell-in-Check.new.report; room = g.R.Sink.room c.args.report.now })) same (record { reported = t.reported; whole = t.whole; cut_short = t.cut_short; cause = t.cause; sure = t.sure })))
 
 -- ---- commands that report their lines themselves
 pub returns-in-Show : goal.returns-in-Show
 returns-in-Show g c =
-    let r = c.show_file-answer.result in
+    let d = c.show_file-answer.result in
     let e = c.show_file-answer.ensures in
+    let r = c.shown.result in
+    let is : r ≡ answered of_reported of_show d = c.shown.ensures in
+    let back : (f : Fault) → r ≡ Err f → d ≡ Err (to_show f) = λ f h. back_from of_reported of_show to_show show_again d f (sym is ∙ h) in
     let t = c.tell_fault.ensures in
     let bytes = g.S.Source.bytes c.args.source.now in
+    let written = g.K.Sink.written c.args.sink.now in
     let same = ap command_seen c.in-Show.is in
     let asks = asked.show in
     same_run same (run_of_listing asks r c.tell_fault.result bytes _ _ _ (record { before = g.R.Sink.faults c.show_file-answer.new.report; now = g.R.Sink.faults c.tell_fault.new.report }) _ _ _
-    (record { old = g.R.Sink.written c.show_file-answer.new.report; new = g.R.Sink.written c.tell_fault.new.report; room = g.R.Sink.room c.show_file-answer.new.report }) _ tt (λ k is. showing_is_no_frame k is)
+    (record { old = g.R.Sink.written c.show_file-answer.new.report; new = g.R.Sink.written c.tell_fault.new.report; room = g.R.Sink.room c.show_file-answer.new.report }) _ tt (λ k h. showing_is_no_frame k h)
     (λ file told. g.met.S.Source.told_are_bytes c.args.source.now file told) refl refl refl refl
     (λ file told. record {
-      lines = at_file r _ bytes file told e.lines;
-      file_is = λ fault is. e.file fault is file told;
-      frame_is = λ k fault is. e.frame k fault is file told;
+      lines = subst (λ r. IfOk r (λ s. (lines : List Line) × OutcomeOf asks file (done [] lines) × (g.R.Sink.written c.show_file-answer.new.report ≡ and_then (g.R.Sink.written c.args.report.now) (report lines)))) (sym is)
+          (if_answered of_reported of_show d _ (at_file d (λ s file. (lines : List Line) × OutcomeOf asks file (done [] lines) × (g.R.Sink.written c.show_file-answer.new.report ≡ and_then (g.R.Sink.written c.args.report.now) (report lines))) bytes file told e.lines));
+      file_is = λ fault h. e.file fault (back (File fault) h) file told;
+      frame_is = λ k fault h. e.frame k fault (back (Frame k fault) h) file told;
       some = let one = command_has_one_outcome asks file tt (g.met.S.Source.told_are_bytes c.args.source.now file told) in (one.0, one.1);
-      cut_short = λ is. e.cut_short is file told;
+      cut_short = λ h. e.cut_short (back Report h) file told;
     })
     (record {
-      read = e.read;
-      no_write = e.no_write;
-      reported = e.reported;
-      untouched = λ fault is other. let still = e.untouched fault is other in (ap g.R.Sink.written still, ap g.R.Sink.room still, ap g.R.Sink.faults still);
+      read = λ h. e.read (back Read h);
+      no_write = λ h. show_writes of_reported d (sym is ∙ h);
+      reported = λ h. e.reported (back Report h);
+      untouched = λ fault h other. let still = e.untouched (to_show fault) (back fault h) (λ same. other_report fault other h same) in (ap g.R.Sink.written still, ap g.R.Sink.room still, ap g.R.Sink.faults still);
     })
     (record {
       reported = t.reported;
-      done = λ s is. let d = t.done s is in (d.0, ap g.R.Sink.written d.1, ap g.R.Sink.faults d.1);
-      failed = λ is. let f = t.failed is in (f.0, ap g.R.Sink.written f.1, ap g.R.Sink.faults f.1);
+      done = λ s h. let d = t.done s h in (d.0, ap g.R.Sink.written d.1, ap g.R.Sink.faults d.1);
+      failed = λ h. let f = t.failed h in (f.0, ap g.R.Sink.written f.1, ap g.R.Sink.faults f.1);
       whole = t.whole;
       cut_short = t.cut_short;
       cause = t.cause;
       sure = t.sure;
     })
-    e.sure)
+    (λ h. e.sure (back Report h)))
+  where
+    other_report : (fault : Fault) → (fault ≢ Report) → c.shown.result ≡ Err fault → to_show fault ≡ showing.Report → ⊥
+    other_report Read other h same = absurd cc
+    other_report Memory other h same = absurd cc
+    other_report (File fault) other h same = absurd cc
+    other_report (Frame k fault) other h same = absurd cc
+    other_report Report other h same = other refl
+    other_report Write other h same = show_writes of_reported c.show_file-answer.result (sym c.shown.ensures ∙ h)
 
 pub returns-in-ShowFrame : goal.returns-in-ShowFrame
 returns-in-ShowFrame g c =
-    let r = c.show_file-answer-in-ShowFrame.result in
+    let d = c.show_file-answer-in-ShowFrame.result in
     let e = c.show_file-answer-in-ShowFrame.ensures in
+    let r = c.shown-in-ShowFrame.result in
+    let is : r ≡ answered of_reported of_show d = c.shown-in-ShowFrame.ensures in
+    let back : (f : Fault) → r ≡ Err f → d ≡ Err (to_show f) = λ f h. back_from of_reported of_show to_show show_again d f (sym is ∙ h) in
     let t = c.tell_fault-in-ShowFrame.ensures in
     let bytes = g.S.Source.bytes c.args.source.now in
+    let written = g.K.Sink.written c.args.sink.now in
     let same = ap command_seen c.in-ShowFrame.is in
     let asks = asked.show_frame c.in-ShowFrame.frame in
     same_run same (run_of_listing asks r c.tell_fault-in-ShowFrame.result bytes _ _ _ (record { before = g.R.Sink.faults c.show_file-answer-in-ShowFrame.new.report; now = g.R.Sink.faults c.tell_fault-in-ShowFrame.new.report }) _ _ _
-    (record { old = g.R.Sink.written c.show_file-answer-in-ShowFrame.new.report; new = g.R.Sink.written c.tell_fault-in-ShowFrame.new.report; room = g.R.Sink.room c.show_file-answer-in-ShowFrame.new.report }) _ tt (λ k is. showing_one_is_no_frame c.in-ShowFrame.frame k is)
+    (record { old = g.R.Sink.written c.show_file-answer-in-ShowFrame.new.report; new = g.R.Sink.written c.tell_fault-in-ShowFrame.new.report; room = g.R.Sink.room c.show_file-answer-in-ShowFrame.new.report }) _ tt (λ k h. showing_one_is_no_frame c.in-ShowFrame.frame k h)
     (λ file told. g.met.S.Source.told_are_bytes c.args.source.now file told) refl refl refl refl
     (λ file told. record {
-      lines = at_file r _ bytes file told e.lines;
-      file_is = λ fault is. e.file fault is file told;
-      frame_is = λ k fault is. e.frame k fault is file told;
+      lines = subst (λ r. IfOk r (λ s. (lines : List Line) × OutcomeOf asks file (done [] lines) × (g.R.Sink.written c.show_file-answer-in-ShowFrame.new.report ≡ and_then (g.R.Sink.written c.args.report.now) (report lines)))) (sym is)
+          (if_answered of_reported of_show d _ (at_file d (λ s file. (lines : List Line) × OutcomeOf asks file (done [] lines) × (g.R.Sink.written c.show_file-answer-in-ShowFrame.new.report ≡ and_then (g.R.Sink.written c.args.report.now) (report lines))) bytes file told e.lines));
+      file_is = λ fault h. e.file fault (back (File fault) h) file told;
+      frame_is = λ k fault h. e.frame k fault (back (Frame k fault) h) file told;
       some = let one = command_has_one_outcome asks file tt (g.met.S.Source.told_are_bytes c.args.source.now file told) in (one.0, one.1);
-      cut_short = λ is. e.cut_short is file told;
+      cut_short = λ h. e.cut_short (back Report h) file told;
     })
     (record {
-      read = e.read;
-      no_write = e.no_write;
-      reported = e.reported;
-      untouched = λ fault is other. let still = e.untouched fault is other in (ap g.R.Sink.written still, ap g.R.Sink.room still, ap g.R.Sink.faults still);
+      read = λ h. e.read (back Read h);
+      no_write = λ h. show_writes of_reported d (sym is ∙ h);
+      reported = λ h. e.reported (back Report h);
+      untouched = λ fault h other. let still = e.untouched (to_show fault) (back fault h) (λ same. other_report fault other h same) in (ap g.R.Sink.written still, ap g.R.Sink.room still, ap g.R.Sink.faults still);
     })
     (record {
       reported = t.reported;
-      done = λ s is. let d = t.done s is in (d.0, ap g.R.Sink.written d.1, ap g.R.Sink.faults d.1);
-      failed = λ is. let f = t.failed is in (f.0, ap g.R.Sink.written f.1, ap g.R.Sink.faults f.1);
+      done = λ s h. let d = t.done s h in (d.0, ap g.R.Sink.written d.1, ap g.R.Sink.faults d.1);
+      failed = λ h. let f = t.failed h in (f.0, ap g.R.Sink.written f.1, ap g.R.Sink.faults f.1);
       whole = t.whole;
       cut_short = t.cut_short;
       cause = t.cause;
       sure = t.sure;
     })
-    e.sure)
+    (λ h. e.sure (back Report h)))
+  where
+    other_report : (fault : Fault) → (fault ≢ Report) → c.shown-in-ShowFrame.result ≡ Err fault → to_show fault ≡ showing.Report → ⊥
+    other_report Read other h same = absurd cc
+    other_report Memory other h same = absurd cc
+    other_report (File fault) other h same = absurd cc
+    other_report (Frame k fault) other h same = absurd cc
+    other_report Report other h same = other refl
+    other_report Write other h same = show_writes of_reported c.show_file-answer-in-ShowFrame.result (sym c.shown-in-ShowFrame.ensures ∙ h)
 
 pub returns-in-Index : goal.returns-in-Index
 returns-in-Index g c =
-    let r = c.index_file-answer.result in
+    let d = c.index_file-answer.result in
     let e = c.index_file-answer.ensures in
+    let r = c.listed.result in
+    let is : r ≡ answered of_reported of_list d = c.listed.ensures in
+    let back : (f : Fault) → r ≡ Err f → d ≡ Err (to_list f) = λ f h. back_from of_reported of_list to_list list_again d f (sym is ∙ h) in
     let t = c.tell_fault-in-Index.ensures in
     let bytes = g.S.Source.bytes c.args.source.now in
+    let written = g.K.Sink.written c.args.sink.now in
     let same = ap command_seen c.in-Index.is in
     let asks = asked.index in
     same_run same (run_of_listing asks r c.tell_fault-in-Index.result bytes _ _ _ (record { before = g.R.Sink.faults c.index_file-answer.new.report; now = g.R.Sink.faults c.tell_fault-in-Index.new.report }) _ _ _
-    (record { old = g.R.Sink.written c.index_file-answer.new.report; new = g.R.Sink.written c.tell_fault-in-Index.new.report; room = g.R.Sink.room c.index_file-answer.new.report }) _ tt (λ k is. listing_is_no_frame k is)
+    (record { old = g.R.Sink.written c.index_file-answer.new.report; new = g.R.Sink.written c.tell_fault-in-Index.new.report; room = g.R.Sink.room c.index_file-answer.new.report }) _ tt (λ k h. listing_is_no_frame k h)
     (λ file told. g.met.S.Source.told_are_bytes c.args.source.now file told) refl refl refl refl
     (λ file told. record {
-      lines = at_file r _ bytes file told e.lines;
-      file_is = λ fault is. e.file fault is file told;
-      frame_is = λ k fault is. absurd (e.no_frame k fault is);
+      lines = subst (λ r. IfOk r (λ s. (lines : List Line) × OutcomeOf asks file (done [] lines) × (g.R.Sink.written c.index_file-answer.new.report ≡ and_then (g.R.Sink.written c.args.report.now) (report lines)))) (sym is)
+          (if_answered of_reported of_list d _ (at_file d (λ s file. (lines : List Line) × OutcomeOf asks file (done [] lines) × (g.R.Sink.written c.index_file-answer.new.report ≡ and_then (g.R.Sink.written c.args.report.now) (report lines))) bytes file told e.lines));
+      file_is = λ fault h. e.file fault (back (File fault) h) file told;
+      frame_is = λ k fault h. absurd (list_refuses of_reported d k fault (sym is ∙ h));
       some = let one = command_has_one_outcome asks file tt (g.met.S.Source.told_are_bytes c.args.source.now file told) in (one.0, one.1);
-      cut_short = λ is. e.cut_short is file told;
+      cut_short = λ h. e.cut_short (back Report h) file told;
     })
     (record {
-      read = e.read;
-      no_write = e.no_write;
-      reported = e.reported;
-      untouched = λ fault is other. let still = e.untouched fault is other in (ap g.R.Sink.written still, ap g.R.Sink.room still, ap g.R.Sink.faults still);
+      read = λ h. e.read (back Read h);
+      no_write = λ h. list_writes of_reported d (sym is ∙ h);
+      reported = λ h. e.reported (back Report h);
+      untouched = λ fault h other. let still = e.untouched (to_list fault) (back fault h) (λ same. other_report fault other h same) in (ap g.R.Sink.written still, ap g.R.Sink.room still, ap g.R.Sink.faults still);
     })
     (record {
       reported = t.reported;
-      done = λ s is. let d = t.done s is in (d.0, ap g.R.Sink.written d.1, ap g.R.Sink.faults d.1);
-      failed = λ is. let f = t.failed is in (f.0, ap g.R.Sink.written f.1, ap g.R.Sink.faults f.1);
+      done = λ s h. let d = t.done s h in (d.0, ap g.R.Sink.written d.1, ap g.R.Sink.faults d.1);
+      failed = λ h. let f = t.failed h in (f.0, ap g.R.Sink.written f.1, ap g.R.Sink.faults f.1);
       whole = t.whole;
       cut_short = t.cut_short;
       cause = t.cause;
       sure = t.sure;
     })
-    e.sure)
+    (λ h. e.sure (back Report h)))
+  where
+    other_report : (fault : Fault) → (fault ≢ Report) → c.listed.result ≡ Err fault → to_list fault ≡ listing.Report → ⊥
+    other_report Read other h same = absurd cc
+    other_report Memory other h same = absurd cc
+    other_report (File fault) other h same = absurd cc
+    other_report (Frame k fault) other h same = list_refuses of_reported c.index_file-answer.result k fault (sym c.listed.ensures ∙ h)
+    other_report Report other h same = other refl
+    other_report Write other h same = list_writes of_reported c.index_file-answer.result (sym c.listed.ensures ∙ h)
+
