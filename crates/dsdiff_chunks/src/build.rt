@@ -63,7 +63,11 @@ pub fn read_parts<S: Source>(alloc: Global, source: &mut S) -> Result<Parts, Ope
 }
 
 /// A plain form, of its parts.
-pub fn plain_form<S: Source>(alloc: Global, source: &mut S, parts: Parts) -> Result<PlainForm, OpenFault>
+pub fn plain_form<S: Source>(
+    alloc: Global,
+    source: &mut S,
+    parts: Parts,
+) -> Result<PlainForm, OpenFault>
     requires parts { AreParts (S.bytes source.old) (S.known source.old) parts }
     requires kind { parts.sound.kind ≡ Kind.Plain }
     ensures source { Reads S.bytes S.known S.faults S.given source.old source.new 131104 }
@@ -78,14 +82,11 @@ pub fn plain_form<S: Source>(alloc: Global, source: &mut S, parts: Parts) -> Res
         sound,
     } = parts;
     let channels = prop.fields.channels;
-    let PlainParts { frames, pad, behind } = match read_plain(
-        alloc,
-        source,
-        &chunks,
-        prop_head.size,
-        sound.head,
-        channels,
-    ) {
+    let PlainParts {
+        frames,
+        pad,
+        behind,
+    } = match read_plain(alloc, source, &chunks, prop_head.size, sound.head, channels) {
         Ok(plain) => plain,
         Err(fault) => return Err(fault),
     };
@@ -104,7 +105,11 @@ pub fn plain_form<S: Source>(alloc: Global, source: &mut S, parts: Parts) -> Res
 }
 
 /// A coded form, of its parts.
-pub fn coded_form<S: Source>(alloc: Global, source: &mut S, parts: Parts) -> Result<CodedForm, OpenFault>
+pub fn coded_form<S: Source>(
+    alloc: Global,
+    source: &mut S,
+    parts: Parts,
+) -> Result<CodedForm, OpenFault>
     requires parts { AreParts (S.bytes source.old) (S.known source.old) parts }
     requires kind { parts.sound.kind ≡ Kind.Coded }
     ensures source { Reads S.bytes S.known S.faults S.given source.old source.new 131104 }

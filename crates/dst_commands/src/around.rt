@@ -9,7 +9,7 @@ ghost use Rattle.dsdiff_chunks.specs.declared.copy.CopyFault.{CopyFault};
 ghost use Rattle.dst_commands.specs.Passing.{FailedBy};
 ghost use Rattle.dst_commands.specs.Writing.{Adds, Stops};
 
-use crate::chunks::{Side, pad_of, pass_chunks, kept_of};
+use crate::chunks::{Side, kept_of, pad_of, pass_chunks};
 use crate::pieces::write_any;
 use crate::sizes::form_size;
 use dsdiff_chunks::{CodedForm, CopyFault, write_head};

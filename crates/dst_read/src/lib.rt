@@ -36,3 +36,6 @@ pub use faults::{
 pub use listing::index_file;
 pub use one_frame::frame_out;
 pub use show::show_file;
+
+#[cfg(test)]
+mod tests;

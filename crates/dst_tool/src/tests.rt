@@ -1,12 +1,10 @@
 // What the top call decodes, refuses, and leaves where a device fails, over files that are known byte for byte.
-use super::*;
+use crate::dst_run;
 use dst_streams::{MemorySink, MemorySource};
 use std::alloc::{AllocError, Global};
 use std::process::Abort;
 use std::thread::Threads;
 
-mod calls;
-mod crew;
 mod devices;
 mod files;
 mod reading;

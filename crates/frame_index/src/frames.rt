@@ -71,7 +71,11 @@ fn next_head<S: Source>(source: &mut S, place: u64, end: u64) -> Result<ChunkHea
 }
 
 // Walks the chunks, and has the entries of as many frames as the frame count says.
-fn walk_from<S: Source>(source: &mut S, form: &CodedForm, entries: Index) -> Result<Index, OpenFault>
+fn walk_from<S: Source>(
+    source: &mut S,
+    form: &CodedForm,
+    entries: Index,
+) -> Result<Index, OpenFault>
     requires none { entries ≡ [] }
     requires size { (n : ℕ) × (S.known source.old ≡ Some n) × (form.now.end ≤ n) }
     ensures bytes { S.bytes source.new ≡ S.bytes source.old }

@@ -22,7 +22,11 @@ use std::alloc::Global;
 ///
 /// `IndexMissing`, where the form has no `DSTI`; `IndexBad`, of the number of frames that `FRTE` tells, where the size of
 /// `DSTI` isn't twelve bytes for each of them.
-pub fn read_index<S: Source>(alloc: Global, source: &mut S, form: &CodedForm) -> Result<Index, OpenFault>
+pub fn read_index<S: Source>(
+    alloc: Global,
+    source: &mut S,
+    form: &CodedForm,
+) -> Result<Index, OpenFault>
     requires size { (n : ℕ) × (S.known source.old ≡ Some n) × (form.now.end ≤ n) }
     ensures bytes { S.bytes source.new ≡ S.bytes source.old }
     ensures size_stays { S.known source.new ≡ S.known source.old }
@@ -52,7 +56,11 @@ pub fn read_index<S: Source>(alloc: Global, source: &mut S, form: &CodedForm) ->
 /// frame passes the end of `DST `, or where the twelve bytes before it aren't the head of a `DSTF` of this size;
 /// `FrameTooLong`, where the frame has more than `2 * (f + 1)` bytes, f being the bytes of a frame's sound. It takes no
 /// memory.
-pub fn locate_by_index<S: Source>(source: &mut S, form: &CodedForm, k: u32) -> Result<Entry, OpenFault>
+pub fn locate_by_index<S: Source>(
+    source: &mut S,
+    form: &CodedForm,
+    k: u32,
+) -> Result<Entry, OpenFault>
     requires size { (n : ℕ) × (S.known source.old ≡ Some n) × (form.now.end ≤ n) }
     requires below { k < form.now.frames }
     ensures bytes { S.bytes source.new ≡ S.bytes source.old }

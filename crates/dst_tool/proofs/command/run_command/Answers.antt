@@ -300,4 +300,3 @@ returns-in-Index g c =
     other_report (Frame k fault) other h same = list_refuses of_reported c.index_file-answer.result k fault (sym c.listed.ensures ∙ h)
     other_report Report other h same = other refl
     other_report Write other h same = list_writes of_reported c.index_file-answer.result (sym c.listed.ensures ∙ h)
-

@@ -1,7 +1,7 @@
 // Frames that several workers decode and check.
 use super::files::{SILENT, chunk, coded, frame, odd_plain, one_frame, two_frames, with_bytes};
-use crate::{Summary, ToolFault, check_file, decode_file};
-use dsdiff_spec::FileFault;
+use crate::{CheckFault, Checked, DecodeFault, Decoded, check_file, decode_file};
+use dsdiff_chunks::{FileFault, OpenFault};
 use dst_spec::{FrameFault, Reason};
 use dst_streams::{HonestSource, MemorySink};
 use frame_crew::{Gate, OpenGate};
@@ -50,23 +50,20 @@ fn two_frames_are_decoded_and_checked_at_once(rt: HostRuntime) -> Result<(), Fai
     let mut source = HonestSource::new(&file);
     let mut sink = MemorySink::new(alloc, 10_000, &[])?;
     let decoded = decode_file(&rt, alloc, &mut source, &mut sink, 2, &gate);
-    let summary = Summary {
+    let done = Decoded {
         frames: 2,
         bytes: 4705,
-        unread: 0,
     };
-    assert_eq!(rt; decoded, Ok(summary));
+    assert_eq!(rt; decoded, Ok(done));
     assert!(rt; sink.written() == whole.as_slice());
     assert!(rt; !gate.ran_out.load(Ordering::SeqCst));
     let gate = Holding::new();
     let checked = check_file(&rt, alloc, &mut source, 2, &gate);
-    assert_eq!(rt;
-        checked,
-        Ok(Summary {
-            bytes: 0,
-            ..summary
-        })
-    );
+    let sound = Checked {
+        frames: 2,
+        unread: 0,
+    };
+    assert_eq!(rt; checked, Ok(sound));
     assert!(rt; !gate.ran_out.load(Ordering::SeqCst));
     Ok(())
 }
@@ -90,25 +87,30 @@ fn the_earlier_of_two_refused_frames_is_told(rt: HostRuntime) -> Result<(), Fail
     for (first, second, written, frame) in &cases {
         let file = with_bytes(alloc, &file, 152, first)?;
         let file = with_bytes(alloc, &file, 4870, second)?;
-        let refused = Err(ToolFault::Frame {
-            frame: *frame,
-            fault: STUFFING,
-        });
         let mut source = HonestSource::new(&file);
         let mut sink = MemorySink::new(alloc, 10_000, &[])?;
         let decoded = decode_file(&rt, alloc, &mut source, &mut sink, 2, &OpenGate);
-        assert_eq!(rt; decoded, refused);
+        let refused = DecodeFault::Frame {
+            frame: *frame,
+            fault: STUFFING,
+        };
+        assert_eq!(rt; decoded, Err(refused));
         let written = (*written).min(whole.len());
         assert!(rt; sink.written() == &whole[..written], "frame {frame}");
-        assert_eq!(rt; check_file(&rt, alloc, &mut source, 2, &OpenGate), refused);
+        let refused = CheckFault::Frame {
+            frame: *frame,
+            fault: STUFFING,
+        };
+        let checked = check_file(&rt, alloc, &mut source, 2, &OpenGate);
+        assert_eq!(rt; checked, Err(refused));
     }
     Ok(())
 }
 
-fn check<R: Threads + Sync>(rt: &R, alloc: Global, file: &[u8]) -> Result<(u32, u64), ToolFault> {
+fn check<R: Threads + Sync>(rt: &R, alloc: Global, file: &[u8]) -> Result<(u32, u64), CheckFault> {
     let mut source = HonestSource::new(file);
     match check_file(rt, alloc, &mut source, 1, &OpenGate) {
-        Ok(summary) => Ok((summary.frames, summary.unread)),
+        Ok(sound) => Ok((sound.frames, sound.unread)),
         Err(fault) => Err(fault),
     }
 }
@@ -130,8 +132,8 @@ fn a_file_is_checked_by_its_index_and_its_frames(rt: HostRuntime) -> Result<(), 
     let both_off = with_bytes(alloc, &second_off, 9595, b"\x99")?;
     let right = indexed(alloc, b"\0\0\0\0\0\0\0\x98\0\0\0\x06")?;
     let missing = indexed(alloc, b"")?;
-    let bad = |entry: u32| Err(ToolFault::File(FileFault::IndexBad { entry }));
-    let cases: [(&[u8], Result<(u32, u64), ToolFault>); 7] = [
+    let bad = |entry: u32| Err(CheckFault::Source(OpenFault::File(FileFault::IndexBad { entry })));
+    let cases: [(&[u8], Result<(u32, u64), CheckFault>); 7] = [
         (SILENT, Ok((0, 0))),
         (&longer, Ok((1, 3))),
         (&two, Ok((2, 0))),

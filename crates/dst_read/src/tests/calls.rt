@@ -1,14 +1,13 @@
 // The calls that list and show a file, and give one frame: each by itself, and over devices that fail.
 use super::files::two_frames;
-use crate::{Summary, ToolFault, frame_out, index_file, show_file};
+use crate::{
+    DecodeFault, FrameWritten, ListFault, Reported, ShowFault, frame_out, index_file, show_file,
+};
+use dsdiff_chunks::OpenFault;
 use dst_streams::{HonestSource, MemorySink, MemorySource};
 use std::test::Fail;
 
-const REPORTED: Summary = Summary {
-    frames: 2,
-    bytes: 0,
-    unread: 0,
-};
+const REPORTED: Reported = Reported { frames: 2 };
 
 #[test]
 fn a_file_is_shown_and_listed(rt: HostRuntime) -> Result<(), Fail> {
@@ -45,12 +44,7 @@ fn the_sound_of_one_frame_is_written(rt: HostRuntime) -> Result<(), Fail> {
         let mut source = HonestSource::new(&two);
         let mut sink = MemorySink::new(alloc, 5_000, &[])?;
         let answer = frame_out(alloc, &mut source, &mut sink, 1, by_index);
-        let done = Summary {
-            frames: 1,
-            bytes: 4704,
-            unread: 0,
-        };
-        assert_eq!(rt; answer, Ok(done));
+        assert_eq!(rt; answer, Ok(FrameWritten { bytes: 4704 }));
         assert!(rt; sink.written() == sound.as_slice());
     }
     Ok(())
@@ -61,9 +55,9 @@ fn devices_that_fail_are_told(rt: HostRuntime) -> Result<(), Fail> {
     let alloc = rt.alloc();
     let two = two_frames(alloc)?;
     let calls: [&[u64]; 3] = [&[0], &[1], &[2]];
-    let listed: [(&str, Result<Summary, ToolFault>); 3] = [
-        ("0 152", Err(ToolFault::Report)),
-        ("0 152 4705\n1 4870", Err(ToolFault::Report)),
+    let listed: [(&str, Result<Reported, ListFault>); 3] = [
+        ("0 152", Err(ListFault::Report)),
+        ("0 152 4705\n1 4870", Err(ListFault::Report)),
         ("0 152 4705\n1 4870 4705\n", Ok(REPORTED)),
     ];
     for (fails, (lines, answer)) in calls.iter().zip(&listed) {
@@ -74,13 +68,13 @@ fn devices_that_fail_are_told(rt: HostRuntime) -> Result<(), Fail> {
     }
     let mut report = MemorySink::new(alloc, 100, &[0])?;
     let answer = show_file(alloc, &mut HonestSource::new(&two), &mut report, None);
-    assert_eq!(rt; answer, Err(ToolFault::Report));
+    assert_eq!(rt; answer, Err(ShowFault::Report));
     let mut sink = MemorySink::new(alloc, 5_000, &[0])?;
     let answer = frame_out(alloc, &mut HonestSource::new(&two), &mut sink, 0, true);
-    assert_eq!(rt; answer, Err(ToolFault::Write));
+    assert_eq!(rt; answer, Err(DecodeFault::Write));
     let mut report = MemorySink::new(alloc, 100, &[])?;
     let mut source = MemorySource::new(&two, &[], &[0]);
     let answer = show_file(alloc, &mut source, &mut report, Some(0));
-    assert_eq!(rt; answer, Err(ToolFault::Read));
+    assert_eq!(rt; answer, Err(ShowFault::Source(OpenFault::Read)));
     Ok(())
 }

@@ -1,0 +1,143 @@
+// Files of one channel at 64 times 44.1 kHz, built chunk by chunk.
+use std::alloc::{AllocError, Global};
+
+pub(super) const VERSION: &[u8; 16] = b"FVER\0\0\0\0\0\0\0\x04\x01\x05\0\0";
+
+pub(super) const CODED_PROP: &[u8; 78] = b"PROP\0\0\0\0\0\0\0\x42SND \
+FS  \0\0\0\0\0\0\0\x04\0\x2b\x11\0\
+CHNL\0\0\0\0\0\0\0\x06\0\x01C000\
+CMPR\0\0\0\0\0\0\0\x10DST \x0bDST Encoded";
+
+pub(super) const PLAIN_PROP: &[u8; 82] = b"PROP\0\0\0\0\0\0\0\x46SND \
+FS  \0\0\0\0\0\0\0\x04\0\x2b\x11\0\
+CHNL\0\0\0\0\0\0\0\x06\0\x01C000\
+CMPR\0\0\0\0\0\0\0\x13DSD \x0enot compressed\0";
+
+pub(super) const PLAIN_CMPR: &[u8; 32] = b"CMPR\0\0\0\0\0\0\0\x13DSD \x0enot compressed\0";
+
+/// A coded file of one frame, whose six bytes mean 4,704 bytes FF.
+pub(super) const EXAMPLE: &[u8; 158] = b"FRM8\0\0\0\0\0\0\0\x92DSD \
+FVER\0\0\0\0\0\0\0\x04\x01\x05\0\0\
+PROP\0\0\0\0\0\0\0\x42SND \
+FS  \0\0\0\0\0\0\0\x04\0\x2b\x11\0\
+CHNL\0\0\0\0\0\0\0\x06\0\x01C000\
+CMPR\0\0\0\0\0\0\0\x10DST \x0bDST Encoded\
+DST \0\0\0\0\0\0\0\x24\
+FRTE\0\0\0\0\0\0\0\x06\0\0\0\x01\0\x4b\
+DSTF\0\0\0\0\0\0\0\x06\xfc\0\0\x05\xff\xf8";
+
+/// A plain file without sound.
+pub(super) const SILENT: &[u8; 126] = b"FRM8\0\0\0\0\0\0\0\x72DSD \
+FVER\0\0\0\0\0\0\0\x04\x01\x05\0\0\
+PROP\0\0\0\0\0\0\0\x46SND \
+FS  \0\0\0\0\0\0\0\x04\0\x2b\x11\0\
+CHNL\0\0\0\0\0\0\0\x06\0\x01C000\
+CMPR\0\0\0\0\0\0\0\x13DSD \x0enot compressed\0\
+DSD \0\0\0\0\0\0\0\0";
+
+/// The parts, one behind the other.
+pub(super) fn joined(alloc: Global, parts: &[&[u8]]) -> Result<Vec<u8>, AllocError> {
+    let mut bytes = Vec::new(alloc);
+    for part in parts {
+        bytes.extend_from_slice(part)?;
+    }
+    Ok(bytes)
+}
+
+/// A chunk with these parts as its body, and this pad byte behind a body of odd size.
+pub(super) fn chunk(
+    alloc: Global,
+    id: &[u8; 4],
+    parts: &[&[u8]],
+    pad: u8,
+) -> Result<Vec<u8>, AllocError> {
+    let body = joined(alloc, parts)?;
+    let size = (body.len() as u64).to_be_bytes();
+    let pads = [pad];
+    let pad: &[u8] = if body.len() % 2 == 1 { &pads } else { &[] };
+    joined(alloc, &[id, &size, &body, pad])
+}
+
+/// A coded file: what stands in `DST ` behind the head of frames, and the chunks behind `DST `.
+pub(super) fn coded(
+    alloc: Global,
+    count: u32,
+    frames: &[&[u8]],
+    behind: &[u8],
+) -> Result<Vec<u8>, AllocError> {
+    let head = chunk(alloc, b"FRTE", &[&count.to_be_bytes(), b"\0\x4b"], 0)?;
+    let frames = joined(alloc, frames)?;
+    let sound = chunk(alloc, b"DST ", &[&head, &frames], 0)?;
+    chunk(
+        alloc,
+        b"FRM8",
+        &[b"DSD ", VERSION, CODED_PROP, &sound, behind],
+        0,
+    )
+}
+
+/// A plain file of this sound, with this pad byte behind a sound of odd size.
+pub(super) fn plain(alloc: Global, sound: &[u8], pad: u8) -> Result<Vec<u8>, AllocError> {
+    let sound = chunk(alloc, b"DSD ", &[sound], pad)?;
+    chunk(alloc, b"FRM8", &[b"DSD ", VERSION, PLAIN_PROP, &sound], 0)
+}
+
+/// A chunk with a frame of these parts.
+pub(super) fn frame(alloc: Global, parts: &[&[u8]]) -> Result<Vec<u8>, AllocError> {
+    chunk(alloc, b"DSTF", parts, 0)
+}
+
+/// A coded file of one frame of these parts.
+pub(super) fn one_frame(alloc: Global, parts: &[&[u8]]) -> Result<Vec<u8>, AllocError> {
+    let frame = frame(alloc, parts)?;
+    coded(alloc, 1, &[&frame], &[])
+}
+
+/// The file with other bytes at one place, or the file itself where they would pass its end.
+pub(super) fn with_bytes(
+    alloc: Global,
+    file: &[u8],
+    place: usize,
+    bytes: &[u8],
+) -> Result<Vec<u8>, AllocError> {
+    if bytes.len() > file.len() || place > file.len() - bytes.len() {
+        return joined(alloc, &[file]);
+    }
+    joined(
+        alloc,
+        &[&file[..place], bytes, &file[place + bytes.len()..]],
+    )
+}
+
+/// A sound whose bytes count from 0 to 250, over and over.
+pub(super) fn counting(alloc: Global, size: u32) -> Result<Vec<u8>, AllocError> {
+    let mut sound = Vec::new(alloc);
+    for i in 0..size {
+        sound.push((i % 251) as u8)?;
+    }
+    Ok(sound)
+}
+
+/// The plain file of 4,705 counting bytes and the pad byte 7.
+pub(super) fn odd_plain(alloc: Global) -> Result<Vec<u8>, AllocError> {
+    let sound = counting(alloc, 4705)?;
+    plain(alloc, &sound, 7)
+}
+
+/// The coded file of that plain file: two frames in the plain form, an index, and the size and the pad byte kept.
+pub(super) fn two_frames(alloc: Global) -> Result<Vec<u8>, AllocError> {
+    let sound = counting(alloc, 4704)?;
+    let filling = vec![in alloc; 0x69; 4703]?;
+    let first = frame(alloc, &[b"\0", &sound])?;
+    // Byte 4,704 is 186.
+    let second = frame(alloc, &[b"\0\xba", &filling])?;
+    let behind = joined(
+        alloc,
+        &[
+            b"DSTI\0\0\0\0\0\0\0\x18\0\0\0\0\0\0\0\x98\0\0\x12\x61\0\0\0\0\0\0\x13\x06\0\0\x12\x61",
+            b"KEPT\0\0\0\0\0\0\0\x2e\x02\0\0\0\0\0\0\x12\x61\x07\0\0\0\0",
+            PLAIN_CMPR,
+        ],
+    )?;
+    coded(alloc, 2, &[&first, &second], &behind)
+}
