@@ -13,7 +13,8 @@
 //! }
 //! ```
 //!
-//! The frames together are `made_sound` of the definitions (`laws`): the first sample of each channel is the dither's sign.
+//! The frames together are `made_sound` of the definitions (`laws`). The first sample of each channel is 1 where the dither is 0
+//! or greater.
 #![tactic(auto)]
 
 pub mod laws;

@@ -17,7 +17,7 @@ fn weighed(sound: &[u8]) -> u64 {
 // generator's published steps.
 #[test]
 fn two_frames_are_those_of_another_program(rt: HostRuntime) -> Result<(), Fail> {
-    let rows = [
+    let rows: [(u32, u32, u32, [u8; 6], [u8; 6], u64); 3] = [
         (
             7,
             1,
@@ -48,9 +48,9 @@ fn two_frames_are_those_of_another_program(rt: HostRuntime) -> Result<(), Fail> 
         let mut maker = SoundMaker::new(start, channels);
         let mut sound = vec![in rt.alloc(); 0u8; channels.sound_bytes()]?;
         maker.next_frame(&mut sound);
-        assert_eq!(rt; sound[..6], first);
+        assert!(rt; &sound[..6] == first.as_slice(), "frame 0 of {start}");
         maker.next_frame(&mut sound);
-        assert_eq!(rt; sound[..6], second);
+        assert!(rt; &sound[..6] == second.as_slice(), "frame 1 of {start}");
         assert_eq!(rt; weighed(&sound), sum);
     }
     Ok(())
