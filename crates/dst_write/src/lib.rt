@@ -1,0 +1,17 @@
+//! The commands that write coded files: each of them alone, over a source and a sink.
+//!
+//! [`encode_file`] writes the coded file of a plain one, with the parameters that a picker finds for each frame. It answers what it
+//! did, or the first fault, of a type that has the faults that it can give and no others.
+//!
+//! ```text
+//! match encode_file(&rt, alloc, &mut source, &mut sink, &picker, 4, &OpenGate) {
+//!     Ok(Encoded { frames, bytes }) => ..
+//!     Err(EncodeFault::Source(fault)) => .. // read fault, want of memory, or the file is refused
+//!     Err(EncodeFault::Write) => ..
+//! }
+//! ```
+#![tactic(auto)]
+
+mod faults;
+
+pub use faults::{EncodeFault, Encoded};
