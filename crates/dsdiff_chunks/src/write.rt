@@ -24,7 +24,7 @@ pub fn write_head<K: Sink>(sink: &mut K, id: [u8; 4], size: u64) -> Result<(), F
 }
 
 // An id and a size as they stand in a file.
-fn head_bytes(id: [u8; 4], size: u64) -> [u8; 12]
+pub(crate) fn head_bytes(id: [u8; 4], size: u64) -> [u8; 12]
     ensures { result ≡ id ++ big_bytes 8 size }
 {
     let mut head = [0; 12];
@@ -62,7 +62,7 @@ pub fn prop_length(prop: &[u8], cmpr: &[u8]) -> u64
 }
 
 // Appends pieces one after the other.
-fn append_all<K: Sink>(sink: &mut K, pieces: &[&[u8]]) -> Result<(), Failed>
+pub(crate) fn append_all<K: Sink>(sink: &mut K, pieces: &[&[u8]]) -> Result<(), Failed>
     ensures written { MatchResult result (λ _. K.written sink.new ≡ and_then (K.written sink.old) (flat_map (λ p. p.now) pieces.now)) (λ _. IsCutShort (K.written sink.old) (flat_map (λ p. p.now) pieces.now) (K.written sink.new)) }
     ensures appended { OnOk result (K.appended sink.new ≡ K.appended sink.old + length (flat_map (λ p. p.now) pieces.now)) }
     ensures sure { IsSure (K.room sink.old) (K.room sink.new) (length (flat_map (λ p. p.now) pieces.now)) result }
