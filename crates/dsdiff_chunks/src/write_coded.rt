@@ -12,6 +12,7 @@ use dst_streams::{Failed, Sink};
 pub fn write_frte<K: Sink>(sink: &mut K, frames: u32) -> Result<(), Failed>
     ensures written { MatchResult result (λ _. K.written sink.new ≡ and_then (K.written sink.old) (frte frames)) (λ _. IsCutShort (K.written sink.old) (frte frames) (K.written sink.new)) }
     ensures appended { OnOk result (K.appended sink.new ≡ K.appended sink.old + length (frte frames)) }
+    ensures grows { K.appended sink.old ≤ K.appended sink.new }
     ensures sure { IsSure (K.room sink.old) (K.room sink.new) (length (frte frames)) result }
     ensures cause { HasCause (K.faults sink.old) (K.faults sink.new) result }
 {
@@ -23,6 +24,7 @@ pub fn write_frte<K: Sink>(sink: &mut K, frames: u32) -> Result<(), Failed>
 pub fn write_frame<K: Sink>(sink: &mut K, frame: &[u8]) -> Result<(), Failed>
     ensures written { MatchResult result (λ _. K.written sink.new ≡ and_then (K.written sink.old) (dstf frame.now)) (λ _. IsCutShort (K.written sink.old) (dstf frame.now) (K.written sink.new)) }
     ensures appended { OnOk result (K.appended sink.new ≡ K.appended sink.old + length (dstf frame.now)) }
+    ensures grows { K.appended sink.old ≤ K.appended sink.new }
     ensures sure { IsSure (K.room sink.old) (K.room sink.new) (length (dstf frame.now)) result }
     ensures cause { HasCause (K.faults sink.old) (K.faults sink.new) result }
 {
@@ -35,6 +37,7 @@ pub fn write_frame<K: Sink>(sink: &mut K, frame: &[u8]) -> Result<(), Failed>
 pub fn write_entry<K: Sink>(sink: &mut K, offset: u64, size: u32) -> Result<(), Failed>
     ensures written { MatchResult result (λ _. K.written sink.new ≡ and_then (K.written sink.old) (big_bytes 8 offset ++ big_bytes 4 size)) (λ _. IsCutShort (K.written sink.old) (big_bytes 8 offset ++ big_bytes 4 size) (K.written sink.new)) }
     ensures appended { OnOk result (K.appended sink.new ≡ K.appended sink.old + 12) }
+    ensures grows { K.appended sink.old ≤ K.appended sink.new }
     ensures sure { IsSure (K.room sink.old) (K.room sink.new) 12 result }
     ensures cause { HasCause (K.faults sink.old) (K.faults sink.new) result }
 {
@@ -63,6 +66,7 @@ pub fn write_origin<K: Sink>(
     requires kept { length kept.now ≤ 65536 }
     ensures written { MatchResult result (λ _. K.written sink.new ≡ and_then (K.written sink.old) (origin_chunk sound pad cmpr.now kept.now)) (λ _. IsCutShort (K.written sink.old) (origin_chunk sound pad cmpr.now kept.now) (K.written sink.new)) }
     ensures appended { OnOk result (K.appended sink.new ≡ K.appended sink.old + length (origin_chunk sound pad cmpr.now kept.now)) }
+    ensures grows { K.appended sink.old ≤ K.appended sink.new }
     ensures sure { IsSure (K.room sink.old) (K.room sink.new) (length (origin_chunk sound pad cmpr.now kept.now)) result }
     ensures cause { HasCause (K.faults sink.old) (K.faults sink.new) result }
 {
