@@ -1,2 +1,6 @@
 pub mod Unfinished
 pub mod Encoding
+pub mod Jobs
+pub mod Feeding
+pub mod Draining
+pub mod Frames

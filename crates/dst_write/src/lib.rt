@@ -12,6 +12,11 @@
 //! ```
 #![tactic(auto)]
 
+mod drain;
 mod faults;
+mod feed;
+mod frames;
+mod jobs;
+mod work;
 
 pub use faults::{EncodeFault, Encoded};
