@@ -1,3 +1,4 @@
 pub mod InOrder
 pub mod Writing
 pub mod Passed
+pub mod InTurn
