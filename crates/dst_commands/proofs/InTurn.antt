@@ -1,8 +1,8 @@
--- The parts of a list that are written in turn, and buffers that were lent whole.
+-- The parts of a list that are written in turn.
 use Rattle.std.proofs.Common.{◌≡◌, ℕ, ◌+◌, ◌<◌, ◌≤◌, List, [], ◌∷◌, ◌++◌, length, take, drop, get_or, Option, ap, sym, subst, ◌∙◌, arith, append-nil, take-append-drop}
 use Rattle.std.specs.Prelude.{flat_map}
 use Rattle.std.proofs.lemmas.Grind.{flat_map-append}
-use Rattle.std.proofs.lemmas.List.{drop_all, take_more, take_all}
+use Rattle.std.proofs.lemmas.List.{take_more, take_all}
 use Rattle.dsdiff_spec.proofs.Progress.{BeginsWith}
 use Rattle.dst_commands.specs.Writing.{Adds, Stops}
 use Rattle.dst_commands.proofs.Writing.{adds_same, adds_then, stops_then, stops_in}
@@ -38,10 +38,3 @@ stops_in_part P part xs k d piece old mid new room half l is before s =
 
 pub all_parts : {X : Type 0} (part : Parts X) (xs : List X) (k : ℕ) (old new : Option (List ℕ)) (room left : Option ℕ) → length xs ≤ k → Adds (flat_map part (take k xs)) old new room left → Adds (flat_map part xs) old new room left
 all_parts part xs k old new room left l h = adds_same (flat_map part (take k xs)) (flat_map part xs) old new room left (ap (flat_map part) (take_all k xs l)) h
-
--- ---- buffers
--- a buffer that was lent whole is the one that came back
-pub lent_whole : (n : ℕ) (xs new old : List ℕ) → xs ≡ take n (new ++ drop (length new) old) → n ≡ length old → length new ≡ length old → xs ≡ new
-lent_whole n xs new old is count same =
-    let rest : drop (length new) old ≡ [] = ap (λ m. drop m old) same ∙ drop_all (length old) old (omega arith) in
-    is ∙ ap (λ ys. take n (new ++ ys)) rest ∙ ap (take n) (append-nil new) ∙ take_all n new (omega arith)

@@ -1,7 +1,7 @@
 -- The stored bytes stand at the front of the job's frame.
 use Rattle.std.proofs.Common.{◌≡◌, ℕ, ◌+◌, ◌≤◌, List, length, take, refl, ap, sym, subst, ◌∙◌, arith, length-take}
+use Rattle.std.proofs.lemmas.List.{with_items_is}
 use Rattle.dst_spec.specs.Spell.{stored}
-use Rattle.dst_commands.proofs.InTurn.{lent_whole}
 use Rattle.dst_write.proofs.Shapes.{room_for}
 use Rattle.dst_write.proofs.work.FrameStorerJobWork.work_job.Goals as goal
 
@@ -11,7 +11,7 @@ returns-clause-done g c =
     let kept = c.stored-stored.result.now in
     let old = c.args.job.now.frame in
     let long : length c.put_at_front.new.buffer ≡ length old.items = c.put_at_front.ensures.long ∙ ap length c.deref_mut.ensures.value in
-    let whole = lent_whole old.len _ c.put_at_front.new.buffer old.items refl (sym c.deref_mut.ensures.len ∙ ap length c.deref_mut.ensures.value) long in
+    let whole = with_items_is old c.put_at_front.new.buffer (c.put_at_front.ensures.long ∙ c.deref_mut.ensures.len) in
     let front = ap (take (length kept)) whole ∙ c.put_at_front.ensures.front in
     let room = room_for c.args.job.now.size (length old.items) (length c.args.job.now.sound.items) c.args.job.now.channels f c.args.self.now.few c.requires.job in
     record {
