@@ -1,5 +1,5 @@
 -- A feed that goes on: it stays the same feed, of a source that tells the same.
-use Rattle.std.proofs.Common.{◌≡◌, ℕ, ◌+◌, ◌<◌, ◌≤◌, ◌⊎◌, inl, inr, List, Option, Some, refl, ap, sym, subst, ◌∙◌, arith}
+use Rattle.std.proofs.Common.{◌≡◌, ℕ, ◌<◌, ◌⊎◌, inl, inr, List, Option, Some, refl, ap, sym, subst, ◌∙◌, arith}
 use Rattle.dst_spec.specs.Sample.{sound_bytes}
 use Rattle.dst_streams.specs.Causes.{Rose}
 use Rattle.dst_streams.proofs.Counts.{Rose-earlier}

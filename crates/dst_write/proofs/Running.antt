@@ -1,5 +1,5 @@
 -- A run of batches is read as one loop, a piece at a time.
-use Rattle.std.proofs.Common.{◌≡◌, ℕ, ◌≤◌, List, length, Option, Some, Ok, Err, Result, refl, ap, sym, subst, ◌∙◌}
+use Rattle.std.proofs.Common.{◌≡◌, ℕ, ◌≤◌, List, length, Option, Some, Ok, Err, Result, ap, subst, ◌∙◌}
 use Rattle.dst_streams.specs.declared.source.Failed.{Failed}
 use Rattle.dsdiff_spec.specs.Coded.{Picks}
 use Rattle.dsdiff_chunks.specs.declared.open.OpenFault.TheVariants.{Read}

@@ -1,6 +1,6 @@
 -- Pieces that are read, stored and written as frames, up to some number.
 use Rattle.std.proofs.Common.{◌≡◌, ℕ, ◌+◌, ◌<◌, ◌≤◌, List, [], ◌∷◌, ◌++◌, length, map, flat_map, take, get_or, set, All, Option, Some, Ok, Err, refl, ap, sym, subst, ◌∙◌, arith}
-use Rattle.std.proofs.lemmas.List.{length-set, take_all, take_more_set}
+use Rattle.std.proofs.lemmas.List.{take_all, take_more_set}
 use Rattle.std.proofs.lemmas.List.Elements.{All-push}
 use Rattle.dst_spec.specs.Sample.{sound_bytes}
 use Rattle.dst_streams.proofs.Counts.{Rose-earlier}
