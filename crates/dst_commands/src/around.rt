@@ -9,7 +9,7 @@ ghost use Rattle.dsdiff_chunks.specs.declared.copy.CopyFault.{CopyFault};
 ghost use Rattle.dst_commands.specs.Passing.{FailedBy};
 ghost use Rattle.dst_commands.specs.Writing.{Adds, Stops};
 
-use crate::chunks::{Side, kept_of, pad_of, pass_chunks};
+use crate::chunks::{FormRef, Passed, Side, cmpr_of, kept_of, pad_of, pass_chunks};
 use crate::pieces::write_any;
 use crate::sizes::form_size;
 use dsdiff_chunks::{CodedForm, CopyFault, write_head};
@@ -38,7 +38,12 @@ pub fn write_front<S: Source, K: Sink>(
     let Ok(()) = write_opening(sink, form_size(form, sound)) else {
         return Err(CopyFault::Write);
     };
-    if let Err(fault) = pass_chunks(source, sink, form, Side::Before, buffer) {
+    let cmpr = cmpr_of(form);
+    let passed = Passed {
+        form: FormRef::Coded(form),
+        cmpr: Some(cmpr),
+    };
+    if let Err(fault) = pass_chunks(source, sink, &passed, Side::Before, buffer) {
         return Err(fault);
     }
     match write_head(sink, *b"DSD ", sound) {
@@ -81,7 +86,12 @@ pub fn write_end<S: Source, K: Sink>(
     let Ok(()) = write_pad(sink, sound, pad_of(form)) else {
         return Err(CopyFault::Write);
     };
-    if let Err(fault) = pass_chunks(source, sink, form, Side::Behind, buffer) {
+    let cmpr = cmpr_of(form);
+    let passed = Passed {
+        form: FormRef::Coded(form),
+        cmpr: Some(cmpr),
+    };
+    if let Err(fault) = pass_chunks(source, sink, &passed, Side::Behind, buffer) {
         return Err(fault);
     }
     match write_any(sink, kept_of(form)) {
