@@ -3,7 +3,8 @@
 //! A [`Source`] is read by place, a [`Sink`] grows at its end, can be written over and is finished behind its last byte,
 //! and a [`Flow`] is read once, from its front. Each trait says by a few meanings what a call did: the bytes, which a
 //! device tells or doesn't tell, the size or the sure room, whether all is settled, and counts of faults and of bytes.
-//! So code that is generic over devices is proved once, for files and for memory. Every call may answer [`Failed`], which comes only where the device's count of faults rose.
+//! So code that is generic over devices is proved once, for files and for memory. Every call may answer [`Failed`],
+//! which comes only where the device's count of faults rose.
 //!
 //! | Trait | Files and streams | In memory |
 //! |---|---|---|
