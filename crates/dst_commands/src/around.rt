@@ -1,5 +1,5 @@
 // What stands around the sound of a plain file.
-ghost use Rattle.std.specs.Prelude.{◌≡◌, ◌≤◌, ◌<◌, ◌++◌, ℕ, List, length, codes, Some, IfErr, ◌∷◌, [], MatchResult, ◌%◌, ◌==◌, if◌then◌else◌};
+ghost use Rattle.std.specs.Prelude.{◌≡◌, ◌≤◌, ◌<◌, ◌++◌, ℕ, List, length, codes, Some, IfErr, OnOk, ◌+◌, ◌∷◌, [], MatchResult, ◌%◌, ◌==◌, if◌then◌else◌};
 ghost use Rattle.byteorder.specs.Endian.{big_bytes};
 ghost use Rattle.dst_streams.specs.Causes.{HasCause};
 ghost use Rattle.dsdiff_spec.specs.Form.{coded};
@@ -52,8 +52,9 @@ pub fn write_front<S: Source, K: Sink>(
     }
 }
 
-// Writes the head of a form of this size, and its type.
-fn write_opening<K: Sink>(sink: &mut K, size: u64) -> Result<(), Failed>
+/// Writes the head of a form of this size, and its type.
+pub fn write_opening<K: Sink>(sink: &mut K, size: u64) -> Result<(), Failed>
+    ensures appended { OnOk result (K.appended sink.new ≡ K.appended sink.old + 16) }
     ensures cause { HasCause (K.faults sink.old) (K.faults sink.new) result }
     ensures written { MatchResult result
         (λ _. Adds (codes "FRM8" ++ big_bytes 8 size ++ codes "DSD ") (K.written sink.old) (K.written sink.new) (K.room sink.old) (K.room sink.new))
