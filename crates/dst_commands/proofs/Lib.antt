@@ -1,3 +1,3 @@
 pub mod InOrder
 pub mod Writing
-pub mod Passed
+pub mod PassedOn

@@ -1,2 +1,5 @@
 pub mod Unfinished
 pub mod Encoding
+pub mod Layout
+pub mod Jobs
+pub mod Frames

@@ -12,6 +12,13 @@
 //! ```
 #![tactic(auto)]
 
+mod around;
+mod chunks;
+mod encode;
 mod faults;
+mod frames;
+mod jobs;
+mod sizes;
 
+pub use encode::encode_file;
 pub use faults::{EncodeFault, Encoded};
