@@ -1,4 +1,5 @@
 // Where the stored frames go: to a sink, each in a chunk of its own, and their sizes into a list.
+ghost use Rattle.std.specs.Prelude.{◌≡◌, slice_set};
 ghost use Rattle.dst_write.specs.Jobs.{shape_number};
 ghost use Rattle.dst_write.specs.Draining.{TakesFrame, FailsAtFrame};
 
@@ -31,9 +32,17 @@ impl<K: Sink> Drain<Job> for FrameWriter<'_, K> {
             Ok(()) => {}
             Err(_) => return Err(EncodeFault::Write),
         }
-        if let Some(size) = self.sizes.get_mut(job.number as usize) {
-            *size = job.size;
-        }
+        note(self.sizes, job.number, job.size);
         Ok(())
+    }
+}
+
+// Notes the size of a frame at its number, where there is a place for it.
+fn note(sizes: &mut [u32], number: u32, size: u32)
+    ensures { sizes.new ≡ slice_set sizes.old number size }
+{
+    let place = number as usize;
+    if place < sizes.len() {
+        sizes[place] = size;
     }
 }

@@ -1,5 +1,5 @@
 // Where the jobs come from: the pieces of a plain form's sound, in order.
-ghost use Rattle.std.specs.Prelude.{◌≡◌, ◌-◌, ◌<◌, ◌≤◌, ℕ, List, length, Some, OnOk};
+ghost use Rattle.std.specs.Prelude.{◌≡◌, ◌-◌, ◌<◌, ◌≤◌, ◌++◌, ℕ, List, length, take, replicate, Some, OnOk};
 ghost use Rattle.dst_spec.specs.Sample.{sound_bytes};
 ghost use Rattle.dst_streams.specs.Causes.{HasCause};
 ghost use Rattle.dsdiff_spec.specs.Chunks.{body_of};
@@ -75,6 +75,14 @@ fn read_piece<S: Source>(
         Ok(()) => {}
         Err(failed) => return Err(failed),
     }
-    sound[count..].fill(SILENCE);
+    fill_from(sound, count);
     Ok(())
+}
+
+// Fills a piece from the sound's end on.
+fn fill_from(piece: &mut [u8], end: usize)
+    requires { end ≤ length piece.old }
+    ensures { piece.new ≡ take end piece.old ++ replicate (length piece.old - end) 0x69 }
+{
+    piece[end..].fill(SILENCE);
 }

@@ -55,7 +55,7 @@ impl Workspace {
 }
 
 /// Stores the pieces of the sound and writes them as frames, in order. The sizes of the stored frames stand in `sizes` afterwards.
-pub(crate) fn write_frames<R: Threads + Sync, S: Source, K: Sink, P: Picker, G: Gate>(
+pub(crate) fn write_frames<R: Threads + Sync, S: Source, K: Sink, P: Picker + Sync, G: Gate>(
     rt: &R,
     source: &mut S,
     sink: &mut K,
@@ -95,7 +95,7 @@ pub(crate) fn write_frames<R: Threads + Sync, S: Source, K: Sink, P: Picker, G: 
 }
 
 // Has the frames stored.
-fn run_frames<R: Threads + Sync, S: Source, K: Sink, P: Picker, G: Gate>(
+fn run_frames<R: Threads + Sync, S: Source, K: Sink, P: Picker + Sync, G: Gate>(
     rt: &R,
     feed: &mut SoundPieces<'_, S>,
     drain: &mut FrameWriter<'_, K>,
