@@ -6,7 +6,7 @@ ghost use Rattle.dst_streams.specs.Told.{IsCutShort, IsSure, and_then};
 ghost use Rattle.dsdiff_spec.specs.Chunks.{next_place};
 ghost use Rattle.dsdiff_spec.specs.Origin.{is_one_chunk};
 ghost use Rattle.dsdiff_spec.specs.Parts.{cmpr_head};
-ghost use Rattle.dsdiff_spec.specs.Written.{prop_with};
+ghost use Rattle.dsdiff_spec.specs.Written.{cmpr_in, prop_with};
 ghost use Rattle.dsdiff_chunks.specs.Lawful.{IsPropBody};
 
 use crate::prop::local;
@@ -61,6 +61,16 @@ pub fn prop_length(prop: &[u8], cmpr: &[u8]) -> u64
 {
     let (place, end) = place_of_cmpr(prop);
     (12 + prop.len() - (end - place) + cmpr.len()) as u64
+}
+
+/// The chunk `CMPR` in a body of `PROP`, with its pad byte.
+pub fn cmpr_of_prop(prop: &[u8]) -> &[u8]
+    requires { IsPropBody prop.now }
+    ensures chunk { result.now ≡ cmpr_in prop.now }
+    ensures most { length result.now ≤ 65536 }
+{
+    let (place, end) = place_of_cmpr(prop);
+    &prop[place..end]
 }
 
 // Appends pieces one after the other.

@@ -1,4 +1,4 @@
 pub mod InOrder
 pub mod Writing
-pub mod Passed
+pub mod PassedOn
 pub mod InTurn

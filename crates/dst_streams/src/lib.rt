@@ -1,9 +1,10 @@
 //! Where bytes come from and where they go: files, standard input and output, and devices in memory.
 //!
-//! A [`Source`] is read by place, a [`Sink`] grows at its end and can be written over, and a [`Flow`] is read once, from
-//! its front. Each trait says by a few meanings what a call did: the bytes, which a device tells or doesn't tell, the
-//! size or the sure room, and counts of faults and of bytes. So code that is generic over devices is proved once, for
-//! files and for memory. Every call may answer [`Failed`], which comes only where the device's count of faults rose.
+//! A [`Source`] is read by place, a [`Sink`] grows at its end, can be written over and is finished behind its last byte,
+//! and a [`Flow`] is read once, from its front. Each trait says by a few meanings what a call did: the bytes, which a
+//! device tells or doesn't tell, the size or the sure room, whether all is settled, and counts of faults and of bytes.
+//! So code that is generic over devices is proved once, for files and for memory. Every call may answer [`Failed`],
+//! which comes only where the device's count of faults rose.
 //!
 //! | Trait | Files and streams | In memory |
 //! |---|---|---|
@@ -21,6 +22,7 @@
 //! let size = source.size()?;
 //! let count = source.read_at(0, &mut head)?;
 //! sink.append(&head[..count])?;
+//! sink.finish()?;
 //! ```
 #![tactic(auto)]
 

@@ -1,5 +1,5 @@
 // What a sink of bytes tells, which grows at its end.
-ghost use Rattle.std.specs.Prelude.{◌≡◌, ◌+◌, ◌^◌, ◌<◌, ◌≤◌, ℕ, List, length, Option, Some, IsOk, OnOk, MatchResult};
+ghost use Rattle.std.specs.Prelude.{◌≡◌, ◌+◌, ◌^◌, ◌<◌, ◌≤◌, ℕ, Bool, true, List, length, Option, Some, IsOk, OnOk, MatchResult};
 ghost use Rattle.dst_streams.specs.Causes.{HasCause};
 ghost use Rattle.dst_streams.specs.Told.{IsCutShort, IsSure, IsOpenIn, and_then, written_over};
 
@@ -21,6 +21,9 @@ pub trait Sink {
     /// How many bytes the sink is sure to take, or None.
     ghost room: { Self → Option ℕ };
 
+    /// Whether all that is written is where the sink keeps it for good: of a real file, on its disk.
+    ghost settled: { Self → Bool };
+
     /// Adds the piece at the end. A call that fails may have added a prefix of it.
     fn append(&mut self, piece: &[u8]) -> Result<(), Failed>
         ensures written { MatchResult result (λ _. written self.new ≡ and_then (written self.old) piece.now) (λ _. IsCutShort (written self.old) piece.now (written self.new)) }
@@ -36,6 +39,17 @@ pub trait Sink {
         ensures appended { appended self.new ≡ appended self.old }
         ensures sure { (n : ℕ) → room self.old ≡ Some n → IsOk result }
         ensures room { room self.new ≡ room self.old }
+        ensures cause { HasCause (faults self.old) (faults self.new) result };
+
+    /// Has all that is written put where the sink keeps it for good. It leaves what is written as it is.
+    ///
+    /// It comes behind the last byte: no other call says that the sink is settled.
+    fn finish(&mut self) -> Result<(), Failed>
+        ensures written { written self.new ≡ written self.old }
+        ensures appended { appended self.new ≡ appended self.old }
+        ensures sure { (n : ℕ) → room self.old ≡ Some n → IsOk result }
+        ensures room { room self.new ≡ room self.old }
+        ensures settled { OnOk result (settled self.new ≡ true) }
         ensures cause { HasCause (faults self.old) (faults self.new) result };
 
     /// What was appended is part of what is written.

@@ -1,7 +1,10 @@
 // What no clause says: which calls of a device in memory fail, and what real files and streams do.
+mod full_disk;
+
 use super::*;
+use full_disk::FullDisk;
 use std::alloc::Allocator;
-use std::fs;
+use std::fs::{self, Files};
 use std::io::{self, BufRead, Input, Lines};
 use std::test::Fail;
 
@@ -80,7 +83,26 @@ fn a_sink_in_memory_keeps_half_of_a_refused_piece(rt: HostRuntime) -> Result<(),
     let mut sure = MemorySink::new(rt.alloc(), 3, &[])?;
     sure.append(&[1, 2, 3])?;
     sure.overwrite(1, &[9])?;
+    sure.finish()?;
     assert_eq!(rt; sure.written(), [1, 9, 3].as_slice());
+    Ok(())
+}
+
+#[test]
+fn each_call_of_a_sink_in_memory_fails_in_its_turn(rt: HostRuntime) -> Result<(), Fail> {
+    let fails: [&[u64]; 4] = [&[0], &[1], &[2], &[3]];
+    for (turn, failing) in fails.iter().enumerate() {
+        let mut sink = MemorySink::new(rt.alloc(), 9, failing)?;
+        let calls = [
+            sink.append(&[1, 2]),
+            sink.overwrite(0, &[]),
+            sink.finish(),
+            sink.append(&[3]),
+        ];
+        for (call, answer) in calls.iter().enumerate() {
+            assert_eq!(rt; answer.is_err(), call == turn, "call {call} of {turn}");
+        }
+    }
     Ok(())
 }
 
@@ -89,11 +111,12 @@ fn a_short_sink_keeps_its_prefix_and_then_fails(rt: HostRuntime) -> Result<(), F
     let mut sink = ShortFlowSink::new(4);
     sink.append(&[1, 2, 3])?;
     sink.overwrite(0, &[9])?;
+    sink.finish()?;
     let cut = sink.append(&[4, 5]);
     assert_eq!(rt; cut, Err(Failed));
     assert_eq!(rt; sink.written(), [9, 2, 3, 4].as_slice());
-    let after = (sink.append(&[]), sink.overwrite(1, &[8]));
-    assert_eq!(rt; after, (Err(Failed), Err(Failed)));
+    let after = (sink.append(&[]), sink.overwrite(1, &[8]), sink.finish());
+    assert_eq!(rt; after, (Err(Failed), Err(Failed), Err(Failed)));
     assert_eq!(rt; sink.written(), [9, 2, 3, 4].as_slice());
     Ok(())
 }
@@ -126,12 +149,26 @@ fn a_file_is_made_where_there_is_none(rt: HostRuntime) -> Result<(), Fail> {
     made.append(b"seven ")?;
     made.append(b"b")?;
     made.overwrite(1, b"EV")?;
+    made.finish()?;
     let mut again = FileSink::new(&rt, "made.bin");
     let refused = again.append(b"x");
     let held = fs::read(&rt, "made.bin")?;
     fs::remove_file(&rt, "made.bin")?;
     assert_eq!(rt; refused, Err(Failed));
     assert_eq!(rt; held.as_slice(), b"sEVen b".as_slice());
+    Ok(())
+}
+
+// What finishing answers where nothing was made yet, and behind a piece.
+fn finishes<D: Files>(disk: &D) -> [Result<(), Failed>; 3] {
+    let mut unmade = FileSink::new(disk, "unkept.bin");
+    let mut sink = FileSink::new(disk, "unkept.bin");
+    [unmade.finish(), sink.append(b"seven b"), sink.finish()]
+}
+
+#[test]
+fn a_file_that_the_disk_refuses_is_a_failure(rt: HostRuntime) -> Result<(), Fail> {
+    assert_eq!(rt; finishes(&FullDisk), [Ok(()), Ok(()), Err(Failed)]);
     Ok(())
 }
 
@@ -158,6 +195,7 @@ fn standard_output_takes_text_and_no_overwriting(rt: HostRuntime) -> Result<(), 
     text.append(b"a line on standard output\n")?;
     let refused = text.overwrite(0, b"A");
     assert_eq!(rt; refused, Err(Failed));
+    text.finish()?;
     Ok(())
 }
 

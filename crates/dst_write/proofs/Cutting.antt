@@ -7,7 +7,7 @@ use Rattle.dsdiff_spec.specs.Form.{sound_bytes_of, frames_for}
 use Rattle.dsdiff_chunks.specs.declared.form.PlainForm.{PlainForm}
 use Rattle.dsdiff_chunks.specs.Forms.{plain_seen}
 use Rattle.dsdiff_chunks.proofs.LawfulForms.{sound_inside}
-use Rattle.dst_commands.proofs.Passed.{needed}
+use Rattle.dst_commands.proofs.PassedOn.{needed}
 use Rattle.dst_write.specs.Feeding.{piece_of}
 
 -- ---- a piece that is needed begins in the sound

@@ -2,13 +2,14 @@
 ghost use Rattle.std.specs.Prelude.{◌≡◌, ◌≤◌, None};
 
 use crate::{Failed, Sink};
-use std::fs::File;
+use std::fs::{File, OpenFile};
 use std::io::{Seek, SeekFrom, Write};
 use std::rt::Files;
 
 /// A file that is made at the first call. It tells no bytes, and has no sure room.
 ///
-/// A file that exists already is a failure.
+/// A file that exists already is a failure. `finish` waits until the system has all bytes of the file on its disk, with
+/// its size; the entry in the folder is the system's to keep. Where no file was made there is nothing to wait for.
 #[derive(Drop)]
 pub struct FileSink<'p, R: Files> {
     rt: &'p R,
@@ -16,6 +17,8 @@ pub struct FileSink<'p, R: Files> {
     file: Option<R::File>,
     appended: u64,
     faults: u64,
+    /// Whether nothing was written since the file was last synchronised.
+    is_settled: bool,
 }
 
 impl<'p, R: Files> FileSink<'p, R> {
@@ -31,6 +34,7 @@ impl<'p, R: Files> FileSink<'p, R> {
             file: None,
             appended: 0,
             faults: 0,
+            is_settled: false,
         }
     }
 }
@@ -51,6 +55,14 @@ fn write_there<R: Files>(
     file.write_all(piece).ok()
 }
 
+// Has the system put the file on its disk, where it is made.
+fn synchronise<F: OpenFile>(file: &Option<F>) -> Option<()> {
+    match file {
+        Some(file) => file.sync_all().ok(),
+        None => Some(()),
+    }
+}
+
 impl<'p, R: Files> Sink for FileSink<'p, R> {
     ghost written = { λ _. None };
 
@@ -60,11 +72,14 @@ impl<'p, R: Files> Sink for FileSink<'p, R> {
 
     ghost room = { λ _. None };
 
+    ghost settled = { λ s. s.is_settled };
+
     ghost use Rattle.dst_streams.specs.Laws.{le_of_untold};
 
     ghost appended_within = { λ s xs told. le_of_untold s.appended xs told };
 
     fn append(&mut self, piece: &[u8]) -> Result<(), Failed> {
+        self.is_settled = false;
         if let Some(after) = self.appended.checked_add(piece.len() as u64) {
             if let Some(()) = write_there(
                 self.rt,
@@ -82,6 +97,7 @@ impl<'p, R: Files> Sink for FileSink<'p, R> {
     }
 
     fn overwrite(&mut self, place: u64, piece: &[u8]) -> Result<(), Failed> {
+        self.is_settled = false;
         match write_there(
             self.rt,
             self.path,
@@ -90,6 +106,19 @@ impl<'p, R: Files> Sink for FileSink<'p, R> {
             piece,
         ) {
             Some(()) => Ok(()),
+            None => {
+                self.faults = self.faults.saturating_add(1);
+                Err(Failed)
+            }
+        }
+    }
+
+    fn finish(&mut self) -> Result<(), Failed> {
+        match synchronise(&self.file) {
+            Some(()) => {
+                self.is_settled = true;
+                Ok(())
+            }
             None => {
                 self.faults = self.faults.saturating_add(1);
                 Err(Failed)

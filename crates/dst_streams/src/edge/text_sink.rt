@@ -1,9 +1,10 @@
 // Standard output.
-ghost use Rattle.std.specs.Prelude.{◌≡◌, ◌≤◌, None};
+ghost use Rattle.std.specs.Prelude.{◌≡◌, ◌≤◌, true, None};
 
 use crate::{Failed, Sink};
 
-/// Standard output. It tells no bytes, has no sure room, and can't be written over: `overwrite` fails.
+/// Standard output. It tells no bytes, has no sure room, and can't be written over: `overwrite` fails. It keeps nothing,
+/// so that it is settled at any time and `finish` does nothing.
 #[derive(Drop)]
 pub struct TextSink<'r, R: Print> {
     rt: &'r R,
@@ -35,6 +36,8 @@ impl<'r, R: Print> Sink for TextSink<'r, R> {
 
     ghost room = { λ _. None };
 
+    ghost settled = { λ _. true };
+
     ghost use Rattle.dst_streams.specs.Laws.{le_of_untold};
 
     ghost appended_within = { λ s xs told. le_of_untold s.appended xs told };
@@ -53,5 +56,9 @@ impl<'r, R: Print> Sink for TextSink<'r, R> {
     fn overwrite(&mut self, _place: u64, _piece: &[u8]) -> Result<(), Failed> {
         self.faults = self.faults.saturating_add(1);
         Err(Failed)
+    }
+
+    fn finish(&mut self) -> Result<(), Failed> {
+        Ok(())
     }
 }

@@ -1,12 +1,12 @@
 // A sink over a fixed array, which takes no memory.
-ghost use Rattle.std.specs.Prelude.{◌≡◌, ◌≤◌, [], Some, None, length, take};
+ghost use Rattle.std.specs.Prelude.{◌≡◌, ◌≤◌, [], true, Some, None, length, take};
 
 use crate::{Failed, Sink};
 
 /// A sink over a fixed array of 65,536 bytes, for tests. It takes no memory.
 ///
 /// The first `append` that would pass `prefix` bytes keeps just the bytes up to `prefix` and fails, and each later
-/// call fails.
+/// call fails, `finish` too. Memory is settled at any time.
 #[derive(Drop)]
 pub struct ShortFlowSink {
     bytes: [u8; 65_536],
@@ -55,6 +55,8 @@ impl Sink for ShortFlowSink {
 
     ghost room = { λ _. None };
 
+    ghost settled = { λ _. true };
+
     ghost use Rattle.dst_streams.specs.Laws.{le_of_both};
 
     ghost appended_within = { λ s xs told. le_of_both s.appended (take s.len s.bytes) xs s.appended_within told };
@@ -84,6 +86,14 @@ impl Sink for ShortFlowSink {
         }
         let start = place as usize;
         self.bytes[start..start + piece.len()].copy_from_slice(piece);
+        Ok(())
+    }
+
+    fn finish(&mut self) -> Result<(), Failed> {
+        if self.is_cut {
+            self.faults = self.faults.saturating_add(1);
+            return Err(Failed);
+        }
         Ok(())
     }
 }

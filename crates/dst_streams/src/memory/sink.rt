@@ -1,5 +1,5 @@
 // A sink in memory, of a fixed capacity.
-ghost use Rattle.std.specs.Prelude.{◌≡◌, ◌≤◌, [], Some, IfOk, length, vec_len, vec_capacity};
+ghost use Rattle.std.specs.Prelude.{◌≡◌, ◌≤◌, [], true, Some, IfOk, length, vec_len, vec_capacity};
 ghost use Rattle.dst_streams.specs.MemorySink.{sure_room};
 
 use crate::{Failed, Sink};
@@ -7,8 +7,9 @@ use std::alloc::{AllocError, Global};
 
 /// A sink in memory that takes at most `capacity` bytes, for tests.
 ///
-/// Call number n, counted from 0 over both calls, fails where n is in `fails`, and so does an `append` that would
-/// pass the capacity. An `append` that fails keeps the first half of its piece as far as it fits.
+/// Call number n, counted from 0 over `append`, `overwrite` and `finish`, fails where n is in `fails`, and so does an
+/// `append` that would pass the capacity. An `append` that fails keeps the first half of its piece as far as it fits.
+/// Memory is settled at any time; `finish` does no more than to be counted, or to fail.
 #[derive(Drop)]
 pub struct MemorySink<'a> {
     bytes: Vec<u8>,
@@ -60,6 +61,8 @@ impl<'a> Sink for MemorySink<'a> {
 
     ghost room = { λ s. sure_room s.fails.now s.capacity (vec_len s.bytes) };
 
+    ghost settled = { λ _. true };
+
     ghost use Rattle.dst_streams.specs.Laws.{le_of_both};
 
     ghost appended_within = { λ s xs told. le_of_both s.appended s.bytes.items xs s.appended_within told };
@@ -89,6 +92,16 @@ impl<'a> Sink for MemorySink<'a> {
         }
         let start = place as usize;
         self.bytes[start..start + piece.len()].copy_from_slice(piece);
+        Ok(())
+    }
+
+    fn finish(&mut self) -> Result<(), Failed> {
+        let call = self.calls;
+        self.calls = self.calls.saturating_add(1);
+        if self.fails.contains(&call) {
+            self.faults = self.faults.saturating_add(1);
+            return Err(Failed);
+        }
         Ok(())
     }
 }
