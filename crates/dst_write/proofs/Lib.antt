@@ -1,0 +1,4 @@
+pub mod Pieces
+pub mod BySize
+pub mod Sized
+pub mod Ending
