@@ -1,13 +1,14 @@
 -- Frames by their sizes: the bytes of their chunks, and their entries in `DSTI`.
-use Rattle.std.proofs.Common.{◌≡◌, ℕ, ◌+◌, ◌*◌, ◌/◌, ◌%◌, ◌<◌, ◌==◌, Bool, true, false, if◌then◌else◌, List, [], ◌∷◌, ◌++◌, length, map, take, get_or, flat_map, refl, sym, ap, ◌∙◌, arith, length-append, append-nil}
+use Rattle.std.proofs.Common.{◌≡◌, ℕ, ◌+◌, ◌*◌, ◌/◌, ◌%◌, ◌<◌, ◌==◌, Bool, true, false, if◌then◌else◌, List, [], ◌∷◌, ◌++◌, length, map, take, get_or, flat_map, refl, sym, ap, ◌∙◌, arith, length-append, append-nil, append_assoc, drop}
 use Rattle.std.specs.Prelude.{codes, sum_by}
 use Rattle.std.proofs.lemmas.Bool.{eqb-false}
 use Rattle.std.proofs.Common.{eqb-true}
-use Rattle.std.proofs.lemmas.List.{take_more}
+use Rattle.std.proofs.lemmas.List.{take_more, take-append-drop}
 use Rattle.std.proofs.lemmas.List.Sums.{sum_by-cons}
 use Rattle.std.proofs.lemmas.List.Concat.{flat_map-append}
 use Rattle.byteorder.specs.Endian.{big_bytes}
 use Rattle.byteorder.specs.Numbers.{length-bytes_high_first}
+use Rattle.dsdiff_spec.proofs.Progress.{BeginsWith}
 use Rattle.dsdiff_spec.specs.Walk.{Entry}
 use Rattle.dsdiff_spec.specs.Written.{padded_chunk, chunk, frte, dstf, dsti, entries_from}
 use Rattle.dst_write.specs.Layout.{chunk_size, frames_size, entries_by}
@@ -127,3 +128,29 @@ one_more_entry place sizes j d l =
     ∙ flat_map-append entry_bytes (entries_by place front) (entry ∷ [])
     ∙ ap (λ w. flat_map entry_bytes (entries_by place front) ++ w) (append-nil (entry_bytes entry))
     )
+
+-- `DSTI` begins with its head and its first entries
+abbrev pub dsti_head : List ℕ → List ℕ
+dsti_head sizes = codes "DSTI" ++ big_bytes 8 (12 * length sizes)
+
+pub begins_with_entries : (place : ℕ) (sizes : List ℕ) (j : ℕ) → BeginsWith (dsti (entries_by place sizes)) (dsti_head sizes ++ flat_map entry_bytes (entries_by place (take j sizes)))
+begins_with_entries place sizes j =
+    let front = take j sizes in
+    let rest = flat_map entry_bytes (entries_by (place + frames_size front) (drop j sizes)) in
+    record {
+      rest = rest;
+      is =
+          sym (dsti_is place sizes)
+          ∙ ap (λ w. dsti_head sizes ++ flat_map entry_bytes (entries_by place w)) (sym (take-append-drop j sizes))
+          ∙ ap (λ es. dsti_head sizes ++ flat_map entry_bytes es) (entries_of_parts place front (drop j sizes))
+          ∙ ap (λ w. dsti_head sizes ++ w) (flat_map-append entry_bytes (entries_by place front) (entries_by (place + frames_size front) (drop j sizes)))
+          ∙ sym (append_assoc (dsti_head sizes) (flat_map entry_bytes (entries_by place front)) rest);
+    }
+
+pub head_and_more : (place : ℕ) (sizes : List ℕ) (j d here : ℕ) → j < length sizes → here ≡ place + frames_size (take j sizes) →
+    dsti_head sizes ++ flat_map entry_bytes (entries_by place (take j sizes)) ++ (big_bytes 8 (here + 12) ++ big_bytes 4 (get_or sizes j d))
+    ≡ dsti_head sizes ++ flat_map entry_bytes (entries_by place (take (j + 1) sizes))
+head_and_more place sizes j d here l e =
+    append_assoc (dsti_head sizes) (flat_map entry_bytes (entries_by place (take j sizes))) (big_bytes 8 (here + 12) ++ big_bytes 4 (get_or sizes j d))
+    ∙ ap (λ n. dsti_head sizes ++ (flat_map entry_bytes (entries_by place (take j sizes)) ++ (big_bytes 8 (n + 12) ++ big_bytes 4 (get_or sizes j d)))) e
+    ∙ ap (λ w. dsti_head sizes ++ w) (one_more_entry place sizes j d l)

@@ -1,9 +1,9 @@
 -- The two size fields: what stands around them, with zeros in them and with the sizes.
 use Rattle.std.proofs.Common.{◌≡◌, ◌⊎◌, inl, inr, ℕ, ◌+◌, ◌*◌, ◌≤◌, List, [], ◌∷◌, ◌++◌, length, map, take, drop, flat_map, replicate, Option, Some, None, Result, Ok, Err}
-use Rattle.std.proofs.Common.{refl, sym, ap, subst, ◌∙◌, arith, length-append, append_assoc, append-nil}
+use Rattle.std.proofs.Common.{refl, sym, ap, subst, ◌∙◌, arith, length-append, append_assoc, append-nil, length-drop}
 use Rattle.std.specs.Prelude.{codes}
 use Rattle.std.specs.List.{concat}
-use Rattle.std.proofs.lemmas.List.{take_at, drop_at}
+use Rattle.std.proofs.lemmas.List.{take_at, drop_at, length-take, take-append-drop}
 use Rattle.std.proofs.lemmas.List.Folds.{concat-append}
 use Rattle.byteorder.specs.Endian.{big_bytes}
 use Rattle.byteorder.specs.Numbers.{length-bytes_high_first}
@@ -187,3 +187,26 @@ outside_size size new b sound c held fits = same_around (codes "FRM8") size new 
 
 abbrev pub zeros : List ℕ
 zeros = replicate 8 0
+
+-- ---- a field that is written over, in any bytes
+pub over_is_outside : (xs piece : List ℕ) (place : ℕ) → place + 8 ≤ length xs → length piece ≡ 8 → IsSameOutside place 8 xs (take place xs ++ piece ++ drop (place + length piece) xs)
+over_is_outside xs piece place inside long =
+    let p = take place xs in
+    let q = take 8 (drop place xs) in
+    let r = drop 8 (drop place xs) in
+    let parts : p ++ (q ++ r) ≡ xs = ap (λ w. p ++ w) (take-append-drop 8 (drop place xs)) ∙ take-append-drop place xs in
+    let is : length p ≡ place = omega (arith, length-take place xs) in
+    let held : length q ≡ 8 = omega (arith, length-take 8 (drop place xs), length-drop place xs) in
+    subst (λ w. IsSameOutside place 8 xs w) (sym (put_over p q r piece place is (omega (arith, held, long))) ∙ ap (λ w. take place w ++ piece ++ drop (place + length piece) w) parts)
+    (subst (λ w. IsSameOutside place 8 w (p ++ (piece ++ r))) parts (same_around p q piece r place is held long))
+
+-- the sink is finished, or fails at that
+pub sizes_end : {T E : Type 0} (result : Result T E) (place sound form : ℕ) (old mid last new : Option (List ℕ)) →
+    mid ≡ written_over old place (big_bytes 8 sound) → last ≡ written_over mid form_size_place (big_bytes 8 form) → new ≡ last →
+    ((xs : List ℕ) → mid ≡ Some xs → 12 ≤ length xs) → SizesEnd result place sound form old new
+sizes_end (Ok u) place sound form old mid last new p q e long = e ∙ q ∙ ap (λ w. written_over w form_size_place (big_bytes 8 form)) p
+sizes_end (Err fault) place sound form old mid last new p q e long = inr (subst (λ w. IsOpenIn form_size_place 8 w new) p (go mid (e ∙ q) long))
+  where
+    go : (mid : Option (List ℕ)) → new ≡ written_over mid form_size_place (big_bytes 8 form) → ((xs : List ℕ) → mid ≡ Some xs → 12 ≤ length xs) → IsOpenIn form_size_place 8 mid new
+    go None e long = e
+    go (Some xs) e long = (_, e, over_is_outside xs (big_bytes 8 form) 4 (long xs refl) (length-bytes_high_first 8 form))
