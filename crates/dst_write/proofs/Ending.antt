@@ -23,6 +23,10 @@ of_nothing : (P : Option (List ℕ) → Type 0) → P None → P (Some []) → (
 of_nothing P none some None h = none
 of_nothing P none some (Some bytes) h = subst (λ w. P (Some w)) (sym h) some
 
+-- a sink that holds nothing has a file that isn't finished
+pub nothing_yet : (place : ℕ) (out : List ℕ) (held : Option (List ℕ)) → HoldsNothing held → HoldsUnfinished place out held
+nothing_yet place out = of_nothing (HoldsUnfinished place out) (tt {0}) (inl (0, omega arith, refl))
+
 -- ---- how many frames there are
 pub stored_count : (picks : Picks) (file : List ℕ) (form : Form) → IsPlainForm form → form.end ≤ length file → length (stored_frames picks file form) ≡ form.frames
 unfolding stored_frames pieces
@@ -85,11 +89,11 @@ module _ (frames : List (List ℕ)) (file : List ℕ) (form : Form) (count : len
 
     -- ---- what isn't finished
     prefix : (kept : ℕ) → kept ≤ length (unsized frames file form) → IsUnfinished (sound_place file form) out (take kept (unsized frames file form))
-    prefix kept le = inl (inl (kept, omega (arith, same_length), ap (take kept) (sym both_zero)))
+    prefix kept le = inl (kept, omega (arith, same_length), ap (take kept) (sym both_zero))
 
     sound_open : (held : List ℕ) → IsSameOutside (sound_place file form) 8 (unsized frames file form) held → IsUnfinished (sound_place file form) out held
     sound_open held h =
-        inl (inr (
+        inr (inl (
         outside_then (sound_place file form) 8 _ _ held
         (subst (λ w. IsSameOutside (sound_place file form) 8 w (around zeros b zeros c)) (sym size_zero) (outside_sound zeros (sound_of frames) zeros c file form refl long_sound refl))
         (subst (λ w. IsSameOutside (sound_place file form) 8 w held) (unsized_is frames file form) h)
@@ -97,11 +101,11 @@ module _ (frames : List (List ℕ)) (file : List ℕ) (form : Form) (count : len
 
     size_open : (held : List ℕ) → IsSameOutside form_size_place 8 (around zeros b (sound_of frames) c) held → IsUnfinished (sound_place file form) out held
     size_open held h =
-        inr (
+        inr (inr (
         outside_then form_size_place 8 _ _ held
         (subst (λ w. IsSameOutside form_size_place 8 w (around zeros b (sound_of frames) c)) (sym whole) (outside_size (size_of frames file form) zeros b (sound_of frames) c long_size refl))
         h
-        )
+        ))
 
     -- the size of the sound is written
     sound_written : (mid : Option (List ℕ)) → mid ≡ Some (unsized frames file form) → written_over mid (sound_place file form) (sound_of frames) ≡ Some (around zeros b (sound_of frames) c)
@@ -150,11 +154,11 @@ module _ (frames : List (List ℕ)) (file : List ℕ) (form : Form) (count : len
     untold_by mid new e (inr h) =
         subst (HoldsUnfinished (sound_place file form) out) (sym (told_nothing form_size_place _ new (ap (written_to (sound_place file form)) e) h)) (tt {0})
 
-    pub stopped_at_sizes : {T E : Type 0} (result : Result T E) (fault : E) (P : Type 0) (old mid new : Option (List ℕ)) (room half : Option ℕ) →
+    pub stopped_at_sizes : (T E : Type 0) (result : Result T E) (fault : E) (P : Type 0) (old mid new : Option (List ℕ)) (room half : Option ℕ) →
         result ≡ Err fault → Adds (unsized frames file form) old mid room half →
         SizesEnd result (sound_place file form) (sound_size (map length frames)) (form_size (map length frames) file form) mid new →
         ((n : ℕ) → half ≡ Some n → IsOk result) → IsStopped P out (sound_size_place file form) old new room
-    stopped_at_sizes result fault P old mid new room half e h ends sure =
+    stopped_at_sizes T E result fault P old mid new room half e h ends sure =
         let failed = subst (λ r. SizesEnd r (sound_place file form) (sound_size (map length frames)) (form_size (map length frames) file form) mid new) e ends in
         record {
           unfinished = λ nothing.

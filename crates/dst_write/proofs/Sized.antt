@@ -11,7 +11,7 @@ use Rattle.dst_streams.specs.Told.{and_then, written_over, IsOpenIn, IsSameOutsi
 use Rattle.dsdiff_spec.specs.Form.{Form}
 use Rattle.dsdiff_spec.specs.Written.{frte, dstf, dsti, entries_from, behind_sound, copied_with, cmpr_coded}
 use Rattle.dsdiff_spec.specs.Coded.{coded_before, coded_with, dst, first_place, origin_of_plain}
-use Rattle.dst_write.specs.Layout.{before, behind, end, form_size, sound_size, unsized}
+use Rattle.dst_write.specs.Layout.{before, behind, end, form_size, front, opening, sound_opening, sound_size, unsized}
 use Rattle.dst_write.specs.Unfinished.{HoldsNothing, HoldsUnfinished, IsUnfinished, form_size_place, sized, zero_at, SizesEnd}
 use Rattle.dst_write.proofs.BySize.{entries_are, even_chunk, frames_size_is, half_of_frames, length-dsti, length-frte}
 
@@ -157,6 +157,16 @@ length-to_sound size file form long =
 
 to_sound : (size b sound c : List ℕ) → around size b sound c ≡ (codes "FRM8" ++ (size ++ b)) ++ (sound ++ c)
 to_sound size b sound c = sym (append_assoc (codes "FRM8") (size ++ b) (sound ++ c) ∙ ap (λ w. codes "FRM8" ++ w) (append_assoc size b (sound ++ c)))
+
+pub length-front : (file : List ℕ) (form : Form) → length (front file form) ≡ 46 + length (before file form)
+length-front file form =
+    omega (
+      arith,
+      length-append (opening ++ before file form) (sound_opening form),
+      length-append opening (before file form),
+      length-append (codes "DST " ++ big_bytes 8 0) (frte form.frames),
+      length-frte form.frames,
+    )
 
 -- the second field, and then the first, written over
 pub sound_over : (size sound new c : List ℕ) (file : List ℕ) (form : Form) → length size ≡ 8 → length sound ≡ 8 → length new ≡ 8 →
