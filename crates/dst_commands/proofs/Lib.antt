@@ -1,3 +1,4 @@
 pub mod InOrder
 pub mod Writing
 pub mod PassedOn
+pub mod InTurn

@@ -45,7 +45,7 @@ plain_cmpr_is_one form lawful e cmpr is =
 pub coded_size : (form : Form) → form.kind ≡ coded → size_of_sound form ≡ plain_size form.origin (form.frames * sound_bytes_of form)
 coded_size form e = ap (λ k. elim k [ plain ↦ form.sound.size | coded ↦ plain_size form.origin (form.frames * sound_bytes_of form) ]) e
 
-needed : (n size frames : ℕ) → 0 < n → frames_for n size ≡ frames → (size ≤ frames * n) × ((k : ℕ) → k < frames → k * n < size)
+pub needed : (n size frames : ℕ) → 0 < n → frames_for n size ≡ frames → (size ≤ frames * n) × ((k : ℕ) → k < frames → k * n < size)
 needed n size frames h e =
     let whole : n * frames + (size + n - 1) % n ≡ size + n - 1 = ap (λ m. n * m + (size + n - 1) % n) (sym e) ∙ div-add-mod (size + n - 1) n in
     (omega arith, λ k l. let more = mul-le-mul_right n l in omega arith)

@@ -1,3 +1,5 @@
+pub mod Shapes
+pub mod Cutting
 pub mod Pieces
 pub mod BySize
 pub mod Sized

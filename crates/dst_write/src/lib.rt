@@ -14,11 +14,14 @@
 
 mod around;
 mod chunks;
+mod drain;
 mod encode;
 mod faults;
+mod feed;
 mod frames;
 mod jobs;
 mod sizes;
+mod work;
 
 pub use encode::encode_file;
 pub use faults::{EncodeFault, Encoded};
