@@ -4,3 +4,7 @@ pub mod Feeding
 pub mod Coding
 pub mod Underway
 pub mod Running
+pub mod Pieces
+pub mod BySize
+pub mod Sized
+pub mod Ending
