@@ -1,5 +1,5 @@
 -- The coded file in the order in which it is written, by the sizes of its stored frames. Its two size fields are 0 until all else is written.
-use Rattle.std.specs.Prelude.{◌≡◌, ℕ, ◌+◌, ◌*◌, ◌%◌, ◌≤◌, sum, List, [], ◌∷◌, ◌++◌, length, map, flat_map, codes}
+use Rattle.std.specs.Prelude.{◌≡◌, ℕ, ◌+◌, ◌*◌, ◌%◌, ◌≤◌, sum_by, List, [], ◌∷◌, ◌++◌, length, map, flat_map, codes}
 use Rattle.std.specs.List.{concat}
 use Rattle.byteorder.specs.Endian.{big_bytes}
 use Rattle.dsdiff_spec.specs.Form.{Form}
@@ -12,12 +12,12 @@ abbrev pub chunk_size : ℕ → ℕ
 chunk_size size = 12 + size + size % 2
 
 abbrev pub frames_size : List ℕ → ℕ
-frames_size sizes = sum (map chunk_size sizes)
+frames_size sizes = sum_by chunk_size sizes
 
 abbrev pub sound_size : List ℕ → ℕ
 sound_size sizes = 18 + frames_size sizes
 
-pub entries_by : ℕ → List ℕ → List Entry
+abbrev pub entries_by : ℕ → List ℕ → List Entry
 entries_by place [] = []
 entries_by place (size ∷ sizes) = record { offset = place + 12; size = size } ∷ entries_by (place + chunk_size size) sizes
 

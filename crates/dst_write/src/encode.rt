@@ -31,7 +31,7 @@ use std::thread::Threads;
 /// read, stored by so many workers, 1 to 16, and written in order; what is answered and written is what one worker answers and
 /// writes. The sizes of the sound and of the form are written over zeros at the end, and the sink is finished behind them: so a
 /// coded file that isn't whole is refused.
-pub fn encode_file<R: Threads + Sync, S: Source, K: Sink, P: Picker, G: Gate>(
+pub fn encode_file<R: Threads + Sync, S: Source, K: Sink, P: Picker + Sync, G: Gate>(
     rt: &R,
     alloc: Global,
     source: &mut S,
@@ -76,7 +76,7 @@ pub fn encode_file<R: Threads + Sync, S: Source, K: Sink, P: Picker, G: Gate>(
 }
 
 // Writes the coded file of an opened plain one.
-fn write_encoded<R: Threads + Sync, S: Source, K: Sink, P: Picker, G: Gate>(
+fn write_encoded<R: Threads + Sync, S: Source, K: Sink, P: Picker + Sync, G: Gate>(
     rt: &R,
     source: &mut S,
     sink: &mut K,
