@@ -97,8 +97,8 @@ line_fits c (Err Report) file old new o n reads bytes a h no_read no_write least
 -- ---- the line is reported, or the report failed
 pub reports_line : (status result : ℕ) (line : Line) (old new : Option (List ℕ)) → (result ≡ status) ⊎ (result ≡ 7) → (result ≡ status → new ≡ and_then old (report (line ∷ []))) → (result ≡ 7 → IsCutShort old (report (line ∷ [])) new) →
     Reports status (line ∷ []) result old new
-reports_line status result line old new (inl e) whole cut = inl (e, whole e)
-reports_line status result line old new (inr e) whole cut = inr (e, cut e)
+reports_line status result line old new (inl e) whole short = inl (e, whole e)
+reports_line status result line old new (inr e) whole short = inr (e, short e)
 
 -- a status below 7 is that of the answer
 pub status_told : (status result want : ℕ) → (result ≡ status) ⊎ (result ≡ 7) → result ≡ want → want < 7 → status ≡ want
@@ -224,8 +224,8 @@ not_both_kinds (range pairs) w f = w
 -- where the source failed nothing is written; where the sink did, a prefix
 pub cut_or_nothing : (c : Command) (r : Result Numbers Fault) (file : List ℕ) (old new : Option (List ℕ)) → One (OutcomeOf c file) → (r ≡ Err Read → new ≡ old) → (r ≡ Err Write → (o : Answer) × OutcomeOf c file o × IsCutShort old o.out new) →
     (r ≡ Err Read) ⊎ (r ≡ Err Write) → (o : Answer) × OutcomeOf c file o × IsCutShort old o.out new
-cut_or_nothing c r file old new one nothing cut (inl e) = (one.0, one.1, subst (λ w. IsCutShort old one.0.out w) (sym (nothing e)) (nothing_cut old one.0.out))
-cut_or_nothing c r file old new one nothing cut (inr e) = cut e
+cut_or_nothing c r file old new one nothing short (inl e) = (one.0, one.1, subst (λ w. IsCutShort old one.0.out w) (sym (nothing e)) (nothing_cut old one.0.out))
+cut_or_nothing c r file old new one nothing short (inr e) = short e
 
 -- ---- bytes of the source that one frame takes
 pub few_given : (now before size : ℕ) → now ≤ before + 208974 + 2 * size → now ≤ before + most_given size
