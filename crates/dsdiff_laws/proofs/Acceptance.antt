@@ -33,7 +33,8 @@ use Rattle.dsdiff_laws.proofs.CodedFile.{AreShort, AreFrames, coded_is_file, len
 use Rattle.dsdiff_laws.proofs.CodedRules.{AreExact, form_rules, kind_is, count_is, sound_head_is, same_sound_bytes}
 use Rattle.dsdiff_laws.proofs.CodedWalk.{Walked, IsWalk, walk_is}
 use Rattle.dsdiff_laws.proofs.CodedIndex.{HasIndex, index_is_walk, entries_are_numbers}
-use Rattle.dsdiff_laws.proofs.StoredBytes.{AreStored, stored_are, pieces_are, length-pieces}
+use Rattle.dsdiff_spec.proofs.Cut.{length-pieces}
+use Rattle.dsdiff_laws.proofs.StoredBytes.{AreStored, stored_are, pieces_are}
 use Rattle.dsdiff_laws.proofs.Accepting.{coded_is_bytes}
 
 abbrev if_coded : Kind → Option FileFault → Option FileFault

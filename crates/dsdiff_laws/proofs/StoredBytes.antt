@@ -67,15 +67,6 @@ pub pieces_are : (n : ℕ) (sound : List ℕ) → AreBytes sound → AllByRecurs
 unfolding pieces
 pieces_are n sound bytes = pieces_from n sound (range_with_len 0 (frames_for n (length sound))) bytes
 
-length-range : (a n : ℕ) → length (range_with_len a n) ≡ n
-length-range a zero = refl
-length-range a (suc n) = omega (arith, length-range (a + 1) n)
-
-pub length-pieces : (n : ℕ) (sound : List ℕ) → length (pieces n sound) ≡ frames_for n (length sound)
-unfolding pieces
-length-pieces n sound = length-map (range_with_len 0 (frames_for n (length sound))) (λ k. filled n (bytes_at sound (k * n) n))
-    ∙ length-range 0 (frames_for n (length sound))
-
 -- ---- the frames that are stored for pieces
 pub record AreStored (f : Shape) (list : List (List ℕ)) (frames : List (List ℕ)) : Type 0 where
   pub count : length frames ≡ length list
