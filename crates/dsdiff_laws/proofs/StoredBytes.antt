@@ -1,8 +1,8 @@
 -- The frames that encoding stores: how many, each no longer than a plain frame, each of them bytes, each meaning its piece of the sound.
-use Rattle.std.proofs.Common.{◌≡◌, ℕ, zero, suc, ◌+◌, ◌-◌, ◌*◌, ◌<◌, ◌≤◌, nat_lt, Bool, true, false, cond, List, [], ◌∷◌, length, drop, map, fold}
-use Rattle.std.proofs.Common.{replicate, refl, ◌∙◌, arith, length-append}
+use Rattle.std.proofs.Common.{◌≡◌, ℕ, ◌+◌, ◌-◌, ◌*◌, ◌<◌, ◌≤◌, nat_lt, Bool, true, false, cond, List, [], ◌∷◌, length, drop, map, fold}
+use Rattle.std.proofs.Common.{replicate, refl, arith, length-append}
 use Rattle.std.specs.List.{AllByRecursion, AllZip, range_with_len}
-use Rattle.std.proofs.lemmas.List.{length-map, length-take, length-replicate}
+use Rattle.std.proofs.lemmas.List.{length-take, length-replicate}
 use Rattle.dst_spec.specs.Bits.{AreBits, AreBytes, number_from, octets}
 use Rattle.dst_spec.specs.Sample.{Shape, IsShape, IsSound, sound_bytes}
 use Rattle.dst_spec.specs.Header.{Params, IsParams}

@@ -1,9 +1,8 @@
 -- Buffers that have the number of a shape have room for its frames.
-use Rattle.std.proofs.Common.{◌≡◌, ℕ, ◌+◌, ◌*◌, ◌<◌, ◌≤◌, Bool, true, false, refl, ap, ap₂, ◌∙◌, arith}
-use Rattle.std.specs.Prelude.{◌&&◌, not, if◌then◌else◌}
+use Rattle.std.proofs.Common.{◌≡◌, ℕ, ◌<◌, ◌≤◌, Bool, true, false, refl, ap, ap₂, ◌∙◌, arith}
+use Rattle.std.specs.Prelude.{if◌then◌else◌}
 use Rattle.std.proofs.lemmas.Bool.{and_parts, eqb-true, ltb-true, ltb-false, not-true}
 use Rattle.dst_spec.specs.Sample.{Shape, IsShape, sound_bytes}
-use Rattle.dsdiff_spec.specs.Bytes.{◌below◌, ◌above◌}
 use Rattle.dst_commands.specs.Rooms.{shape_number, has_room, room_number}
 
 pub record HasRoom (longest : Shape → ℕ) (size frame sound : ℕ) (f g : Shape) : Type 0 where

@@ -1,13 +1,10 @@
 -- The lines of a report as parts that are written in turn.
-use Rattle.std.proofs.Common.{◌≡◌, ℕ, ◌+◌, ◌<◌, ◌≤◌, List, [], ◌∷◌, ◌++◌, length, take, drop, get_or, decimal, codes, Option, ap, sym, subst, ◌∙◌, arith, append-nil, take-append-drop}
-use Rattle.std.specs.Prelude.{flat_map}
+use Rattle.std.proofs.Common.{◌≡◌, ℕ, ◌+◌, ◌<◌, List, [], ◌∷◌, ◌++◌, length, get_or, decimal, codes, ap, sym, ◌∙◌, arith, append-nil}
 use Rattle.std.specs.List.{enumerate_from}
-use Rattle.std.proofs.lemmas.Grind.{flat_map-append}
-use Rattle.std.proofs.lemmas.List.{take_more, take_all, length-map, get_or-map}
+use Rattle.std.proofs.lemmas.List.{length-map, get_or-map}
 use Rattle.std.proofs.lemmas.List.FromFn.{length-enumerate_from, get_or-enumerate_from}
 use Rattle.dsdiff_spec.specs.Walk.{Entry, entry}
 use Rattle.dsdiff_spec.specs.Lines.{Line, report, index_lines}
-use Rattle.dsdiff_spec.proofs.Progress.{BeginsWith}
 use Rattle.dst_commands.proofs.InTurn.{Parts}
 
 -- ---- a line of the index, with its line feed

@@ -1,11 +1,8 @@
 -- A run of batches is read as one loop, a frame at a time.
-use Rattle.std.proofs.Common.{◌≡◌, ℕ, ◌≤◌, List, length, Option, Some, Ok, Err, Result, ap, sym, subst, ◌∙◌}
+use Rattle.std.proofs.Common.{◌≡◌, ℕ, ◌≤◌, List, length, Option, Some, Ok, Err, sym, subst}
 use Rattle.dst_spec.specs.Sample.{Shape, IsShape}
 use Rattle.dst_streams.specs.declared.source.Failed.{Failed}
 use Rattle.dsdiff_spec.specs.Form.{Form, shape, size_of_sound}
-use Rattle.frame_crew.specs.declared.ordered.RunFault.{RunFault}
-use Rattle.frame_crew.specs.declared.ordered.RunFault.TheVariants as run
-use Rattle.frame_crew.specs.Answers.{IfFeedFault, IfDrainFault}
 use Rattle.frame_crew.specs.Runs.{Ran, FailsAtFeed, FailsAtDrain}
 use Rattle.frame_crew.specs.Laws.{Ran-keep}
 use Rattle.dst_read.specs.declared.jobs.Job.{Job}

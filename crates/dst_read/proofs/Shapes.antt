@@ -1,9 +1,9 @@
 -- What the numbers of jobs and of their feed say, where they are the same.
-use Rattle.std.proofs.Common.{◌≡◌, ℕ, zero, suc, ◌+◌, ◌*◌, ◌^◌, ◌<◌, ◌≤◌, Bool, true, false, List, [], ◌∷◌, length, get_or, Option, Some, None, refl, sym, ap, ap₂, ◌∙◌, arith}
+use Rattle.std.proofs.Common.{◌≡◌, ℕ, zero, suc, ◌+◌, ◌*◌, ◌^◌, ◌<◌, ◌≤◌, Bool, true, false, List, [], ◌∷◌, length, get_or, Option, Some, None, refl, sym, ap, ◌∙◌, arith}
 use Rattle.std.specs.Prelude.{◌&&◌, not, if◌then◌else◌}
 use Rattle.std.specs.List.{list_all}
-use Rattle.std.proofs.lemmas.Bool.{and_parts, and_from, eqb-true, le-ltb, lt-ltb, ltb-true, ltb-false, not-true}
-use Rattle.dst_spec.specs.Sample.{Shape, IsShape, sound_bytes}
+use Rattle.std.proofs.lemmas.Bool.{and_parts, and_from, le-ltb, lt-ltb, ltb-true, ltb-false, not-true}
+use Rattle.dst_spec.specs.Sample.{Shape, sound_bytes}
 use Rattle.dsdiff_spec.specs.Bytes.{◌below◌, ◌above◌}
 use Rattle.dsdiff_spec.specs.Walk.{Entry}
 use Rattle.dst_commands.specs.Rooms.{shape_number, has_room, room_number}

@@ -1,8 +1,8 @@
 -- A feed that has a job's number has the form, and the job room for its pieces.
-use Rattle.std.proofs.Common.{◌≡◌, ℕ, ◌+◌, ◌<◌, ◌≤◌, Bool, true, false, Option, Some, None, refl, ap, ap₂, ◌∙◌, arith}
+use Rattle.std.proofs.Common.{◌≡◌, ℕ, ◌≤◌, Bool, true, false, Option, Some, None, refl, ap, ◌∙◌}
 use Rattle.std.specs.Prelude.{◌&&◌, not, if◌then◌else◌}
-use Rattle.std.proofs.lemmas.Bool.{and_parts, and_from, eqb-true, le-ltb, lt-ltb, ltb-true, ltb-false, not-true}
-use Rattle.dst_spec.specs.Sample.{Shape, IsShape, sound_bytes}
+use Rattle.std.proofs.lemmas.Bool.{and_parts, and_from, le-ltb, lt-ltb, ltb-true, ltb-false, not-true}
+use Rattle.dst_spec.specs.Sample.{Shape, IsShape}
 use Rattle.dsdiff_spec.specs.Bytes.{◌below◌, ◌above◌}
 use Rattle.dst_commands.specs.Rooms.{shape_number, room_number}
 use Rattle.dst_commands.proofs.Rooms.{HasRoom, room_for, never_one, few_channels}
