@@ -21,7 +21,8 @@ use Rattle.dsdiff_laws.proofs.Filed.{may_lack, body_bytes, concat_bytes}
 use Rattle.dsdiff_laws.proofs.Props.{locals, chunk_of, body_with, prop_with_is, fields_are_read}
 use Rattle.dsdiff_laws.proofs.Order.{those_before, those_behind}
 use Rattle.dsdiff_laws.proofs.Places.{Lacks, parts_hold, copy_of, copied_of, copy_without}
-use Rattle.dsdiff_laws.proofs.PlainParts.{PlainParts, added_id, prop_id}
+use Rattle.dsdiff_laws.proofs.FormParts.{prop_id}
+use Rattle.dsdiff_laws.proofs.PlainParts.{PlainParts, added_id}
 
 -- ---- the chunks
 abbrev pub coded_cmpr : Chunk

@@ -19,7 +19,7 @@ use Rattle.dsdiff_laws.proofs.Standing.{Holds}
 use Rattle.dsdiff_laws.proofs.CodedChunks.{entry_bytes, dsti_chunk}
 use Rattle.dsdiff_laws.proofs.CodedFile.{length-index, AreShort, length_written}
 use Rattle.dsdiff_laws.proofs.CodedRules.{number_inside}
-use Rattle.dsdiff_laws.proofs.CodedWalk.{none_first}
+use Rattle.dsdiff_laws.proofs.ChunkWalk.{none_first}
 
 abbrev pub AreNumbers : List Entry → Type 0
 AreNumbers = AllByRecursion (λ e. (e.offset < 2 ^ 64) × (e.size < 2 ^ 32))

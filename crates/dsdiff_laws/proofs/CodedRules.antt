@@ -23,7 +23,8 @@ use Rattle.dsdiff_laws.proofs.Filed.{IsFile, may_lack, body_bytes, found_is, ope
 use Rattle.dsdiff_laws.proofs.Props.{IsProp, HasFields, AreRead, fields_are_read, lawful_prop, locals, replaced, replaced_is_prop}
 use Rattle.dsdiff_laws.proofs.Props.{replaced_has_fields, bytes_in_body, around_cmpr}
 use Rattle.dsdiff_laws.proofs.Places.{Lacks, one_named, head_behind, stands_behind, byte_in_body}
-use Rattle.dsdiff_laws.proofs.PlainParts.{PlainParts, prop_id, sound_id}
+use Rattle.dsdiff_laws.proofs.FormParts.{prop_id, sound_id}
+use Rattle.dsdiff_laws.proofs.PlainParts.{PlainParts}
 use Rattle.dsdiff_laws.proofs.CodedChunks.{coded_cmpr, coded_prop, dst_body, dst_chunk, dsti_chunk, coded_pre, plain_pre, entries_of, origin_of_parts}
 use Rattle.dsdiff_laws.proofs.CodedChunks.{coded_chunks}
 use Rattle.dsdiff_laws.proofs.CodedFile.{is_whole, whole_before, split_whole, length-body, AreFrames, length-frte, prop_size, cmpr_size}

@@ -6,6 +6,8 @@ pub mod Filed
 pub mod Order
 pub mod Props
 pub mod Places
+pub mod ChunkWalk
+pub mod FormParts
 pub mod PlainParts
 pub mod CodedChunks
 pub mod CodedFile

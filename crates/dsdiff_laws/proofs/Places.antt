@@ -18,6 +18,10 @@ use Rattle.dsdiff_laws.proofs.Order.{heads-append}
 abbrev pub Lacks : (List ℕ → Bool) → List Chunk → Type 0
 Lacks f cs = AllByRecursion (λ c. f c.id ≡ false) cs
 
+pub lacks_parts : (f : List ℕ → Bool) (cs ds : List Chunk) → Lacks f (cs ++ ds) → Lacks f cs × Lacks f ds
+lacks_parts f [] ds all = (tt, all)
+lacks_parts f (c ∷ cs) ds all = let later = lacks_parts f cs ds all.1 in ((all.0, later.0), later.1)
+
 pub none_named : (f : List ℕ → Bool) (n : ℕ) (cs : List Chunk) → Lacks f cs → filter (λ h. f h.id) (heads_from n cs) ≡ []
 none_named f n [] all = refl
 none_named f n (c ∷ cs) all = let here = all.0 in rw here (none_named f (n + length (bytes_of_chunk c)) cs all.1)
