@@ -18,7 +18,7 @@ use Rattle.dsdiff_spec.proofs.Tiling.{big_from-behind}
 use Rattle.dsdiff_laws.proofs.Standing.{Holds}
 use Rattle.dsdiff_laws.proofs.CodedChunks.{entry_bytes, dsti_chunk}
 use Rattle.dsdiff_laws.proofs.CodedFile.{length-index, AreShort, length_written}
-use Rattle.dsdiff_laws.proofs.CodedRules.{number_inside}
+use Rattle.dsdiff_laws.proofs.Places.{number_inside}
 use Rattle.dsdiff_laws.proofs.ChunkWalk.{none_first}
 
 abbrev pub AreNumbers : List Entry → Type 0

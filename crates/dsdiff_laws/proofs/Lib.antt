@@ -12,6 +12,7 @@ pub mod PlainParts
 pub mod CodedChunks
 pub mod CodedFile
 pub mod OriginRead
+pub mod CodedForm
 pub mod CodedRules
 pub mod CodedWalk
 pub mod CodedIndex
