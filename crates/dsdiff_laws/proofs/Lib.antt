@@ -14,6 +14,8 @@ pub mod CodedFile
 pub mod OriginRead
 pub mod CodedForm
 pub mod CodedRules
+pub mod FrameChunks
+pub mod MiddleFrames
 pub mod CodedWalk
 pub mod CodedIndex
 pub mod StoredBytes
