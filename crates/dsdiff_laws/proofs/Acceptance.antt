@@ -34,7 +34,7 @@ use Rattle.dsdiff_laws.proofs.CodedRules.{AreExact, form_rules, kind_is, count_i
 use Rattle.dsdiff_laws.proofs.CodedWalk.{Walked, IsWalk, walk_is}
 use Rattle.dsdiff_laws.proofs.CodedIndex.{HasIndex, index_is_walk, entries_are_numbers}
 use Rattle.dsdiff_laws.proofs.StoredBytes.{AreStored, stored_are, pieces_are, length-pieces}
-use Rattle.dsdiff_laws.proofs.Accepting.{coded_is_bytes}
+use Rattle.dsdiff_laws.proofs.Accepting.{coded_is_bytes, byte_at_place}
 
 abbrev if_coded : Kind → Option FileFault → Option FileFault
 if_coded k a = elim k [ plain ↦ None | coded ↦ a ]
@@ -312,11 +312,6 @@ acceptance file picks plain_file are =
       (ap length (has_index file picks e).one, compared file picks e),
     )
   where
-    byte_at_place : (w : List ℕ) (i : ℕ) → AreBytes w → get_or w i 0 < 256
-    byte_at_place [] i all = omega arith
-    byte_at_place (x ∷ w) zero all = all.0
-    byte_at_place (x ∷ w) (suc i) all = byte_at_place w i all.1
-
     pad_is_byte : (file : List ℕ) → AreBytes file → pad_byte file < 256
     pad_is_byte file all = either ((sound_head file).size % 2 == 1)
       where

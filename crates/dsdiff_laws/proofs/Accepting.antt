@@ -1,6 +1,6 @@
 -- What encoding writes is bytes.
 use Rattle.std.proofs.Common.{◌≡◌, ℕ, zero, suc, ◌+◌, ◌/◌, ◌%◌, ◌^◌, ◌<◌, ◌==◌, Bool, true, false, if◌then◌else◌, List, [], ◌∷◌, ◌++◌, length}
-use Rattle.std.proofs.Common.{flat_map, sym, subst, arith}
+use Rattle.std.proofs.Common.{flat_map, get_or, sym, subst, arith}
 use Rattle.std.specs.Prelude.{codes}
 use Rattle.std.specs.List.{AllByRecursion}
 use Rattle.std.specs.Int.{byte_at}
@@ -21,16 +21,21 @@ use Rattle.dsdiff_laws.proofs.CodedChunks.{coded_cmpr, coded_prop, dst_body, dst
 use Rattle.dsdiff_laws.proofs.CodedChunks.{entries_of, origin_of_parts, coded_chunks}
 use Prim.Native.String.{String}
 
-all_parts : (xs ys : List ℕ) → AreBytes (xs ++ ys) → AreBytes xs × AreBytes ys
+pub all_parts : (xs ys : List ℕ) → AreBytes (xs ++ ys) → AreBytes xs × AreBytes ys
 all_parts [] ys all = (tt, all)
 all_parts (x ∷ xs) ys all = let later = all_parts xs ys all.1 in ((all.0, later.0), later.1)
 
-joined : (xs ys : List ℕ) → AreBytes xs → AreBytes ys → AreBytes (xs ++ ys)
+pub joined : (xs ys : List ℕ) → AreBytes xs → AreBytes ys → AreBytes (xs ++ ys)
 joined xs ys a b = all_append (λ b. b < 256) xs ys a b
 
 byte-below : (n x : ℕ) → byte_at n x < 256
 byte-below zero x = let some : 0 < 256 = omega arith in mod-lt x some
 byte-below (suc n) x = let some : 0 < 256 = omega arith in mod-lt (x / 256 ^ suc n) some
+
+pub byte_at_place : (w : List ℕ) (i : ℕ) → AreBytes w → get_or w i 0 < 256
+byte_at_place [] i all = omega arith
+byte_at_place (x ∷ w) zero all = all.0
+byte_at_place (x ∷ w) (suc i) all = byte_at_place w i all.1
 
 pub numbers_are_bytes : (n x : ℕ) → AreBytes (big_bytes n x)
 numbers_are_bytes zero x = tt
@@ -44,7 +49,7 @@ parts_of_bytes c all =
     let d = all_parts c.id (big_bytes 8 (length c.body)) b.0 in
     (d.0, b.1, a.1)
 
-written_bytes : (name : String) (body : List ℕ) (pad : ℕ) → AreBytes (codes name) → AreBytes body → pad < 256 →
+pub written_bytes : (name : String) (body : List ℕ) (pad : ℕ) → AreBytes (codes name) → AreBytes body → pad < 256 →
     AreBytes (bytes_of_chunk (chunk_of name body pad))
 written_bytes name body pad n b l =
     joined (codes name ++ big_bytes 8 (length body) ++ body) (if length body % 2 == 1 then pad ∷ [] else [])
@@ -55,10 +60,10 @@ written_bytes name body pad n b l =
     pads true = (l, tt)
     pads false = tt
 
-body_parts : (cs ds : List Chunk) → AreBytes (body_bytes (cs ++ ds)) → AreBytes (body_bytes cs) × AreBytes (body_bytes ds)
+pub body_parts : (cs ds : List Chunk) → AreBytes (body_bytes (cs ++ ds)) → AreBytes (body_bytes cs) × AreBytes (body_bytes ds)
 body_parts cs ds all = all_parts (body_bytes cs) (body_bytes ds) (subst AreBytes (flat_map-append bytes_of_chunk cs ds) all)
 
-body_joined : (cs ds : List Chunk) → AreBytes (body_bytes cs) → AreBytes (body_bytes ds) → AreBytes (body_bytes (cs ++ ds))
+pub body_joined : (cs ds : List Chunk) → AreBytes (body_bytes cs) → AreBytes (body_bytes ds) → AreBytes (body_bytes (cs ++ ds))
 body_joined cs ds a b = subst AreBytes (sym (flat_map-append bytes_of_chunk cs ds)) (joined (body_bytes cs) (body_bytes ds) a b)
 
 -- ---- what is new
@@ -67,20 +72,20 @@ frames_bytes [] all = tt
 frames_bytes (w ∷ ws) all = joined (dstf w) (flat_map dstf ws)
     (written_bytes "DSTF" w 0 (omega arith, (omega arith, (omega arith, (omega arith, tt)))) all.0 (omega arith)) (frames_bytes ws all.1)
 
-index_bytes : (es : List Entry) → AreBytes (flat_map entry_bytes es)
+pub index_bytes : (es : List Entry) → AreBytes (flat_map entry_bytes es)
 index_bytes [] = tt
 index_bytes (e ∷ es) = joined (entry_bytes e) (flat_map entry_bytes es)
     (joined (big_bytes 8 e.offset) (big_bytes 4 e.size) (numbers_are_bytes 8 e.offset) (numbers_are_bytes 4 e.size)) (index_bytes es)
 
-four : (a b c d : ℕ) → a < 256 → b < 256 → c < 256 → d < 256 → AreBytes (a ∷ b ∷ c ∷ d ∷ [])
+pub four : (a b c d : ℕ) → a < 256 → b < 256 → c < 256 → d < 256 → AreBytes (a ∷ b ∷ c ∷ d ∷ [])
 four a b c d p q r s = (p, (q, (r, (s, tt))))
 
-frte_bytes : (n : ℕ) → AreBytes (frte n)
+pub frte_bytes : (n : ℕ) → AreBytes (frte n)
 frte_bytes n =
     written_bytes "FRTE" (big_bytes 4 n ++ big_bytes 2 75) 0 (four 70 82 84 69 (omega arith) (omega arith) (omega arith) (omega arith))
     (joined (big_bytes 4 n) (big_bytes 2 75) (numbers_are_bytes 4 n) (numbers_are_bytes 2 75)) (omega arith)
 
-origin_bytes : (sound pad : ℕ) (cmpr kept : List ℕ) → pad < 256 → AreBytes cmpr → AreBytes kept → AreBytes (origin_body sound pad cmpr kept)
+pub origin_bytes : (sound pad : ℕ) (cmpr kept : List ℕ) → pad < 256 → AreBytes cmpr → AreBytes kept → AreBytes (origin_body sound pad cmpr kept)
 origin_bytes sound pad cmpr kept l c k =
     let a = 2 ∷ big_bytes 8 sound in
     let b = pad ∷ big_bytes 4 (length kept) in

@@ -20,6 +20,7 @@ pub mod CodedWalk
 pub mod CodedIndex
 pub mod StoredBytes
 pub mod Accepting
+pub mod CutOrigin
 pub mod Acceptance
 pub mod Joined
 pub mod Restoring

@@ -81,7 +81,7 @@ length-frames : (file : List ℕ) (form : Form) → length (frames_of file form)
 length-frames file form = length-map (entries file form) (frame_at file) ∙ length-map (frame_heads file form) entry_of
 
 -- ---- the sound needs them all
-needed : (n size frames : ℕ) → 0 < n → frames_for n size ≡ frames → (size ≤ frames * n) × ((k : ℕ) → k < frames → k * n ≤ size)
+pub needed : (n size frames : ℕ) → 0 < n → frames_for n size ≡ frames → (size ≤ frames * n) × ((k : ℕ) → k < frames → k * n ≤ size)
 needed n size frames h e =
     let whole : n * frames + (size + n - 1) % n ≡ size + n - 1 = ap (λ m. n * m + (size + n - 1) % n) (sym e) ∙ div-add-mod (size + n - 1) n in
     (omega arith, λ k l. let more = mul-le-mul_right n l in omega arith)
