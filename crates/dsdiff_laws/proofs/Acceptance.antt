@@ -26,42 +26,16 @@ use Rattle.dsdiff_spec.proofs.CodedFiles.{form_by, refused_by, longest_sound_of_
 use Rattle.dsdiff_spec.proofs.ByIndex.{found_by_index}
 use Rattle.dsdiff_spec.proofs.Tiling.{heads_from}
 use Rattle.dsdiff_laws.proofs.Filed.{IsFile, body_bytes, opening_bytes, found_is, either_false}
-use Rattle.dsdiff_laws.proofs.Places.{Lacks, head_behind, stands_behind, one_named}
-use Rattle.dsdiff_laws.proofs.PlainParts.{PlainParts, plain_parts, plain_rules}
+use Rattle.dsdiff_laws.proofs.Places.{either_lacks, Lacks, head_behind, stands_behind, one_named}
+use Rattle.dsdiff_laws.proofs.PlainParts.{PlainParts, plain_parts, plain_rules, added_id}
 use Rattle.dsdiff_laws.proofs.CodedChunks.{coded_prop, coded_pre, coded_chunks, dst_body, dst_chunk, dsti_chunk, entries_of, origin_of_parts, coded_is}
 use Rattle.dsdiff_laws.proofs.CodedFile.{AreShort, AreFrames, coded_is_file, length-frte, length-body, length-cons, length-entries}
 use Rattle.dsdiff_laws.proofs.CodedRules.{AreExact, form_rules, kind_is, count_is, sound_head_is, same_sound_bytes}
 use Rattle.dsdiff_laws.proofs.CodedWalk.{Walked, IsWalk, walk_is}
 use Rattle.dsdiff_laws.proofs.CodedIndex.{HasIndex, index_is_walk, entries_are_numbers}
 use Rattle.dsdiff_laws.proofs.StoredBytes.{AreStored, stored_are, pieces_are, length-pieces}
+use Rattle.dsdiff_laws.proofs.Answered.{IsAnswered, decodes, checks, lists, writes}
 use Rattle.dsdiff_laws.proofs.Accepting.{coded_is_bytes, byte_at_place}
-
-abbrev if_coded : Kind → Option FileFault → Option FileFault
-if_coded k a = elim k [ plain ↦ None | coded ↦ a ]
-
-by_kind : (k : Kind) → k ≡ coded → (a : Option FileFault) → a ≡ None → if_coded k a ≡ None
-by_kind plain e a n = absurd cc
-by_kind coded e a n = n
-
-walked_by : (file : List ℕ) (form : Form) → form.kind ≡ coded → walk_fault file form ≡ None → walked_if_coded file form ≡ None
-walked_by file form e n = by_kind form.kind e (walk_fault file form) n
-
-compared_by : (file : List ℕ) (form : Form) → form.kind ≡ coded → check_index_fault file form ≡ None → not_compared file form ≡ None
-compared_by file form e n = by_kind form.kind e (check_index_fault file form) n
-
-abbrev of_heads : List Head → Option FileFault → Option FileFault
-of_heads hs a = elim hs [ [] ↦ None | i ∷ more ↦ a ]
-
-indexed_by : (file : List ℕ) (form : Form) (h : Head) → index_heads form ≡ h ∷ [] → compare_fault file form ≡ None → check_index_fault file form ≡ None
-indexed_by file form h e n = by_heads (index_heads form) e
-  where
-    by_heads : (hs : List Head) → hs ≡ h ∷ [] → of_heads hs (compare_fault file form) ≡ None
-    by_heads [] q = absurd cc
-    by_heads (i ∷ hs) q = n
-
-both_none : (a b : Option FileFault) → a ≡ None → b ≡ None → (a otherwise b) ≡ None
-both_none None b p q = q
-both_none (Some f) b p q = absurd cc
 
 more_short : (m n : ℕ) (frames : List (List ℕ)) → m ≤ n → AreShort m frames → AreShort n frames
 more_short m n [] le all = tt
@@ -200,10 +174,6 @@ module _ (file : List ℕ) (picks : Picks) (e : IsEncoded file picks)
     index_id : List ℕ → Bool
     index_id id = id is "DSTI"
 
-    first_lacks : (q r : List ℕ → Bool) (cs : List Chunk) → Lacks (λ id. q id || r id) cs → Lacks q cs
-    first_lacks q r [] all = tt
-    first_lacks q r (c ∷ cs) all = ((either_false (q c.id) (r c.id) all.0).0, first_lacks q r cs all.1)
-
     index_parts : coded_chunks e.p (accepted file) stored ≡ (coded_pre e.p ++ dst_chunk stored ∷ []) ++ dsti_chunk (entries_of e.p stored)
         ∷ origin_of_parts e.p (accepted file) ∷ e.p.last
     index_parts = sym (append_assoc (coded_pre e.p) (dst_chunk stored ∷ [])
@@ -212,7 +182,8 @@ module _ (file : List ℕ) (picks : Picks) (e : IsEncoded file picks)
     pub has_index : HasIndex g (accepted g) (entries_of e.p stored)
     has_index =
         let p = e.p in
-        let none = first_lacks (λ id. id is "DSTI") (λ id. id is "KEPT") in
+        let none : (cs : List Chunk) → Lacks added_id cs → Lacks (λ id. id is "DSTI") cs =
+        λ cs l. (either_lacks (λ id. id is "DSTI") (λ id. id is "KEPT") cs l).0 in
         let pre : Lacks (λ id. id is "DSTI") (coded_pre p ++ dst_chunk stored ∷ []) =
         all_append (λ (d : Chunk). (d.id is "DSTI") ≡ false) (coded_pre p) (dst_chunk stored ∷ [])
         (all_append (λ (d : Chunk). (d.id is "DSTI") ≡ false) (p.version ∷ p.front) (coded_prop p ∷ p.middle) (none (p.version ∷ p.front) p.others_front.added)
@@ -252,48 +223,16 @@ module _ (file : List ℕ) (picks : Picks) (e : IsEncoded file picks)
     one_index : length (index_heads (accepted g)) ≡ 1
     one_index = ap length has_index.one
 
-    -- ---- what each command answers
-    is_coded : is_plain (accepted g).kind ≡ false
-    is_coded = ap (λ (f : Form). is_plain f.kind) coded_form
-
-    pub not_refused : (c : Command) → command_fault c g (accepted g) ≡ None → form_by (form_fault g) g ≡ Ok (accepted g) →
-        refused_by (form_by (form_fault g) g) c g ≡ None
-    not_refused c none o = ap (λ r. refused_by r c g) o ∙ none
-
-    opened : form_by (form_fault g) g ≡ Ok (accepted g)
-    opened = ap (λ o. form_by o g) rules_kept
-
-    walks : not_walked g (accepted g) ≡ None
-    walks = let none = walk_of_coded.none in rw (is_coded, none) refl
-
-    pub decodes : refusal decode g ≡ None
-    unfolding refusal
-    decodes = not_refused decode walks opened
-
-    pub lists : refusal index g ≡ None
-    unfolding refusal
-    lists = not_refused index walks opened
-
-    pub writes : (k : ℕ) → k < (accepted file).frames → (b : Bool) → refusal (frame k b) g ≡ None
-    unfolding refusal
-    writes k l false =
-        let there : nat_lt k (accepted g).frames ≡ true = lt-ltb k (accepted g).frames (omega (arith, l, same_frames)) in
-        not_refused (frame k false) (let none = walks in rw (none, there) refl) opened
-    writes k l true =
-        let there : nat_lt k (accepted g).frames ≡ true = lt-ltb k (accepted g).frames (omega (arith, l, same_frames)) in
-        let found = found_by_index g (accepted g) k walk_of_coded.none compared (omega (arith, one_index)) walk_of_coded.heads
-        (omega (arith, l, same_frames)) in
-        not_refused (frame k true) (rw (is_coded, there) found) opened
-
-    pub checks : refusal check g ≡ None
-    unfolding refusal
-    checks =
-        let is_kind : (accepted g).kind ≡ coded = ap (λ (f : Form). f.kind) coded_form in
-        let indexed = indexed_by g (accepted g) has_index.head has_index.one compared in
-        not_refused check
-        (both_none (walked_if_coded g (accepted g)) (not_compared g (accepted g)) (walked_by g (accepted g) is_kind walk_of_coded.none)
-        (compared_by g (accepted g) is_kind indexed))
-        opened
+    pub is_answered : IsAnswered g
+    is_answered = record {
+      rules = rules_kept;
+      is_coded = kind_is file e.p (accepted file) stored e.frames e.exact g e.made;
+      walked = walk_of_coded.none;
+      found = walk_of_coded.heads;
+      head = has_index.head;
+      one = has_index.one;
+      compared = compared;
+    }
 
 pub acceptance : AcceptanceLaw
 acceptance file picks plain_file are =
@@ -303,10 +242,10 @@ acceptance file picks plain_file are =
     let bytes = coded_is_bytes file e.p (accepted file) (stored_frames picks file (accepted file)) g
     (subst (λ (f : Form). f.pad < 256) (sym e.is_form) pad)
     (subst (λ (f : Form). AreBytes f.behind) (sym e.is_form) (AreBytes-drop (form_end file) file plain_file.0)) e.stored.bytes e.made.bytes in (
-      (bytes, decodes file picks e),
-      (bytes, checks file picks e),
-      (bytes, lists file picks e),
-      (λ k l b. (bytes, writes file picks e k l b)),
+      (bytes, decodes g (is_answered file picks e)),
+      (bytes, checks g (is_answered file picks e)),
+      (bytes, lists g (is_answered file picks e)),
+      (λ k l b. (bytes, writes g (is_answered file picks e) k (omega (arith, l, same_frames file picks e)) b)),
       (walk_of_coded file picks e).stored,
       e.stored.short,
       (ap length (has_index file picks e).one, compared file picks e),

@@ -52,7 +52,7 @@ pub split_whole : (cs ds : List Chunk) → AllByRecursion IsChunk (cs ++ ds) →
 split_whole [] ds all = (tt, all)
 split_whole (c ∷ cs) ds all = let later = split_whole cs ds all.1 in ((all.0, later.0), later.1)
 
-join_whole : (cs ds : List Chunk) → AllByRecursion IsChunk cs → AllByRecursion IsChunk ds → AllByRecursion IsChunk (cs ++ ds)
+pub join_whole : (cs ds : List Chunk) → AllByRecursion IsChunk cs → AllByRecursion IsChunk ds → AllByRecursion IsChunk (cs ++ ds)
 join_whole [] ds p q = q
 join_whole (c ∷ cs) ds p q = (p.0, join_whole cs ds p.1 q)
 
@@ -113,7 +113,7 @@ length-origin sound pad cmpr kept =
 cmpr_of : {file : List ℕ} (p : PlainParts file) → AroundOne (locals p.prop.body) p.lawful.cmpr
 cmpr_of p = around_cmpr (locals p.prop.body) p.lawful.cmpr p.lawful.has.one_cmpr
 
-length-parts : (c : Chunk) → length (bytes_of_chunk c) ≡ length c.id + 8 + length c.body + length c.pad
+pub length-parts : (c : Chunk) → length (bytes_of_chunk c) ≡ length c.id + 8 + length c.body + length c.pad
 length-parts c =
     omega (
       arith,

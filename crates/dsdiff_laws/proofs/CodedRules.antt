@@ -22,7 +22,7 @@ use Rattle.dsdiff_laws.proofs.Standing.{Holds}
 use Rattle.dsdiff_laws.proofs.Filed.{IsFile, may_lack, body_bytes, found_is, opens, either_false}
 use Rattle.dsdiff_laws.proofs.Props.{IsProp, HasFields, AreRead, fields_are_read, lawful_prop, locals, replaced, replaced_is_prop}
 use Rattle.dsdiff_laws.proofs.Props.{replaced_has_fields, bytes_in_body, around_cmpr}
-use Rattle.dsdiff_laws.proofs.Places.{Lacks, one_named, head_behind, stands_behind, byte_in_body}
+use Rattle.dsdiff_laws.proofs.Places.{either_lacks, Lacks, one_named, head_behind, stands_behind, byte_in_body}
 use Rattle.dsdiff_laws.proofs.FormParts.{prop_id, sound_id}
 use Rattle.dsdiff_laws.proofs.PlainParts.{PlainParts}
 use Rattle.dsdiff_laws.proofs.CodedChunks.{coded_cmpr, coded_prop, dst_body, dst_chunk, dsti_chunk, coded_pre, plain_pre, entries_of, origin_of_parts}
@@ -149,13 +149,6 @@ module _ (file : List ℕ) (p : PlainParts file) (form : Form) (frames : List (L
 
     origin_parts : coded_chunks p form frames ≡ (coded_pre p ++ dst_chunk frames ∷ dsti_chunk (entries_of p frames) ∷ []) ++ origin_of_parts p form ∷ p.last
     origin_parts = sym (append_assoc (coded_pre p) (dst_chunk frames ∷ dsti_chunk (entries_of p frames) ∷ []) (origin_of_parts p form ∷ p.last))
-
-    either_lacks : (q r : List ℕ → Bool) (cs : List Chunk) → Lacks (λ id. q id || r id) cs → Lacks q cs × Lacks r cs
-    either_lacks q r [] all = (tt, tt)
-    either_lacks q r (c ∷ cs) all =
-        let both = either_false (q c.id) (r c.id) all.0 in
-        let later = either_lacks q r cs all.1 in
-        ((both.0, later.0), (both.1, later.1))
 
     pub origin_only : all "KEPT" g ≡ head_behind (coded_pre p ++ dst_chunk frames ∷ dsti_chunk (entries_of p frames) ∷ []) (origin_of_parts p form) ∷ []
     origin_only =

@@ -34,8 +34,8 @@ one_chunk_is w bytes one least type =
     let m : List ℕ → Bool = λ id. false in
     let n = number_at w 4 8 in
     let h = head_at w 0 in
-    let parts = and_parts _ _ one in
-    let opens = and_parts _ _ parts.0 in
+    let parts = and_parts (not (length w below 12) && bytes_at w 0 4 is "CMPR") (length w == 12 + n + n % 2) one in
+    let opens = and_parts (not (length w below 12)) (bytes_at w 0 4 is "CMPR") parts.0 in
     let long : length w ≡ 12 + n + n % 2 = eqb-true (length w) (12 + n + n % 2) parts.1 in
     let fit : fits m (length w) h ≡ true = fits_whole m (length w) h (omega (arith, long)) in
     let follow : Follow m w (length w) 0 (h ∷ []) = (omega (arith, long), refl, fit, tt) in

@@ -55,6 +55,7 @@ pub record FormParts (file : List ℕ) : Type 0 where
   pub version_byte : get_or version.body 0 0 ≡ 1
   pub is_prop : prop.id ≡ codes "PROP"
   pub is_sound : sound.id ≡ (sound_head file).id
+  pub sounds : sound_id sound.id ≡ true
   pub apart_front : AreApart (version ∷ front)
   pub apart_middle : AreApart middle
   pub apart_last : AreApart last
@@ -296,6 +297,7 @@ made_of file v front p middle x last bytes r s =
       version_byte = sym (byte_in_body file end (head_of v.id 16 (length v.body)) v 0 first_holds (omega (arith, size))) ∙ eqb-true _ 1 tests.1;
       is_prop = s.prop;
       is_sound = sym (ap (λ (h : Head). h.id) sound_head_is);
+      sounds = s.sound;
       apart_front = s.front_apart;
       apart_middle = s.middle_apart;
       apart_last = s.last_apart;

@@ -21,6 +21,8 @@ pub mod CodedIndex
 pub mod StoredBytes
 pub mod Accepting
 pub mod CutOrigin
+pub mod Passed
+pub mod Answered
 pub mod Acceptance
 pub mod Joined
 pub mod Restoring

@@ -1,6 +1,7 @@
 -- One chunk of a form among others: its head is found by its id, and its body stands behind that head.
 use Rattle.std.proofs.Common.{◌≡◌, ℕ, zero, suc, ◌+◌, ◌*◌, ◌^◌, ◌<◌, ◌≤◌, Bool, true, false, if◌then◌else◌, List, [], ◌∷◌, ◌++◌, length, drop, get_or, map, filter, refl, sym}
 use Rattle.std.proofs.Common.{ap, ap₂, subst, ◌∙◌, arith}
+use Rattle.std.specs.Prelude.{◌||◌}
 use Rattle.std.specs.List.{AllByRecursion, AllZip}
 use Rattle.std.proofs.lemmas.List.{get_or-drop, get_or-take}
 use Rattle.std.proofs.lemmas.List.Elements.{filter-append}
@@ -12,7 +13,7 @@ use Rattle.dsdiff_spec.specs.Parts.{form_end}
 use Rattle.dsdiff_spec.specs.Written.{prop_with, copied_with}
 use Rattle.dsdiff_spec.proofs.Tiling.{heads_from, head_of}
 use Rattle.dsdiff_laws.proofs.Standing.{Holds}
-use Rattle.dsdiff_laws.proofs.Filed.{IsFile, body_bytes, file_holds}
+use Rattle.dsdiff_laws.proofs.Filed.{IsFile, body_bytes, file_holds, either_false}
 use Rattle.dsdiff_laws.proofs.Order.{heads-append}
 
 -- ---- heads by their ids
@@ -22,6 +23,14 @@ Lacks f cs = AllByRecursion (λ c. f c.id ≡ false) cs
 pub lacks_parts : (f : List ℕ → Bool) (cs ds : List Chunk) → Lacks f (cs ++ ds) → Lacks f cs × Lacks f ds
 lacks_parts f [] ds all = (tt, all)
 lacks_parts f (c ∷ cs) ds all = let later = lacks_parts f cs ds all.1 in ((all.0, later.0), later.1)
+
+-- ids of two kinds
+pub either_lacks : (q r : List ℕ → Bool) (cs : List Chunk) → Lacks (λ id. q id || r id) cs → Lacks q cs × Lacks r cs
+either_lacks q r [] all = (tt, tt)
+either_lacks q r (c ∷ cs) all =
+    let both = either_false (q c.id) (r c.id) all.0 in
+    let later = either_lacks q r cs all.1 in
+    ((both.0, later.0), (both.1, later.1))
 
 pub none_named : (f : List ℕ → Bool) (n : ℕ) (cs : List Chunk) → Lacks f cs → filter (λ h. f h.id) (heads_from n cs) ≡ []
 none_named f n [] all = refl

@@ -57,7 +57,7 @@ kind_gives_none file p =
     (later_gives_none (version_fault file) (prop_fault file otherwise sound_fault file otherwise kind_fault (kind file) file)
     (later_gives_none (opening_fault file) (version_fault file otherwise prop_fault file otherwise sound_fault file otherwise kind_fault (kind file) file) p)))
 
-is_coded_kind : (k : Kind) → is_plain k ≡ false → k ≡ coded
+pub is_coded_kind : (k : Kind) → is_plain k ≡ false → k ≡ coded
 is_coded_kind plain e = absurd cc
 is_coded_kind coded e = refl
 
