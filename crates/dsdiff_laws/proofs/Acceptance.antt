@@ -31,6 +31,7 @@ use Rattle.dsdiff_laws.proofs.PlainParts.{PlainParts, plain_parts, plain_rules, 
 use Rattle.dsdiff_laws.proofs.CodedChunks.{coded_prop, coded_pre, coded_chunks, dst_body, dst_chunk, dsti_chunk, entries_of, origin_of_parts, coded_is}
 use Rattle.dsdiff_laws.proofs.CodedFile.{AreShort, AreFrames, coded_is_file, length-frte, length-body, length-cons, length-entries}
 use Rattle.dsdiff_laws.proofs.CodedRules.{AreExact, form_rules, kind_is, count_is, sound_head_is, same_sound_bytes}
+use Rattle.dsdiff_laws.proofs.BehindFrte.{behind_frte}
 use Rattle.dsdiff_laws.proofs.CodedWalk.{Walked, IsWalk, walk_is}
 use Rattle.dsdiff_laws.proofs.CodedIndex.{HasIndex, index_is_walk, entries_are_numbers}
 use Rattle.dsdiff_laws.proofs.StoredBytes.{AreStored, stored_are, pieces_are, length-pieces}
@@ -115,54 +116,20 @@ module _ (file : List ℕ) (picks : Picks) (e : IsEncoded file picks)
     pub same_bytes : sound_bytes_of (accepted g) ≡ sound_bytes_of (accepted file)
     same_bytes = same_sound_bytes file e.p (accepted file) stored e.frames e.exact g e.made ∙ sym (ap sound_bytes_in e.p.prop_is)
 
-    last_chunks : List Chunk
-    last_chunks = dsti_chunk (entries_of e.p stored) ∷ origin_of_parts e.p (accepted file) ∷ e.p.last
-
     pub walked : Walked g (body_end (accepted g).sound) (body_place (accepted g).sound + 18) stored
-    unfolding last_chunks
     walked =
-        let cs = coded_chunks e.p (accepted file) stored in
-        let pre = coded_pre e.p in
-        let dst = dst_chunk stored in
-        let front = opening_bytes cs ++ body_bytes pre ++ codes "DST " ++ big_bytes 8 (length (dst_body stored)) ++ frte (length stored) in
-        let n = 4 + length (body_bytes cs) in
-        let o : length (opening_bytes cs) ≡ 16 = omega (
-          arith,
-          length-append (codes "FRM8" ++ big_bytes 8 n) (codes "DSD "),
-          length-append (codes "FRM8") (big_bytes 8 n),
-          length-bytes_high_first 8 n,
-        ) in
-        let long : length front ≡ 16 + length (body_bytes pre) + 12 + 18 =
-        omega (
-          arith,
-          o,
-          length-append (opening_bytes cs ++ body_bytes pre ++ codes "DST " ++ big_bytes 8 (length (dst_body stored))) (frte (length stored)),
-          length-append (opening_bytes cs ++ body_bytes pre ++ codes "DST ") (big_bytes 8 (length (dst_body stored))),
-          length-append (opening_bytes cs ++ body_bytes pre) (codes "DST "),
-          length-append (opening_bytes cs) (body_bytes pre),
-          length-bytes_high_first 8 (length (dst_body stored)),
-          length-frte (length stored),
-        ) in
-        let place : body_place (accepted g).sound ≡ 16 + length (body_bytes pre) + 12 = ap body_place sound_is in
-        let end : body_end (accepted g).sound ≡ 16 + length (body_bytes pre) + 12 + length (dst_body stored) = ap body_end sound_is in
+        let b = behind_frte g (coded_pre e.p) (dsti_chunk (entries_of e.p stored) ∷ origin_of_parts e.p (accepted file) ∷ e.p.last) (length stored)
+        (flat_map dstf stored) e.made in
+        let end = ap body_end sound_is in
+        let place = ap body_place sound_is in
         record {
-          front = front;
-          rest = dst.pad ++ body_bytes last_chunks ++ [];
-          bytes = e.made.bytes ∙ ap (λ w. opening_bytes cs ++ w ++ []) (body_split pre dst last_chunks)
-              ∙ regroup (opening_bytes cs) (body_bytes pre) (codes "DST ") (big_bytes 8 (length (dst_body stored))) (frte (length stored))
-              (flat_map dstf stored) dst.pad (body_bytes last_chunks);
-          at_place = omega (arith, long, place);
-          ends = omega (arith, end, place, length-append (frte (length stored)) (flat_map dstf stored), length-frte (length stored));
+          front = b.front;
+          rest = b.rest;
+          bytes = b.bytes;
+          at_place = omega (arith, b.at_place, place);
+          ends = omega (arith, b.ends, end, place);
           few = e.frames.count;
         }
-      where
-        body_split : (pre : List Chunk) (c : Chunk) (post : List Chunk) → body_bytes (pre ++ c ∷ post) ≡ body_bytes pre ++ (bytes_of_chunk c ++ body_bytes post)
-        body_split [] c post = refl
-        body_split (d ∷ pre) c post = ap (λ w. bytes_of_chunk d ++ w) (body_split pre c post)
-            ∙ sym (append_assoc (bytes_of_chunk d) (body_bytes pre) (bytes_of_chunk c ++ body_bytes post))
-
-        regroup : (o b d s f w p l : List ℕ) → o ++ (b ++ ((d ++ s ++ (f ++ w) ++ p) ++ l)) ++ [] ≡ (o ++ b ++ d ++ s ++ f) ++ w ++ (p ++ l ++ [])
-        regroup o b d s f w p l = simp append_assoc refl
 
     pub walk_of_coded : IsWalk g (accepted g) stored
     walk_of_coded =

@@ -13,6 +13,7 @@ pub mod CodedChunks
 pub mod CodedFile
 pub mod OriginRead
 pub mod CodedForm
+pub mod BehindFrte
 pub mod CodedRules
 pub mod FrameChunks
 pub mod MiddleFrames
