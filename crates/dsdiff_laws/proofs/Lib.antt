@@ -22,6 +22,7 @@ pub mod CodedIndex
 pub mod StoredBytes
 pub mod Accepting
 pub mod CutOrigin
+pub mod CutRules
 pub mod Passed
 pub mod Answered
 pub mod Acceptance
