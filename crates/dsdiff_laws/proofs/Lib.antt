@@ -24,6 +24,7 @@ pub mod Accepting
 pub mod CutOrigin
 pub mod CutRules
 pub mod Passed
+pub mod CutChunks
 pub mod Answered
 pub mod Acceptance
 pub mod Joined
