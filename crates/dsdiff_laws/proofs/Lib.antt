@@ -25,6 +25,7 @@ pub mod CutOrigin
 pub mod CutRules
 pub mod Passed
 pub mod CutChunks
+pub mod CutForm
 pub mod Answered
 pub mod Acceptance
 pub mod Joined
