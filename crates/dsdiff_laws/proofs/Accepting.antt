@@ -91,13 +91,25 @@ origin_bytes sound pad cmpr kept l c k =
     let b = pad ∷ big_bytes 4 (length kept) in
     joined (a ++ b ++ cmpr) kept (joined (a ++ b) cmpr (joined a b (omega arith, numbers_are_bytes 8 sound) (l, numbers_are_bytes 4 (length kept))) c) k
 
+-- ---- a form of chunks
+pub form_is_bytes : (g : List ℕ) (cs : List Chunk) → g ≡ opening_bytes cs ++ body_bytes cs ++ [] → AreBytes (body_bytes cs) → AreBytes g
+form_is_bytes g cs whole all =
+    let n = 4 + length (body_bytes cs) in
+    let opening = joined (codes "FRM8" ++ big_bytes 8 n) (codes "DSD ")
+    (joined (codes "FRM8") (big_bytes 8 n) (four 70 82 77 56 (omega arith) (omega arith) (omega arith) (omega arith)) (numbers_are_bytes 8 n))
+    (four 68 83 68 32 (omega arith) (omega arith) (omega arith) (omega arith)) in
+    subst AreBytes (sym whole) (joined (opening_bytes cs ++ body_bytes cs) [] (joined (opening_bytes cs) (body_bytes cs) opening all) tt)
+
+pub form_body_bytes : (file : List ℕ) (cs : List Chunk) (rest : List ℕ) → AreBytes file → file ≡ opening_bytes cs ++ body_bytes cs ++ rest →
+    AreBytes (body_bytes cs)
+form_body_bytes file cs rest bytes whole =
+    (all_parts (opening_bytes cs) (body_bytes cs) (all_parts (opening_bytes cs ++ body_bytes cs) rest (subst AreBytes whole bytes)).0).1
+
 -- ---- all of it
 pub coded_is_bytes : (file : List ℕ) (p : PlainParts file) (form : Form) (frames : List (List ℕ)) (g : List ℕ) → form.pad < 256 → AreBytes form.behind →
     AllByRecursion AreBytes frames → g ≡ opening_bytes (coded_chunks p form frames) ++ body_bytes (coded_chunks p form frames) ++ [] → AreBytes g
 coded_is_bytes file p form frames g pad behind stored whole =
-    let body = (all_parts (opening_bytes (plain_pre p ++ p.sound ∷ p.last)) (body_bytes (plain_pre p ++ p.sound ∷ p.last))
-    (all_parts (opening_bytes (plain_pre p ++ p.sound ∷ p.last) ++ body_bytes (plain_pre p ++ p.sound ∷ p.last)) (behind_form file)
-    (subst AreBytes p.formed.bytes p.bytes)).0).1 in
+    let body = form_body_bytes file (plain_pre p ++ p.sound ∷ p.last) (behind_form file) p.bytes p.formed.bytes in
     let outer = body_parts (plain_pre p) (p.sound ∷ p.last) body in
     let last = (all_parts (bytes_of_chunk p.sound) (body_bytes p.last) outer.1).1 in
     let inner = body_parts (p.version ∷ p.front) (p.prop ∷ p.middle) outer.0 in
@@ -127,12 +139,7 @@ coded_is_bytes file p form frames g pad behind stored whole =
     let rest = joined (bytes_of_chunk (dst_chunk frames)) _ dst
     (joined (bytes_of_chunk (dsti_chunk (entries_of p frames))) _ dsti (joined (bytes_of_chunk (origin_of_parts p form)) _ origin last)) in
     let all = body_joined (coded_pre p) (dst_chunk frames ∷ dsti_chunk (entries_of p frames) ∷ origin_of_parts p form ∷ p.last) pre rest in
-    let n = 4 + length (body_bytes (coded_chunks p form frames)) in
-    let opening = joined (codes "FRM8" ++ big_bytes 8 n) (codes "DSD ")
-    (joined (codes "FRM8") (big_bytes 8 n) (four 70 82 77 56 (omega arith) (omega arith) (omega arith) (omega arith)) (numbers_are_bytes 8 n))
-    (four 68 83 68 32 (omega arith) (omega arith) (omega arith) (omega arith)) in
-    subst AreBytes (sym whole) (joined (opening_bytes (coded_chunks p form frames) ++ body_bytes (coded_chunks p form frames)) []
-    (joined (opening_bytes (coded_chunks p form frames)) (body_bytes (coded_chunks p form frames)) opening all) tt)
+    form_is_bytes g (coded_chunks p form frames) whole all
   where
     cmpr_text : AreBytes (codes "DST " ++ 11 ∷ codes "DST Encoded")
     cmpr_text = (

@@ -27,6 +27,8 @@ pub mod Passed
 pub mod CutChunks
 pub mod CutForm
 pub mod Answered
+pub mod CutWalk
+pub mod Cutting
 pub mod Acceptance
 pub mod Joined
 pub mod Restoring

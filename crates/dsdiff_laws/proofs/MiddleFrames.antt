@@ -161,16 +161,31 @@ entries_of_middle cs first last place m =
     ∙ middle_of (entries_among place m.before) (entries_among here m.mid) (entries_among (here + length (body_bytes m.mid)) m.behind) first (last + 1 - first)
     (length-entries_among place m.before ∙ m.count_before) (length-entries_among here m.mid ∙ m.count)
 
-pub frames_of_middle : (cs : List Chunk) (first last : ℕ) (m : IsMiddle cs first last) →
-    take (last + 1 - first) (drop first (bodies_of (frames_among cs))) ≡ bodies_of (frames_among m.mid)
-frames_of_middle cs first last m =
-    let f : Chunk → List ℕ = λ c. c.body in
-    ap (λ ds. take (last + 1 - first) (drop first (bodies_of ds))) (ap frames_among m.parts ∙ frames-append m.before (m.mid ++ m.behind)
+pub frames_in_middle : (cs : List Chunk) (first last : ℕ) (m : IsMiddle cs first last) →
+    take (last + 1 - first) (drop first (frames_among cs)) ≡ frames_among m.mid
+frames_in_middle cs first last m =
+    ap (λ ds. take (last + 1 - first) (drop first ds)) (ap frames_among m.parts ∙ frames-append m.before (m.mid ++ m.behind)
     ∙ ap (λ ds. frames_among m.before ++ ds) (frames-append m.mid m.behind))
-    ∙ ap (λ ws. take (last + 1 - first) (drop first ws)) (map-append f (frames_among m.before) (frames_among m.mid ++ frames_among m.behind)
-    ∙ ap (λ ws. bodies_of (frames_among m.before) ++ ws) (map-append f (frames_among m.mid) (frames_among m.behind)))
-    ∙ middle_of (bodies_of (frames_among m.before)) (bodies_of (frames_among m.mid)) (bodies_of (frames_among m.behind)) first (last + 1 - first)
-    (length-map (frames_among m.before) f ∙ m.count_before) (length-map (frames_among m.mid) f ∙ m.count)
+    ∙ middle_of (frames_among m.before) (frames_among m.mid) (frames_among m.behind) first (last + 1 - first) m.count_before m.count
+
+pub bodies_of_middle : (cs : List Chunk) (first last : ℕ) (m : IsMiddle cs first last) →
+    take (last + 1 - first) (drop first (bodies_of (frames_among cs))) ≡ bodies_of (frames_among m.mid)
+bodies_of_middle cs first last m =
+    bodies_taken (last + 1 - first) (drop first (frames_among cs)) (bodies_dropped first (frames_among cs))
+    ∙ ap bodies_of (frames_in_middle cs first last m)
+  where
+    bodies_dropped : (n : ℕ) (ds : List Chunk) → drop n (bodies_of ds) ≡ bodies_of (drop n ds)
+    bodies_dropped zero ds = refl
+    bodies_dropped (suc n) [] = refl
+    bodies_dropped (suc n) (d ∷ ds) = bodies_dropped n ds
+
+    bodies_of_take : (n : ℕ) (ds : List Chunk) → take n (bodies_of ds) ≡ bodies_of (take n ds)
+    bodies_of_take zero ds = refl
+    bodies_of_take (suc n) [] = refl
+    bodies_of_take (suc n) (d ∷ ds) = ap (λ ws. d.body ∷ ws) (bodies_of_take n ds)
+
+    bodies_taken : (n : ℕ) (ds : List Chunk) {ws : List (List ℕ)} → ws ≡ bodies_of ds → take n ws ≡ bodies_of (take n ds)
+    bodies_taken n ds e = ap (take n) e ∙ bodies_of_take n ds
 
 -- ---- the same chunks at another place
 pub moved : (from to k : ℕ) (cs : List Chunk) →
