@@ -14,7 +14,7 @@ use Rattle.dsdiff_spec.specs.Origin.{origin_of, is_bad_origin}
 use Rattle.dsdiff_spec.specs.Rules.{has_bad_origin, form_fault, form_of_kind, accepted, origin_in}
 use Rattle.dsdiff_spec.specs.Walk.{Entry, entry_of, entries, index_heads, compare_fault}
 use Rattle.dsdiff_spec.specs.Cut.{is_last}
-use Rattle.dsdiff_spec.specs.Decoded.{plain_pad}
+use Rattle.dsdiff_spec.specs.Decoded.{plain_cmpr, plain_pad, kept_bytes}
 use Rattle.dsdiff_spec.specs.Laws.{cut_file, cut_size, cut_pad}
 use Rattle.dsdiff_spec.proofs.CodedFiles.{bad_among}
 use Rattle.dsdiff_spec.proofs.Tiling.{heads_from, head_of}
@@ -274,3 +274,17 @@ module _ (file : List ℕ) (first last : ℕ) (le : first ≤ last) (c : CutPart
         by_origin None false = refl
         by_origin (Some o) true = refl
         by_origin (Some o) false = refl
+
+    pub cmpr_is : plain_cmpr (accepted (cut_file file first last)).origin ≡ plain_cmpr (accepted file).origin
+    cmpr_is = ap plain_cmpr origin_left ∙ by_origin form.origin
+      where
+        by_origin : (o : Option Origin) → plain_cmpr (left final (sound_bytes_of form) first last o) ≡ plain_cmpr o
+        by_origin None = refl
+        by_origin (Some o) = refl
+
+    pub nothing_is_kept : kept_bytes (accepted (cut_file file first last)).origin ≡ []
+    nothing_is_kept = ap kept_bytes origin_left ∙ by_origin form.origin
+      where
+        by_origin : (o : Option Origin) → kept_bytes (left final (sound_bytes_of form) first last o) ≡ []
+        by_origin None = refl
+        by_origin (Some o) = refl

@@ -16,7 +16,7 @@ use Rattle.dsdiff_spec.specs.Form.{Origin, frames_for}
 use Rattle.dsdiff_spec.specs.Origin.{origin_version, kept_length, origin_of, is_one_chunk, outside, bad_version_1, bad_version_2, is_bad_origin}
 use Rattle.dsdiff_spec.proofs.Steps.{fits_whole}
 use Rattle.dsdiff_spec.proofs.Finding.{Follow}
-use Rattle.dsdiff_spec.proofs.CodedFiles.{needed, longest_sound_of_frame}
+use Rattle.dsdiff_spec.proofs.CodedFiles.{needed, some_bytes, longest_sound_of_frame}
 use Rattle.dsdiff_laws.proofs.Chunked.{chunk_at, length-bytes_at, chunks_of_heads, bytes_of_heads, number_fits}
 use Rattle.dsdiff_laws.proofs.Filed.{either_false, not_false, no_less, take_whole}
 use Rattle.dsdiff_laws.proofs.Props.{all_whole, take_less}
@@ -172,13 +172,6 @@ half_of f s = elim s.rate [
   | inl e ↦ (2352 * f.channels, ap (λ n. n * f.channels) e ∙ (omega arith))
   | inr (inl e) ↦ (4704 * f.channels, ap (λ n. n * f.channels) e ∙ (omega arith))
   | inr (inr e) ↦ (9408 * f.channels, ap (λ n. n * f.channels) e ∙ (omega arith))
-]
-
-pub some_bytes : (f : Shape) → IsShape f → 0 < sound_bytes f
-some_bytes f s = elim s.rate [
-  | inl e ↦ let least = s.least in rw e (omega arith)
-  | inr (inl e) ↦ let least = s.least in rw e (omega arith)
-  | inr (inr e) ↦ let least = s.least in rw e (omega arith)
 ]
 
 -- ---- the `KEPT` of the frames from first to last

@@ -9,7 +9,7 @@ use Rattle.dsdiff_spec.specs.Decoded.{Plain, frames_of, decoded_with}
 use Rattle.dsdiff_spec.specs.Laws.{IsCut, CuttingLaw, cut_file, cut_size, those_from_to}
 use Rattle.dsdiff_laws.proofs.Answered.{decodes, checks, lists, writes}
 use Rattle.dsdiff_laws.proofs.CutRules.{CutParts, cut_parts}
-use Rattle.dsdiff_laws.proofs.CutForm.{same_shape, frames_is, size_is, pad_is}
+use Rattle.dsdiff_laws.proofs.CutForm.{same_shape, frames_is, size_is, pad_is, cmpr_is, nothing_is_kept}
 use Rattle.dsdiff_laws.proofs.CutWalk.{frames_are, is_answered, is_bytes}
 
 decoded_to : (file : List ℕ) (first last : ℕ) (le : first ≤ last) (c : CutParts file first last) (sounds : List (List ℕ)) →
@@ -40,5 +40,7 @@ cutting file first last le accepts =
       index_of_walk = (ap length a.one, a.compared);
       size = size_is file first last le c;
       pad = pad_is file first last le c;
+      cmpr = cmpr_is file first last le c;
+      nothing_kept = nothing_is_kept file first last le c;
       sound = decoded_to file first last le c;
     }

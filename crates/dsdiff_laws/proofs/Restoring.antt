@@ -22,6 +22,7 @@ use Rattle.dsdiff_spec.specs.Written.{form_of, padded_chunk, prop_with, before_s
 use Rattle.dsdiff_spec.specs.Coded.{Picks, pieces, stored_frames}
 use Rattle.dsdiff_spec.specs.Decoded.{Plain, decoded, decoded_with, decoded_before, plain_cmpr, plain_pad, kept_bytes, frames_of}
 use Rattle.dsdiff_spec.specs.Laws.{coded_file, RestoringLaw}
+use Rattle.dsdiff_spec.proofs.CodedFiles.{some_bytes}
 use Rattle.dsdiff_spec.proofs.Tiling.{heads_from, length_of_chunk}
 use Rattle.dsdiff_laws.proofs.Composed.{first_ends}
 use Rattle.dsdiff_laws.proofs.Standing.{Holds}
@@ -283,20 +284,14 @@ module _ (file : List ℕ) (picks : Picks) (e : IsEncoded file picks)
     abbrev list : List (List ℕ)
     list = pieces (sound_bytes_of (accepted file)) (body_of file (accepted file).sound)
 
-    some_bytes : 0 < sound_bytes_of (accepted file)
-    some_bytes = elim e.shape.rate [
-      | inl q ↦ let least = e.shape.least in rw q (omega arith)
-      | inr (inl q) ↦ let least = e.shape.least in rw q (omega arith)
-      | inr (inr q) ↦ let least = e.shape.least in rw q (omega arith)
-    ]
-
     body_is : body_of file (accepted file).sound ≡ e.p.sound.body
     body_is = ap (body_of file) e.p.sound_head_is ∙ e.p.sound_holds.body
 
     joined_is : take (size_of_sound form') (concat list) ≡ e.p.sound.body
     joined_is =
         ap (λ n. take n (concat list)) (size_said ∙ sym (ap length body_is))
-        ∙ pieces_join (sound_bytes_of (accepted file)) (body_of file (accepted file).sound) some_bytes
+        ∙ pieces_join (sound_bytes_of (accepted file)) (body_of file (accepted file).sound)
+        (some_bytes (shape (accepted file)) e.shape)
         ∙ body_is
 
     meant : AllZip (Means (shape form')) (frames_of g form') list

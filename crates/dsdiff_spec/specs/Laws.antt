@@ -1,5 +1,5 @@
 -- The laws of files, as statements.
-use Rattle.std.specs.Prelude.{◌≡◌, ◌↔◌, ℕ, ◌+◌, ◌-◌, ◌*◌, ◌<◌, ◌≤◌, Bool, true, false, if◌then◌else◌, List, ◌∷◌, ◌++◌, length, take, drop, Some, None}
+use Rattle.std.specs.Prelude.{◌≡◌, ◌↔◌, ℕ, ◌+◌, ◌-◌, ◌*◌, ◌<◌, ◌≤◌, Bool, true, false, if◌then◌else◌, List, [], ◌∷◌, ◌++◌, length, take, drop, Some, None}
 use Rattle.std.specs.List.{AllByRecursion, AllZip, concat}
 use Rattle.dst_spec.specs.Bits.{AreBytes}
 use Rattle.dst_spec.specs.Sample.{Shape, IsShape, IsSound}
@@ -9,7 +9,7 @@ use Rattle.dsdiff_spec.specs.Form.{Form, shape, sound_bytes_of, size_of_sound}
 use Rattle.dsdiff_spec.specs.Rules.{accepted}
 use Rattle.dsdiff_spec.specs.Walk.{index_heads, compare_fault}
 use Rattle.dsdiff_spec.specs.Coded.{Picks, pieces, stored_frames, coded}
-use Rattle.dsdiff_spec.specs.Decoded.{Plain, frames_of, plain_pad, decoded_with}
+use Rattle.dsdiff_spec.specs.Decoded.{Plain, frames_of, plain_cmpr, plain_pad, kept_bytes, decoded_with}
 use Rattle.dsdiff_spec.specs.Cut as cutting
 use Rattle.dsdiff_spec.specs.Cut.{is_last}
 use Rattle.dsdiff_spec.specs.Dsf.{dsf_fault, dsdiff, ToDsf, bare}
@@ -71,7 +71,8 @@ PiecesLaw = (n : ℕ) (sound : List ℕ) → 0 < n → take (length sound) (conc
 
 -- What cutting writes is accepted for decoding, checking and listing, and each frame of it for writing its sound, by the
 -- walk and by the index. Its frames are those that were asked for, byte for byte, and its one index is its walk. It is decoded
--- to the sounds of these frames, cut where the old sound ended if the last frame is in it, with the pad byte of that sound.
+-- to the sounds of these frames, cut where the old sound ended if the last frame is in it, with the pad byte of that sound; the plain file's `CMPR` is the
+-- old one, and no bytes are kept.
 abbrev pub cut_file : List ℕ → ℕ → ℕ → List ℕ
 cut_file file first last = cutting.cut file (accepted file) first last
 
@@ -94,6 +95,8 @@ pub record IsCut (file : List ℕ) (first last : ℕ) (g : List ℕ) : Type 0 wh
   pub index_of_walk : HasIndexOfWalk g
   pub size : size_of_sound (accepted g) ≡ cut_size (accepted file) first last
   pub pad : plain_pad (accepted g).origin ≡ cut_pad (accepted file) last
+  pub cmpr : plain_cmpr (accepted g).origin ≡ plain_cmpr (accepted file).origin
+  pub nothing_kept : kept_bytes (accepted g).origin ≡ []
   pub sound : (sounds : List (List ℕ)) →
       AllZip (Means (shape (accepted file))) (those_from_to first last (frames_of file (accepted file))) sounds →
       Plain g (accepted g) (decoded_with (take (cut_size (accepted file) first last) (concat sounds)) g (accepted g))
