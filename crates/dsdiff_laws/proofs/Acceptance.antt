@@ -1,35 +1,28 @@
 -- What encoding writes is accepted for decoding, its frames are the stored ones, and its index is its walk.
-use Rattle.std.proofs.Common.{◌≡◌, ℕ, zero, suc, ◌+◌, ◌%◌, ◌^◌, ◌<◌, ◌≤◌, ◌==◌, nat_lt, Bool, true, false, if◌then◌else◌, List, [], ◌∷◌, ◌++◌, length}
-use Rattle.std.proofs.Common.{drop, get_or, flat_map, Option, Some, None, Ok, refl, sym, ap, ap₂, subst, ◌∙◌, arith, length-append, append_assoc}
-use Rattle.std.specs.Prelude.{codes, ◌||◌}
-use Rattle.std.proofs.lemmas.Bool.{lt-ltb}
+use Rattle.std.proofs.Common.{◌≡◌, ℕ, ◌+◌, ◌%◌, ◌^◌, ◌<◌, ◌≤◌, ◌==◌, Bool, true, false, if◌then◌else◌, List, [], ◌∷◌, ◌++◌, length}
+use Rattle.std.proofs.Common.{drop, get_or, flat_map, None, refl, sym, ap, ap₂, subst, ◌∙◌, arith, length-append, append_assoc}
+use Rattle.std.specs.Prelude.{codes}
 use Rattle.byteorder.specs.Endian.{big_bytes}
-use Rattle.byteorder.specs.Numbers.{length-bytes_high_first}
 use Rattle.dst_spec.specs.Bits.{AreBytes}
 use Rattle.dst_spec.specs.Sample.{IsShape}
 use Rattle.dst_spec.proofs.Lists.{AreBytes-take, AreBytes-drop, all_append}
 use Rattle.dsdiff_spec.specs.Bytes.{◌is◌}
-use Rattle.dsdiff_spec.specs.Faults.{◌otherwise◌}
 use Rattle.dsdiff_spec.specs.Chunks.{Chunk, bytes_of_chunk, Head, Found, body_place, body_end, body_of, named}
 use Rattle.dsdiff_spec.specs.Form.{Kind, plain, coded, is_plain, Form, shape, sound_bytes_of, longest_frame, frames_for}
 use Rattle.dsdiff_spec.specs.Parts.{sound_head, form_end, pad_byte, sound_bytes_in}
 use Rattle.dsdiff_spec.specs.Rules.{form_fault, form_of_kind, accepted}
-use Rattle.dsdiff_spec.specs.Walk.{entries, walk_fault, compare_fault, index_heads, check_index_fault}
+use Rattle.dsdiff_spec.specs.Walk.{entries, compare_fault, index_heads}
 use Rattle.dsdiff_spec.specs.Written.{frte, dstf, entries_from}
 use Rattle.dsdiff_spec.specs.Coded.{Picks, pieces, stored_frames}
-use Rattle.dsdiff_spec.specs.Words.{Command, decode, frame, check, index}
-use Rattle.dsdiff_spec.specs.Refusal.{not_walked, walked_if_coded, not_compared, command_fault, refusal}
 use Rattle.dsdiff_spec.specs.Laws.{IsPlainFile, ArePicks, coded_file, AcceptanceLaw}
-use Rattle.dsdiff_spec.specs.declared.faults.FileFault.{FileFault}
 use Rattle.dsdiff_spec.proofs.Lawful.{form_has_a_shape}
-use Rattle.dsdiff_spec.proofs.CodedFiles.{form_by, refused_by, longest_sound_of_frame}
-use Rattle.dsdiff_spec.proofs.ByIndex.{found_by_index}
+use Rattle.dsdiff_spec.proofs.CodedFiles.{longest_sound_of_frame}
 use Rattle.dsdiff_spec.proofs.Tiling.{heads_from}
-use Rattle.dsdiff_laws.proofs.Filed.{IsFile, body_bytes, opening_bytes, found_is, either_false}
+use Rattle.dsdiff_laws.proofs.Filed.{IsFile, body_bytes, found_is}
 use Rattle.dsdiff_laws.proofs.Places.{either_lacks, Lacks, head_behind, stands_behind, one_named}
 use Rattle.dsdiff_laws.proofs.PlainParts.{PlainParts, plain_parts, plain_rules, added_id}
 use Rattle.dsdiff_laws.proofs.CodedChunks.{coded_prop, coded_pre, coded_chunks, dst_body, dst_chunk, dsti_chunk, entries_of, origin_of_parts, coded_is}
-use Rattle.dsdiff_laws.proofs.CodedFile.{AreShort, AreFrames, coded_is_file, length-frte, length-body, length-cons, length-entries}
+use Rattle.dsdiff_laws.proofs.CodedFile.{AreShort, AreFrames, coded_is_file, length-body, length-cons, length-entries}
 use Rattle.dsdiff_laws.proofs.CodedRules.{AreExact, form_rules, kind_is, count_is, sound_head_is, same_sound_bytes}
 use Rattle.dsdiff_laws.proofs.BehindFrte.{behind_frte}
 use Rattle.dsdiff_laws.proofs.CodedWalk.{Walked, IsWalk, walk_is}

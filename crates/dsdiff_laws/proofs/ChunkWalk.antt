@@ -1,17 +1,16 @@
 -- The walk of a coded form that has chunks one after the other in `DST `: it finds the frames among them, in order.
-use Rattle.std.proofs.Common.{◌≡◌, inr, ℕ, zero, suc, ◌+◌, ◌^◌, ◌<◌, ◌≤◌, ◌==◌, Bool, true, false, if◌then◌else◌, List, [], ◌∷◌, ◌++◌, length, get_or, map}
-use Rattle.std.proofs.Common.{Option, None, refl, sym, ap, ap₂, subst, ◌∙◌, arith, length-append}
-use Rattle.std.specs.Prelude.{codes, nat_lt}
+use Rattle.std.proofs.Common.{◌≡◌, inr, ℕ, zero, suc, ◌+◌, ◌<◌, ◌≤◌, ◌==◌, true, false, List, [], ◌∷◌, ◌++◌, length, get_or, map}
+use Rattle.std.proofs.Common.{Option, None, refl, sym, ap, ap₂, subst, ◌∙◌, arith}
+use Rattle.std.specs.Prelude.{nat_lt}
 use Rattle.std.specs.List.{AllByRecursion, AllZip, enumerate_from}
 use Rattle.std.proofs.lemmas.Bool.{le-ltb, eq-eqb}
-use Rattle.dsdiff_spec.specs.Bytes.{◌is◌}
 use Rattle.dsdiff_spec.specs.Faults.{first_some}
-use Rattle.dsdiff_spec.specs.Chunks.{Chunk, bytes_of_chunk, Head, Found, body_place, body_end, named, chunks_from}
+use Rattle.dsdiff_spec.specs.Chunks.{Chunk, Head, Found, body_place, body_end, named, chunks_from}
 use Rattle.dsdiff_spec.specs.Form.{Form, longest_frame}
 use Rattle.dsdiff_spec.specs.Walk.{Entry, entry_of, frame_heads, frame_fault, walk_fault, entries, frame_at, in_dst}
 use Rattle.dsdiff_spec.specs.Decoded.{frames_of}
 use Rattle.dsdiff_spec.proofs.Tiling.{heads_from, head_of}
-use Rattle.dsdiff_laws.proofs.Composed.{AreChunks, first_ends, others_are, length_of_ending, composed_is_found}
+use Rattle.dsdiff_laws.proofs.Composed.{AreChunks, composed_is_found}
 use Rattle.dsdiff_laws.proofs.Standing.{Holds, all_hold, chunks_named, named_hold}
 use Rattle.dsdiff_laws.proofs.Filed.{body_bytes}
 

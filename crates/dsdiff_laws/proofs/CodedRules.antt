@@ -1,36 +1,30 @@
 -- What encoding writes keeps all rules of a coded form.
-use Rattle.std.proofs.Common.{◌≡◌, inr, ℕ, zero, suc, ◌+◌, ◌*◌, ◌%◌, ◌/◌, ◌^◌, ◌<◌, ◌≤◌, ◌==◌, Bool, true, false, if◌then◌else◌, List, [], ◌∷◌, ◌++◌}
-use Rattle.std.proofs.Common.{length, take, get_or, flat_map, filter, None, refl, sym, ap, ap₂, subst, ◌∙◌, arith, length-append, append_assoc}
-use Rattle.std.specs.Prelude.{codes, not, ◌||◌, nat_lt, bytes_eq}
+use Rattle.std.proofs.Common.{◌≡◌, inr, ℕ, ◌%◌, ◌/◌, ◌≤◌, ◌==◌, Bool, true, false, List, [], ◌∷◌, ◌++◌}
+use Rattle.std.proofs.Common.{length, flat_map, None, refl, sym, ap, ap₂, subst, ◌∙◌, arith, append_assoc}
+use Rattle.std.specs.Prelude.{codes}
 use Rattle.std.specs.List.{AllByRecursion}
-use Rattle.std.proofs.lemmas.Bool.{le-ltb, eq-eqb, ne_eqb}
-use Rattle.byteorder.specs.Endian.{big_from, big_bytes}
-use Rattle.byteorder.specs.Numbers.{big_number-reads_back}
+use Rattle.std.proofs.lemmas.Bool.{ne_eqb}
 use Rattle.dst_spec.specs.Sample.{sound_bytes}
 use Rattle.dst_spec.proofs.Lists.{all_append}
-use Rattle.dsdiff_spec.specs.Bytes.{bytes_at, number_at, ◌is◌}
-use Rattle.dsdiff_spec.specs.Faults.{◌when◌}
-use Rattle.dsdiff_spec.specs.Chunks.{Chunk, IsChunk, Head, Found, body_place, body_of, named, the_first}
-use Rattle.dsdiff_spec.specs.Form.{plain, coded, Form, shape_of, frames_for}
-use Rattle.dsdiff_spec.specs.Parts.{form_end, top_level, all, prop_head, prop, sounds, sound_head, kind, compression, channel_count, multiple}
-use Rattle.dsdiff_spec.specs.Parts.{sound_bytes_in, frame_count, frame_rate}
-use Rattle.dsdiff_spec.specs.Rules.{opening_fault, is_version, version_fault, local_fault, prop_fault, sound_fault, has_bad_origin, coded_fault}
-use Rattle.dsdiff_spec.specs.Rules.{kind_fault, form_fault}
-use Rattle.dsdiff_spec.specs.Written.{frte, dstf}
-use Rattle.dsdiff_spec.proofs.Tiling.{heads_from, head_of, big_from-behind}
-use Rattle.dsdiff_laws.proofs.Standing.{Holds}
-use Rattle.dsdiff_laws.proofs.Filed.{IsFile, may_lack, body_bytes, found_is, opens, either_false}
-use Rattle.dsdiff_laws.proofs.Props.{IsProp, HasFields, AreRead, fields_are_read, lawful_prop, locals, replaced, replaced_is_prop}
-use Rattle.dsdiff_laws.proofs.Props.{replaced_has_fields, bytes_in_body, around_cmpr}
-use Rattle.dsdiff_laws.proofs.Places.{either_lacks, Lacks, one_named, head_behind, stands_behind, byte_in_body}
-use Rattle.dsdiff_laws.proofs.FormParts.{prop_id, sound_id}
+use Rattle.dsdiff_spec.specs.Bytes.{◌is◌}
+use Rattle.dsdiff_spec.specs.Chunks.{Chunk, IsChunk, Head, body_of, named}
+use Rattle.dsdiff_spec.specs.Form.{coded, Form, shape_of, frames_for}
+use Rattle.dsdiff_spec.specs.Parts.{top_level, all, prop, sound_head, kind, channel_count, multiple}
+use Rattle.dsdiff_spec.specs.Parts.{sound_bytes_in, frame_count}
+use Rattle.dsdiff_spec.specs.Rules.{has_bad_origin}
+use Rattle.dsdiff_spec.specs.Rules.{form_fault}
+use Rattle.dsdiff_spec.specs.Written.{dstf}
+use Rattle.dsdiff_spec.proofs.Tiling.{heads_from}
+use Rattle.dsdiff_laws.proofs.Filed.{IsFile, may_lack}
+use Rattle.dsdiff_laws.proofs.Props.{IsProp, HasFields, AreRead, fields_are_read, locals, replaced, replaced_is_prop}
+use Rattle.dsdiff_laws.proofs.Props.{replaced_has_fields, around_cmpr}
+use Rattle.dsdiff_laws.proofs.Places.{either_lacks, Lacks, one_named, head_behind, stands_behind}
 use Rattle.dsdiff_laws.proofs.PlainParts.{PlainParts}
-use Rattle.dsdiff_laws.proofs.CodedChunks.{coded_cmpr, coded_prop, dst_body, dst_chunk, dsti_chunk, coded_pre, plain_pre, entries_of, origin_of_parts}
+use Rattle.dsdiff_laws.proofs.CodedChunks.{coded_cmpr, coded_prop, dst_chunk, dsti_chunk, coded_pre, plain_pre, entries_of, origin_of_parts}
 use Rattle.dsdiff_laws.proofs.CodedChunks.{coded_chunks}
-use Rattle.dsdiff_laws.proofs.CodedFile.{is_whole, whole_before, split_whole, length-body, AreFrames, length-frte, prop_size, cmpr_size}
+use Rattle.dsdiff_laws.proofs.CodedFile.{is_whole, whole_before, split_whole, AreFrames, prop_size, cmpr_size}
 use Rattle.dsdiff_laws.proofs.Composed.{first_ends}
 use Rattle.dsdiff_spec.specs.Origin.{is_bad_origin}
-use Rattle.dsdiff_spec.specs.declared.faults.FileFault.TheVariants.{Version}
 use Rattle.dsdiff_laws.proofs.CodedForm.{IsCodedForm, frte_stands, chunks_are, prop_read, sound_read, kind_read, count_read, all_rules}
 use Rattle.dsdiff_laws.proofs.OriginRead.{IsPlainCmpr, IsOrigin, origin_is_lawful}
 

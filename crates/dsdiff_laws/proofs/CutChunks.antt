@@ -1,12 +1,10 @@
 -- What cutting writes is a form of these chunks: those that are passed on, and around frames of the old `DST ` a new `DST `, `DSTI`, and
 -- `KEPT` where there was one.
-use Rattle.std.proofs.Common.{◌≡◌, ◌⊎◌, inl, inr, ℕ, ◌+◌, ◌-◌, ◌*◌, ◌^◌, ◌<◌, ◌≤◌, ◌==◌, Bool, true, false, if◌then◌else◌, List, [], ◌∷◌, ◌++◌}
+use Rattle.std.proofs.Common.{◌≡◌, inl, inr, ℕ, ◌+◌, ◌-◌, ◌*◌, ◌^◌, ◌<◌, ◌≤◌, ◌==◌, Bool, true, false, if◌then◌else◌, List, [], ◌∷◌, ◌++◌}
 use Rattle.std.proofs.Common.{length, take, drop, map, Option, Some, None, refl, sym, ap, ap₂, subst, ◌∙◌, arith, length-append, append_assoc, append-nil}
-use Rattle.std.specs.Prelude.{codes}
 use Rattle.std.specs.List.{AllByRecursion, concat}
 use Rattle.std.proofs.lemmas.List.{map-append, length-map}
 use Rattle.std.proofs.lemmas.List.Concat.{flat_map-append}
-use Rattle.byteorder.specs.Endian.{big_bytes}
 use Rattle.dsdiff_spec.specs.Bytes.{between}
 use Rattle.dsdiff_spec.specs.Chunks.{Chunk, bytes_of_chunk, IsChunk, body_place, body_end}
 use Rattle.dsdiff_spec.specs.Form.{Origin, Form, sound_bytes_of}
@@ -20,13 +18,12 @@ use Rattle.dsdiff_spec.specs.Laws.{cut_file}
 use Rattle.dsdiff_laws.proofs.Composed.{AreChunks, others_are}
 use Rattle.dsdiff_laws.proofs.Standing.{part_stands}
 use Rattle.dsdiff_laws.proofs.Filed.{IsFile, may_lack, body_bytes, concat_bytes, written_is_file}
-use Rattle.dsdiff_laws.proofs.FormParts.{FormParts}
 use Rattle.dsdiff_laws.proofs.ChunkWalk.{frames_among, entries_among}
-use Rattle.dsdiff_laws.proofs.CodedChunks.{entry_bytes, dsti_chunk, origin_piece, origin_body}
+use Rattle.dsdiff_laws.proofs.CodedChunks.{dsti_chunk, origin_piece, origin_body}
 use Rattle.dsdiff_laws.proofs.CodedFile.{is_whole, whole_before, split_whole, join_whole, are_joined, length-body, length-cons, length-parts, length-origin}
 use Rattle.dsdiff_laws.proofs.BehindFrte.{sound_chunk}
 use Rattle.dsdiff_laws.proofs.MiddleFrames.{IsMiddle, middle, entries_of_middle, moved}
-use Rattle.dsdiff_laws.proofs.CutOrigin.{IsOriginOf, size_left, pad_left}
+use Rattle.dsdiff_laws.proofs.CutOrigin.{size_left, pad_left}
 use Rattle.dsdiff_laws.proofs.CutRules.{CutParts, KeptOf}
 use Rattle.dsdiff_laws.proofs.Passed.{passed, all_passed, passed_are, before_passed, behind_passed}
 

@@ -1,27 +1,22 @@
 -- What cutting writes keeps all rules of a coded form, its `KEPT` says what sound is left, and it is walked.
-use Rattle.std.proofs.Common.{◌≡◌, ◌⊎◌, inl, inr, ℕ, ◌+◌, ◌-◌, ◌*◌, ◌^◌, ◌<◌, ◌≤◌, ◌==◌, Bool, true, false, if◌then◌else◌, List, [], ◌∷◌, ◌++◌}
-use Rattle.std.proofs.Common.{length, map, filter, Option, Some, None, refl, sym, ap, ap₂, subst, ◌∙◌, arith, append_assoc, eqb-true}
+use Rattle.std.proofs.Common.{◌≡◌, ◌⊎◌, inl, inr, ℕ, ◌+◌, ◌-◌, ◌*◌, ◌≤◌, ◌==◌, Bool, true, false, if◌then◌else◌, List, [], ◌∷◌, ◌++◌}
+use Rattle.std.proofs.Common.{Option, Some, None, refl, sym, ap, ap₂, subst, ◌∙◌, arith, append_assoc, eqb-true}
 use Rattle.std.specs.Prelude.{codes}
-use Rattle.std.specs.List.{AllByRecursion}
 use Rattle.std.proofs.Math.Nat.{add-mul, mul_comm}
 use Rattle.dst_spec.specs.Sample.{Shape, sound_bytes}
 use Rattle.dst_spec.proofs.Lists.{all_append}
 use Rattle.dsdiff_spec.specs.Bytes.{◌is◌}
-use Rattle.dsdiff_spec.specs.Chunks.{Chunk, bytes_of_chunk, Head, body_place, body_end, body_of, named}
-use Rattle.dsdiff_spec.specs.Form.{Kind, plain, coded, Origin, Form, shape, shape_of, sound_bytes_of, longest_frame, plain_size, size_of_sound}
-use Rattle.dsdiff_spec.specs.Parts.{form_end, top_level, all, prop, kind, frame_count, channel_count, multiple, sound_bytes_in}
+use Rattle.dsdiff_spec.specs.Chunks.{Chunk, body_of, named}
+use Rattle.dsdiff_spec.specs.Form.{Kind, plain, coded, Origin, Form, shape, shape_of, sound_bytes_of, plain_size, size_of_sound}
+use Rattle.dsdiff_spec.specs.Parts.{all, prop, kind, frame_count, channel_count, multiple, sound_bytes_in}
 use Rattle.dsdiff_spec.specs.Origin.{origin_of, is_bad_origin}
 use Rattle.dsdiff_spec.specs.Rules.{has_bad_origin, form_fault, form_of_kind, accepted, origin_in}
-use Rattle.dsdiff_spec.specs.Walk.{Entry, entry_of, entries, index_heads, compare_fault}
 use Rattle.dsdiff_spec.specs.Cut.{is_last}
 use Rattle.dsdiff_spec.specs.Decoded.{plain_cmpr, plain_pad, kept_bytes}
 use Rattle.dsdiff_spec.specs.Laws.{cut_file, cut_size, cut_pad}
 use Rattle.dsdiff_spec.proofs.CodedFiles.{bad_among}
-use Rattle.dsdiff_spec.proofs.Tiling.{heads_from, head_of}
-use Rattle.dsdiff_laws.proofs.Composed.{AreChunks}
-use Rattle.dsdiff_laws.proofs.Standing.{chunks_named}
+use Rattle.dsdiff_spec.proofs.Tiling.{heads_from}
 use Rattle.dsdiff_laws.proofs.Filed.{IsFile, body_bytes}
-use Rattle.dsdiff_laws.proofs.Order.{parts_are}
 use Rattle.dsdiff_laws.proofs.Places.{Lacks, none_named, one_named, either_lacks, head_behind, stands_behind}
 use Rattle.dsdiff_laws.proofs.FormParts.{AreApart, prop_id, sound_id}
 use Rattle.dsdiff_laws.proofs.PlainParts.{added_id}
@@ -33,7 +28,7 @@ use Rattle.dsdiff_laws.proofs.OriginRead.{IsOrigin, origin_is_read, origin_is_la
 use Rattle.dsdiff_laws.proofs.CutOrigin.{IsOriginOf, size_left, pad_left, origin_of_cut}
 use Rattle.dsdiff_laws.proofs.CutRules.{CutParts}
 use Rattle.dsdiff_laws.proofs.Passed.{passed, all_passed, passed_lack}
-use Rattle.dsdiff_laws.proofs.CutChunks.{kept_chunks, m, pre, dst, es, kept, behind, made}
+use Rattle.dsdiff_laws.proofs.CutChunks.{kept_chunks, m, dst, es, kept, behind, made}
 
 -- what `KEPT` says of the sound that is left
 abbrev pub left : Bool → ℕ → ℕ → ℕ → Option Origin → Option Origin

@@ -1,7 +1,7 @@
 -- What a lawful `KEPT` says, of either version; and the `KEPT` of the sound that cutting leaves is lawful.
-use Rattle.std.proofs.Common.{◌≡◌, ◌⊎◌, inl, inr, ℕ, ◌+◌, ◌-◌, ◌*◌, ◌/◌, ◌%◌, ◌^◌, ◌<◌, ◌≤◌, ◌==◌, Bool, true, false, if◌then◌else◌, List, [], ◌∷◌, length}
-use Rattle.std.proofs.Common.{take, drop, get_or, refl, sym, ap, ap₂, subst, ◌∙◌, arith, append-nil, length-drop, ltb-false, eqb-true}
-use Rattle.std.specs.Prelude.{codes, not, ◌||◌, ◌&&◌, nat_lt}
+use Rattle.std.proofs.Common.{◌≡◌, inl, inr, ℕ, ◌+◌, ◌-◌, ◌*◌, ◌/◌, ◌%◌, ◌^◌, ◌<◌, ◌≤◌, ◌==◌, Bool, true, false, if◌then◌else◌, List, [], ◌∷◌, length}
+use Rattle.std.proofs.Common.{take, drop, get_or, refl, sym, ap, ◌∙◌, arith, append-nil, length-drop, ltb-false, eqb-true}
+use Rattle.std.specs.Prelude.{codes, not, ◌||◌, ◌&&◌}
 use Rattle.std.proofs.lemmas.Slice.Eq.{bytes_eq-Decides}
 use Rattle.std.proofs.lemmas.Bool.{and_parts, eq-eqb}
 use Rattle.std.proofs.lemmas.List.{length-take}
@@ -11,9 +11,9 @@ use Rattle.dst_spec.specs.Bits.{AreBytes}
 use Rattle.dst_spec.specs.Sample.{Shape, IsShape, sound_bytes}
 use Rattle.dst_spec.proofs.Lists.{AreBytes-take, AreBytes-drop}
 use Rattle.dsdiff_spec.specs.Bytes.{bytes_at, between, number_at, ◌is◌, ◌below◌, ◌above◌}
-use Rattle.dsdiff_spec.specs.Chunks.{Chunk, bytes_of_chunk, IsChunk, Head, head_at, fits, next_place}
+use Rattle.dsdiff_spec.specs.Chunks.{Chunk, bytes_of_chunk, head_at, fits}
 use Rattle.dsdiff_spec.specs.Form.{Origin, frames_for}
-use Rattle.dsdiff_spec.specs.Origin.{origin_version, kept_length, origin_of, is_one_chunk, outside, bad_version_1, bad_version_2, is_bad_origin}
+use Rattle.dsdiff_spec.specs.Origin.{origin_version, kept_length, origin_of, is_one_chunk, bad_version_1, bad_version_2, is_bad_origin}
 use Rattle.dsdiff_spec.proofs.Steps.{fits_whole}
 use Rattle.dsdiff_spec.proofs.Finding.{Follow}
 use Rattle.dsdiff_spec.proofs.CodedFiles.{needed, some_bytes, longest_sound_of_frame}

@@ -1,6 +1,6 @@
 -- What a file has that `cut` accepts: its chunks, those in its `DST `, and what its `KEPT` says.
-use Rattle.std.proofs.Common.{◌≡◌, ◌⊎◌, inl, inr, ℕ, ◌+◌, ◌-◌, ◌^◌, ◌<◌, ◌≤◌, ◌==◌, nat_lt, Bool, true, false, if◌then◌else◌, List, [], ◌∷◌, ◌++◌}
-use Rattle.std.proofs.Common.{length, take, drop, Option, Some, None, refl, sym, ap, subst, ◌∙◌, arith, length-drop, ltb-false, ltb-true}
+use Rattle.std.proofs.Common.{◌≡◌, ◌⊎◌, inl, inr, ℕ, ◌+◌, ◌^◌, ◌<◌, ◌≤◌, ◌==◌, Bool, true, false, if◌then◌else◌, List, [], ◌∷◌}
+use Rattle.std.proofs.Common.{length, drop, Option, Some, None, refl, sym, ap, subst, ◌∙◌, arith, length-drop, ltb-false, ltb-true}
 use Rattle.std.specs.Prelude.{codes, not, ◌||◌}
 use Rattle.std.specs.List.{concat}
 use Rattle.std.proofs.lemmas.Slice.Eq.{bytes_eq-Decides}
@@ -11,9 +11,9 @@ use Rattle.dst_spec.proofs.Lists.{AreBytes-take, AreBytes-drop}
 use Rattle.dsdiff_spec.specs.Bytes.{bytes_at, ◌is◌, ◌below◌, ◌above◌}
 use Rattle.dsdiff_spec.specs.Faults.{◌when◌, ◌otherwise◌}
 use Rattle.dsdiff_spec.specs.Chunks.{Head, body_place, body_end, body_of}
-use Rattle.dsdiff_spec.specs.Form.{Kind, plain, coded, is_plain, Origin, Form, shape, sound_bytes_of}
+use Rattle.dsdiff_spec.specs.Form.{plain, coded, Origin, Form, shape}
 use Rattle.dsdiff_spec.specs.Parts.{all, prop, sound_head, kind, frame_count, frame_rate, channel_count, sound_bytes_in}
-use Rattle.dsdiff_spec.specs.Origin.{origin_of, is_bad_origin}
+use Rattle.dsdiff_spec.specs.Origin.{origin_of}
 use Rattle.dsdiff_spec.specs.Rules.{is_frte, has_bad_origin, coded_fault, kind_fault, form_fault, form_of_kind, accepted, origin_in}
 use Rattle.dsdiff_spec.specs.Walk.{walk_fault}
 use Rattle.dsdiff_spec.specs.Words.{cut}

@@ -1,8 +1,6 @@
 -- The walk of what cutting writes finds the frames that were asked for, its one index is that walk, and it is bytes.
-use Rattle.std.proofs.Common.{◌≡◌, inl, inr, ℕ, ◌+◌, ◌-◌, ◌*◌, ◌^◌, ◌<◌, ◌≤◌, Bool, true, false, if◌then◌else◌, List, [], ◌∷◌, ◌++◌, length, take, drop, Option}
-use Rattle.std.proofs.Common.{Some, None, refl, sym, ap, ap₂, subst, ◌∙◌, arith, length-append, append_assoc, append-nil}
-use Rattle.std.specs.Prelude.{codes}
-use Rattle.std.specs.List.{AllByRecursion}
+use Rattle.std.proofs.Common.{◌≡◌, inl, inr, ℕ, ◌+◌, ◌-◌, ◌*◌, ◌^◌, ◌<◌, ◌≤◌, Bool, true, false, List, [], ◌∷◌, ◌++◌, length, take, drop, Option}
+use Rattle.std.proofs.Common.{Some, None, refl, sym, ap, subst, ◌∙◌, arith, length-append, append_assoc, append-nil}
 use Rattle.dst_spec.specs.Bits.{AreBytes}
 use Rattle.dst_spec.specs.Sample.{Shape, sound_bytes}
 use Rattle.dst_spec.proofs.Lists.{all_append, all_take, all_drop, AreBytes-take, AreBytes-drop}
@@ -11,9 +9,9 @@ use Rattle.dsdiff_spec.specs.Chunks.{Chunk, bytes_of_chunk, body_place, body_end
 use Rattle.dsdiff_spec.specs.Form.{Origin, Form, shape, sound_bytes_of, longest_frame}
 use Rattle.dsdiff_spec.specs.Parts.{form_end, behind_form}
 use Rattle.dsdiff_spec.specs.Rules.{accepted}
-use Rattle.dsdiff_spec.specs.Walk.{entries, compare_fault, index_heads}
+use Rattle.dsdiff_spec.specs.Walk.{compare_fault}
 use Rattle.dsdiff_spec.specs.Written.{frte}
-use Rattle.dsdiff_spec.specs.Cut.{frame_place, is_last, cut_frames}
+use Rattle.dsdiff_spec.specs.Cut.{frame_place, is_last}
 use Rattle.dsdiff_spec.specs.Decoded.{frames_of}
 use Rattle.dsdiff_spec.specs.Laws.{cut_file, those_from_to}
 use Rattle.dsdiff_spec.proofs.CodedFiles.{longest_sound_of_frame}
@@ -23,13 +21,13 @@ use Rattle.dsdiff_laws.proofs.Filed.{IsFile, body_bytes}
 use Rattle.dsdiff_laws.proofs.Order.{parts_are}
 use Rattle.dsdiff_laws.proofs.Places.{Lacks, one_named, either_lacks, head_behind, stands_behind}
 use Rattle.dsdiff_laws.proofs.PlainParts.{added_id}
-use Rattle.dsdiff_laws.proofs.ChunkWalk.{frames_among, bodies_of, entries_among, AreShortBodies, HasChunks, FindsFrames, frames_are_found}
+use Rattle.dsdiff_laws.proofs.ChunkWalk.{frames_among, entries_among, AreShortBodies, HasChunks, FindsFrames, frames_are_found}
 use Rattle.dsdiff_laws.proofs.CodedChunks.{dsti_chunk, origin_body, origin_piece}
-use Rattle.dsdiff_laws.proofs.CodedFile.{length-body, length-cons, length-parts, length-frte}
+use Rattle.dsdiff_laws.proofs.CodedFile.{length-body, length-cons, length-parts}
 use Rattle.dsdiff_laws.proofs.CodedIndex.{HasIndex, index_is_walk, entries_among_are_numbers}
 use Rattle.dsdiff_laws.proofs.BehindFrte.{behind_frte}
-use Rattle.dsdiff_laws.proofs.MiddleFrames.{IsMiddle, length-entries_among, frames_in_middle, bodies_of_middle}
-use Rattle.dsdiff_laws.proofs.CutOrigin.{IsOriginOf, size_left, pad_left}
+use Rattle.dsdiff_laws.proofs.MiddleFrames.{length-entries_among, frames_in_middle, bodies_of_middle}
+use Rattle.dsdiff_laws.proofs.CutOrigin.{size_left, pad_left}
 use Rattle.dsdiff_laws.proofs.CutRules.{CutParts, KeptOf}
 use Rattle.dsdiff_laws.proofs.Passed.{passed, passed_lack, passed_bytes}
 use Rattle.dsdiff_laws.proofs.CutChunks.{kept_chunks, m, dst, es, kept, behind, fits, frames_bytes, made}

@@ -1,12 +1,12 @@
 -- What cutting writes is accepted, its frames are those that were asked for, its index is its walk, and it is decoded to their sounds.
-use Rattle.std.proofs.Common.{◌≡◌, ℕ, ◌+◌, ◌-◌, ◌*◌, ◌≤◌, List, length, take, ap, sym, subst, ◌∙◌, arith}
+use Rattle.std.proofs.Common.{ℕ, ◌≤◌, List, length, take, ap, sym, subst, arith}
 use Rattle.std.specs.List.{AllZip, concat}
 use Rattle.dst_spec.specs.Sample.{Shape}
 use Rattle.dst_spec.specs.Means.{Means}
 use Rattle.dsdiff_spec.specs.Form.{shape}
 use Rattle.dsdiff_spec.specs.Rules.{accepted}
 use Rattle.dsdiff_spec.specs.Decoded.{Plain, frames_of, decoded_with}
-use Rattle.dsdiff_spec.specs.Laws.{IsCut, CuttingLaw, cut_file, cut_size, those_from_to}
+use Rattle.dsdiff_spec.specs.Laws.{CuttingLaw, cut_file, cut_size, those_from_to}
 use Rattle.dsdiff_laws.proofs.Answered.{decodes, checks, lists, writes}
 use Rattle.dsdiff_laws.proofs.CutRules.{CutParts, cut_parts}
 use Rattle.dsdiff_laws.proofs.CutForm.{same_shape, frames_is, size_is, pad_is, cmpr_is, nothing_is_kept}

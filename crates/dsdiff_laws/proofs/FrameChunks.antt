@@ -1,5 +1,5 @@
 -- The chunks in `DST ` of a coded form whose walk has no fault: they fill its body behind `FRTE`, and its frames are those among them.
-use Rattle.std.proofs.Common.{◌≡◌, ℕ, ◌+◌, ◌-◌, ◌≤◌, Bool, true, false, List, [], ◌∷◌, ◌++◌, length, take, drop, map, Option, Some, None, refl, sym, ap}
+use Rattle.std.proofs.Common.{◌≡◌, ℕ, ◌+◌, ◌-◌, ◌≤◌, Bool, true, List, [], ◌∷◌, ◌++◌, length, take, drop, map, Option, Some, None, refl, sym, ap}
 use Rattle.std.proofs.Common.{append_assoc, subst, ◌∙◌, arith, take-append-drop, ltb-false}
 use Rattle.std.specs.Prelude.{not, ◌==◌}
 use Rattle.std.specs.List.{AllByRecursion, AllZip, enumerate_from}
@@ -39,8 +39,7 @@ short_heads : (form : Form) (n : ℕ) (hs : List Head) → first_some (frame_fau
 short_heads form n [] none = tt
 short_heads form n (h ∷ hs) none =
     let both = parts (frame_fault form (n, h)) none in
-    let too_long = FrameTooLong n h.size when h.size above longest_frame form in
-    (
+    let too_long = FrameTooLong n h.size when h.size above longest_frame form in (
       ltb-false (longest_frame form) h.size (when_not (FrameTooLong n h.size) _ (first_gives_none too_long (TooManyFrames when n above 999999) both.0)),
       short_heads form (n + 1) hs both.1,
     )

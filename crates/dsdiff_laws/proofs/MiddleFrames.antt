@@ -1,8 +1,8 @@
 -- Chunks of which some are frames, cut at frames: those from one frame to another, their entries and their bodies.
 use Rattle.std.proofs.Common.{◌≡◌, ℕ, zero, suc, ◌+◌, ◌-◌, ◌<◌, ◌≤◌, ◌==◌, Bool, true, false, if◌then◌else◌, List, [], ◌∷◌, ◌++◌, length, take, drop}
-use Rattle.std.proofs.Common.{map, filter, refl, sym, ap, ap₂, ◌∙◌, arith, length-append, take_at, append_assoc, append-nil, eqb-true}
+use Rattle.std.proofs.Common.{map, refl, sym, ap, ap₂, ◌∙◌, arith, length-append, take_at, append_assoc, append-nil, eqb-true}
 use Rattle.std.proofs.lemmas.Bool.{eqb-false}
-use Rattle.std.proofs.lemmas.List.{drop_at, map-append, get_or_at, length-map}
+use Rattle.std.proofs.lemmas.List.{drop_at, map-append, get_or_at}
 use Rattle.std.proofs.lemmas.List.Elements.{filter-append}
 use Rattle.dsdiff_spec.specs.Bytes.{◌is◌}
 use Rattle.dsdiff_spec.specs.Chunks.{Chunk, bytes_of_chunk, Head, named}

@@ -1,13 +1,12 @@
 -- The chunks of a form that are passed on to another one: all but the sound, `DSTI` and `KEPT`.
-use Rattle.std.proofs.Common.{◌≡◌, ℕ, ◌+◌, ◌<◌, Bool, true, false, if◌then◌else◌, List, [], ◌∷◌, ◌++◌, length, map, filter, refl, sym, ap, ap₂, subst, ◌∙◌}
-use Rattle.std.specs.Prelude.{codes, not, ◌&&◌}
+use Rattle.std.proofs.Common.{◌≡◌, ℕ, ◌+◌, Bool, true, false, if◌then◌else◌, List, [], ◌∷◌, ◌++◌, length, map, filter, refl, ap, ap₂, ◌∙◌}
+use Rattle.std.specs.Prelude.{not, ◌&&◌}
 use Rattle.std.specs.List.{AllByRecursion, AllZip}
 use Rattle.std.proofs.lemmas.List.Elements.{filter-append}
 use Rattle.dst_spec.specs.Bits.{AreBytes}
 use Rattle.dsdiff_spec.specs.Bytes.{◌below◌, ◌above◌}
 use Rattle.dsdiff_spec.specs.Chunks.{Chunk, bytes_of_chunk, IsChunk, Head}
-use Rattle.dsdiff_spec.specs.Form.{Form}
-use Rattle.dsdiff_spec.specs.Parts.{form_end, top_level, behind_form}
+use Rattle.dsdiff_spec.specs.Parts.{form_end, behind_form}
 use Rattle.dsdiff_spec.specs.Rules.{accepted}
 use Rattle.dsdiff_spec.specs.Written.{before_sound, behind_sound, copied}
 use Rattle.dsdiff_spec.proofs.Tiling.{heads_from}

@@ -1,38 +1,34 @@
 -- The chunks of a plain file that encoding accepts: `FVER`, others, `PROP`, others, `DSD `, others.
-use Rattle.std.proofs.Common.{◌≡◌, ◌⊎◌, inl, inr, ℕ, zero, suc, ◌+◌, ◌%◌, ◌^◌, ◌≤◌, ◌==◌, Bool, true, false, if◌then◌else◌, List, [], ◌∷◌, ◌++◌}
-use Rattle.std.proofs.Common.{length, take, drop, get_or, filter, Option, Some, None, refl, sym, ap, ap₂, subst, ◌∙◌, arith, append_assoc, ltb-false}
+use Rattle.std.proofs.Common.{◌≡◌, ℕ, ◌+◌, ◌%◌, ◌^◌, ◌≤◌, ◌==◌, Bool, true, false, if◌then◌else◌, List, [], ◌∷◌, ◌++◌}
+use Rattle.std.proofs.Common.{length, take, get_or, filter, Option, Some, None, refl, sym, ap, ap₂, subst, ◌∙◌, arith, ltb-false}
 use Rattle.std.proofs.Common.{eqb-true}
-use Rattle.std.specs.Prelude.{codes, not, ◌||◌, bytes_eq}
-use Rattle.std.specs.List.{AllByRecursion, AllZip}
+use Rattle.std.specs.Prelude.{codes, not, ◌||◌}
+use Rattle.std.specs.List.{AllZip}
 use Rattle.std.proofs.lemmas.Slice.Eq.{bytes_eq-Decides}
-use Rattle.std.proofs.lemmas.Bool.{and_parts}
-use Rattle.std.proofs.lemmas.List.Elements.{filter-append}
 use Rattle.dst_spec.specs.Bits.{AreBytes}
-use Rattle.dst_spec.proofs.Lists.{all_append, AreBytes-take, AreBytes-drop}
 use Rattle.dsdiff_spec.specs.Bytes.{◌is◌, ◌above◌}
 use Rattle.dsdiff_spec.specs.Faults.{◌when◌, ◌otherwise◌}
-use Rattle.dsdiff_spec.specs.Chunks.{Chunk, bytes_of_chunk, Head, body_place, body_of, named, the_first}
+use Rattle.dsdiff_spec.specs.Chunks.{Chunk, bytes_of_chunk, Head, the_first}
 use Rattle.dsdiff_spec.specs.Form.{Kind, plain, coded, is_coded, frames_for}
-use Rattle.dsdiff_spec.specs.Parts.{form_size, form_end, top_level, all, prop_head, prop, sounds, sound_head, kind, compression, channel_count}
+use Rattle.dsdiff_spec.specs.Parts.{form_size, form_end, top_level, prop_head, prop, sound_head, kind, channel_count}
 use Rattle.dsdiff_spec.specs.Parts.{sound_bytes_in, frames_needed, behind_form}
-use Rattle.dsdiff_spec.specs.Rules.{opening_fault, is_version, version_fault, prop_chunk_fault, local_fault, prop_fault, sound_fault, coded_chunks}
+use Rattle.dsdiff_spec.specs.Rules.{opening_fault, version_fault, prop_fault, sound_fault, coded_chunks}
 use Rattle.dsdiff_spec.specs.Rules.{room_fault, kind_fault, form_fault}
 use Rattle.dsdiff_spec.specs.Words.{encode}
 use Rattle.dsdiff_spec.specs.Refusal.{refusal}
 use Rattle.dsdiff_spec.specs.declared.faults.FileFault.{FileFault}
-use Rattle.dsdiff_spec.specs.declared.faults.FileFault.TheVariants.{Version, PropMissing, PropTwice, PropTooLong, Compression, SoundMissing}
-use Rattle.dsdiff_spec.specs.declared.faults.FileFault.TheVariants.{SoundTwice, SoundUneven, TooManyFrames, CodedChunk, TooManyChunks, FormTooLarge}
+use Rattle.dsdiff_spec.specs.declared.faults.FileFault.TheVariants.{PropTooLong}
+use Rattle.dsdiff_spec.specs.declared.faults.FileFault.TheVariants.{SoundUneven, TooManyFrames, CodedChunk, TooManyChunks, FormTooLarge}
 use Rattle.dsdiff_spec.specs.declared.faults.FileFault.TheVariants.{TailTooLong, NotPlain}
 use Rattle.dsdiff_spec.proofs.Lawful.{first_gives_none, later_gives_none, when_not}
 use Rattle.dsdiff_spec.proofs.CodedFiles.{form_by, refused_by}
-use Rattle.dsdiff_spec.proofs.Tiling.{heads_from, head_of}
-use Rattle.dsdiff_laws.proofs.Composed.{AreChunks, first_ends, others_are, length_of_ending}
+use Rattle.dsdiff_spec.proofs.Tiling.{heads_from}
 use Rattle.dsdiff_laws.proofs.Standing.{Holds, chosen_hold}
-use Rattle.dsdiff_laws.proofs.Filed.{IsFile, may_lack, body_bytes, chunks_in, opened_is_file, opened_heads, file_holds, not_false}
-use Rattle.dsdiff_laws.proofs.Props.{IsAcceptedProp, accepted_prop, one_chunk, fields_are_read, locals}
-use Rattle.dsdiff_laws.proofs.Order.{OneOf, chosen_is, one_among, none_chosen, chosen_none, Lies, heads_lie, heads-append, parts_are}
+use Rattle.dsdiff_laws.proofs.Filed.{IsFile, file_holds, not_false}
+use Rattle.dsdiff_laws.proofs.Props.{IsAcceptedProp}
+use Rattle.dsdiff_laws.proofs.Order.{none_chosen}
 use Rattle.dsdiff_laws.proofs.Places.{Lacks, head_behind, lacks_parts}
-use Rattle.dsdiff_laws.proofs.FormParts.{AreApart, FormParts, form_parts, prop_id, sound_id, prop_body}
+use Rattle.dsdiff_laws.proofs.FormParts.{AreApart, form_parts, prop_id, sound_id, prop_body}
 
 -- ---- the rules that the file keeps
 pub plain_rules : (level : ℕ) (file : List ℕ) → refusal (encode level) file ≡ None → (form_fault file ≡ None) × (kind file ≡ plain)

@@ -5,8 +5,7 @@ use Rattle.dsdiff_spec.specs.Faults.{◌when◌}
 use Rattle.dsdiff_spec.specs.Bytes.{◌above◌}
 use Rattle.dsdiff_spec.specs.Rules.{accepted}
 use Rattle.dsdiff_spec.specs.Cut.{cut}
-use Rattle.dsdiff_spec.specs.Refusal.{refusal, cut_fault}
-use Rattle.dsdiff_spec.specs.Words as words
+use Rattle.dsdiff_spec.specs.Refusal.{cut_fault}
 use Rattle.dsdiff_spec.specs.declared.faults.FileFault.TheVariants.{TooManyChunks, FormTooLarge}
 use Rattle.dsdiff_spec.proofs.Restoring.{written_open}
 
