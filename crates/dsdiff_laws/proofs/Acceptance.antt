@@ -25,8 +25,8 @@ use Rattle.dsdiff_laws.proofs.CodedChunks.{coded_prop, coded_pre, coded_chunks, 
 use Rattle.dsdiff_laws.proofs.CodedFile.{AreShort, AreFrames, coded_is_file, length-body, length-cons, length-entries}
 use Rattle.dsdiff_laws.proofs.CodedRules.{AreExact, form_rules, kind_is, count_is, sound_head_is, same_sound_bytes}
 use Rattle.dsdiff_laws.proofs.BehindFrte.{behind_frte}
-use Rattle.dsdiff_laws.proofs.CodedWalk.{Walked, IsWalk, walk_is}
-use Rattle.dsdiff_laws.proofs.CodedIndex.{HasIndex, index_is_walk, entries_are_numbers}
+use Rattle.dsdiff_laws.proofs.CodedWalk.{Walked, IsWalk, walk_is, entries_are_numbers}
+use Rattle.dsdiff_laws.proofs.CodedIndex.{HasIndex, index_is_walk}
 use Rattle.dsdiff_laws.proofs.StoredBytes.{AreStored, stored_are, pieces_are, length-pieces}
 use Rattle.dsdiff_laws.proofs.Answered.{IsAnswered, decodes, checks, lists, writes}
 use Rattle.dsdiff_laws.proofs.Accepting.{coded_is_bytes, byte_at_place}
@@ -56,17 +56,17 @@ encoded_is file picks plain_file are =
     let is_form : form ≡ form_of_kind plain file = ap (λ k. form_of_kind k file) rules.1 in
     let lawful = form_has_a_shape file rules.0 in
     let n = sound_bytes_of form in
-    let same : n ≡ sound_bytes_in p.prop.body = ap sound_bytes_in p.prop_is in
+    let same : n ≡ sound_bytes_in p.parts.prop.body = ap sound_bytes_in p.parts.prop_is in
     let sound = body_of file form.sound in
-    let body : sound ≡ p.sound.body = ap (body_of file) p.sound_head_is ∙ p.sound_holds.body in
+    let body : sound ≡ p.parts.sound.body = ap (body_of file) p.parts.sound_head_is ∙ p.parts.sound_holds.body in
     let bytes : AreBytes sound = AreBytes-take form.sound.size (drop (body_place form.sound) file) (AreBytes-drop (body_place form.sound) file plain_file.0) in
     let list = pieces n sound in
     let stored = stored_are (shape form) picks list lawful (λ s h. (are s (shape form) lawful h).1) (pieces_are n sound bytes) in
-    let exact : length (stored_frames picks file form) ≡ frames_for (sound_bytes_in p.prop.body) (length p.sound.body) =
+    let exact : length (stored_frames picks file form) ≡ frames_for (sound_bytes_in p.parts.prop.body) (length p.parts.sound.body) =
     stored.count ∙ length-pieces n sound ∙ ap₂ frames_for same (ap length body) in
-    let size : form.sound.size ≡ length p.sound.body = ap (λ (h : Head). h.size) p.sound_head_is in
-    let frames : form.frames ≡ frames_for (sound_bytes_in p.prop.body) (length p.sound.body) =
-    ap (λ (f : Form). f.frames) is_form ∙ ap₂ frames_for (ap sound_bytes_in p.prop_is) size in
+    let size : form.sound.size ≡ length p.parts.sound.body = ap (λ (h : Head). h.size) p.parts.sound_head_is in
+    let frames : form.frames ≡ frames_for (sound_bytes_in p.parts.prop.body) (length p.parts.sound.body) =
+    ap (λ (f : Form). f.frames) is_form ∙ ap₂ frames_for (ap sound_bytes_in p.parts.prop_is) size in
     let few : AreFrames file p form (stored_frames picks file form) = record {
       is_form = is_form;
       count = omega (arith, exact, p.frames);
@@ -107,11 +107,11 @@ module _ (file : List ℕ) (picks : Picks) (e : IsEncoded file picks)
     same_frames = ap (λ (f : Form). f.frames) coded_form ∙ count_is file e.p (accepted file) stored e.frames e.exact g e.made ∙ e.count
 
     pub same_bytes : sound_bytes_of (accepted g) ≡ sound_bytes_of (accepted file)
-    same_bytes = same_sound_bytes file e.p (accepted file) stored e.frames e.exact g e.made ∙ sym (ap sound_bytes_in e.p.prop_is)
+    same_bytes = same_sound_bytes file e.p (accepted file) stored e.frames e.exact g e.made ∙ sym (ap sound_bytes_in e.p.parts.prop_is)
 
     pub walked : Walked g (body_end (accepted g).sound) (body_place (accepted g).sound + 18) stored
     walked =
-        let b = behind_frte g (coded_pre e.p) (dsti_chunk (entries_of e.p stored) ∷ origin_of_parts e.p (accepted file) ∷ e.p.last) (length stored)
+        let b = behind_frte g (coded_pre e.p) (dsti_chunk (entries_of e.p stored) ∷ origin_of_parts e.p (accepted file) ∷ e.p.parts.last) (length stored)
         (flat_map dstf stored) e.made in
         let end = ap body_end sound_is in
         let place = ap body_place sound_is in
@@ -135,9 +135,9 @@ module _ (file : List ℕ) (picks : Picks) (e : IsEncoded file picks)
     index_id id = id is "DSTI"
 
     index_parts : coded_chunks e.p (accepted file) stored ≡ (coded_pre e.p ++ dst_chunk stored ∷ []) ++ dsti_chunk (entries_of e.p stored)
-        ∷ origin_of_parts e.p (accepted file) ∷ e.p.last
+        ∷ origin_of_parts e.p (accepted file) ∷ e.p.parts.last
     index_parts = sym (append_assoc (coded_pre e.p) (dst_chunk stored ∷ [])
-        (dsti_chunk (entries_of e.p stored) ∷ origin_of_parts e.p (accepted file) ∷ e.p.last))
+        (dsti_chunk (entries_of e.p stored) ∷ origin_of_parts e.p (accepted file) ∷ e.p.parts.last))
 
     pub has_index : HasIndex g (accepted g) (entries_of e.p stored)
     has_index =
@@ -146,13 +146,13 @@ module _ (file : List ℕ) (picks : Picks) (e : IsEncoded file picks)
         λ cs l. (either_lacks (λ id. id is "DSTI") (λ id. id is "KEPT") cs l).0 in
         let pre : Lacks (λ id. id is "DSTI") (coded_pre p ++ dst_chunk stored ∷ []) =
         all_append (λ (d : Chunk). (d.id is "DSTI") ≡ false) (coded_pre p) (dst_chunk stored ∷ [])
-        (all_append (λ (d : Chunk). (d.id is "DSTI") ≡ false) (p.version ∷ p.front) (coded_prop p ∷ p.middle) (none (p.version ∷ p.front) p.others_front.added)
-        (refl, none p.middle p.others_middle.added))
+        (all_append (λ (d : Chunk). (d.id is "DSTI") ≡ false) (p.parts.version ∷ p.parts.front) (coded_prop p ∷ p.parts.middle) (none (p.parts.version ∷ p.parts.front) p.added_front)
+        (refl, none p.parts.middle p.added_middle))
         (refl, tt) in
         let heads = ap (λ (x : Found). x.heads) (found_is g (coded_chunks p (accepted file) stored) [] e.made) in
         let size = e.made.size in
-        let long = length-body (coded_pre p) (dst_chunk stored ∷ dsti_chunk (entries_of p stored) ∷ origin_of_parts p (accepted file) ∷ p.last) in
-        let first = length-cons (dst_chunk stored) (dsti_chunk (entries_of p stored) ∷ origin_of_parts p (accepted file) ∷ p.last) in
+        let long = length-body (coded_pre p) (dst_chunk stored ∷ dsti_chunk (entries_of p stored) ∷ origin_of_parts p (accepted file) ∷ p.parts.last) in
+        let first = length-cons (dst_chunk stored) (dsti_chunk (entries_of p stored) ∷ origin_of_parts p (accepted file) ∷ p.parts.last) in
         let inside : length (dst_body stored) ≤ length (bytes_of_chunk (dst_chunk stored)) =
         omega (
           arith,
@@ -164,10 +164,10 @@ module _ (file : List ℕ) (picks : Picks) (e : IsEncoded file picks)
           head = head_behind (coded_pre p ++ dst_chunk stored ∷ []) (dsti_chunk (entries_of p stored));
           end = form_end g;
           one = ap (λ (f : Form). named "DSTI" f.chunks) coded_form ∙ ap (named "DSTI") (heads ∙ ap (heads_from 16) index_parts)
-              ∙ one_named (λ id. id is "DSTI") (coded_pre p ++ dst_chunk stored ∷ []) (origin_of_parts p (accepted file) ∷ p.last)
+              ∙ one_named (λ id. id is "DSTI") (coded_pre p ++ dst_chunk stored ∷ []) (origin_of_parts p (accepted file) ∷ p.parts.last)
               (dsti_chunk (entries_of p stored)) pre refl
-              (refl, none p.last p.others_last.added);
-          holds = stands_behind g (coded_pre p ++ dst_chunk stored ∷ []) (origin_of_parts p (accepted file) ∷ p.last) (dsti_chunk (entries_of p stored)) []
+              (refl, none p.parts.last p.added_last);
+          holds = stands_behind g (coded_pre p ++ dst_chunk stored ∷ []) (origin_of_parts p (accepted file) ∷ p.parts.last) (dsti_chunk (entries_of p stored)) []
               (subst (λ cs. IsFile g cs []) index_parts e.made);
           numbers = entries_are_numbers (16 + length (body_bytes (coded_pre p)) + 12 + 18) (2 ^ 50 + 100) 112897 stored (omega arith) e.frames.short
               (omega (arith, size, long, first, inside, body)) (omega arith);

@@ -109,36 +109,36 @@ form_body_bytes file cs rest bytes whole =
 pub coded_is_bytes : (file : List ℕ) (p : PlainParts file) (form : Form) (frames : List (List ℕ)) (g : List ℕ) → form.pad < 256 → AreBytes form.behind →
     AllByRecursion AreBytes frames → g ≡ opening_bytes (coded_chunks p form frames) ++ body_bytes (coded_chunks p form frames) ++ [] → AreBytes g
 coded_is_bytes file p form frames g pad behind stored whole =
-    let body = form_body_bytes file (plain_pre p ++ p.sound ∷ p.last) (behind_form file) p.bytes p.formed.bytes in
-    let outer = body_parts (plain_pre p) (p.sound ∷ p.last) body in
-    let last = (all_parts (bytes_of_chunk p.sound) (body_bytes p.last) outer.1).1 in
-    let inner = body_parts (p.version ∷ p.front) (p.prop ∷ p.middle) outer.0 in
-    let prop_and = all_parts (bytes_of_chunk p.prop) (body_bytes p.middle) inner.1 in
-    let prop_body = (parts_of_bytes p.prop prop_and.0).1 in
-    let ls = locals p.prop.body in
-    let local = (all_parts (codes "SND ") (body_bytes ls) (subst AreBytes p.lawful.made.bytes prop_body)).1 in
-    let a = around_cmpr ls p.lawful.cmpr p.lawful.has.one_cmpr in
-    let around = body_parts a.before (p.lawful.cmpr ∷ a.behind) (subst (λ ds. AreBytes (body_bytes ds)) a.parts local) in
-    let cmpr = all_parts (bytes_of_chunk p.lawful.cmpr) (body_bytes a.behind) around.1 in
+    let body = form_body_bytes file (plain_pre p ++ p.parts.sound ∷ p.parts.last) (behind_form file) p.parts.bytes p.parts.formed.bytes in
+    let outer = body_parts (plain_pre p) (p.parts.sound ∷ p.parts.last) body in
+    let last = (all_parts (bytes_of_chunk p.parts.sound) (body_bytes p.parts.last) outer.1).1 in
+    let inner = body_parts (p.parts.version ∷ p.parts.front) (p.parts.prop ∷ p.parts.middle) outer.0 in
+    let prop_and = all_parts (bytes_of_chunk p.parts.prop) (body_bytes p.parts.middle) inner.1 in
+    let prop_body = (parts_of_bytes p.parts.prop prop_and.0).1 in
+    let ls = locals p.parts.prop.body in
+    let local = (all_parts (codes "SND ") (body_bytes ls) (subst AreBytes p.parts.lawful.made.bytes prop_body)).1 in
+    let a = around_cmpr ls p.parts.lawful.cmpr p.parts.lawful.has.one_cmpr in
+    let around = body_parts a.before (p.parts.lawful.cmpr ∷ a.behind) (subst (λ ds. AreBytes (body_bytes ds)) a.parts local) in
+    let cmpr = all_parts (bytes_of_chunk p.parts.lawful.cmpr) (body_bytes a.behind) around.1 in
     let new_cmpr : AreBytes (bytes_of_chunk coded_cmpr) = written_bytes "CMPR" coded_cmpr.body 0
     (four 67 77 80 82 (omega arith) (omega arith) (omega arith) (omega arith)) cmpr_text (omega arith) in
-    let new_local = subst (λ ds. AreBytes (body_bytes ds)) (sym (replaced_is coded_cmpr ls p.lawful.cmpr a))
+    let new_local = subst (λ ds. AreBytes (body_bytes ds)) (sym (replaced_is coded_cmpr ls p.parts.lawful.cmpr a))
     (body_joined a.before (coded_cmpr ∷ a.behind) around.0 (joined (bytes_of_chunk coded_cmpr) (body_bytes a.behind) new_cmpr cmpr.1)) in
     let new_prop : AreBytes (bytes_of_chunk (coded_prop p)) =
     written_bytes "PROP" (body_with coded_cmpr ls) 0 (four 80 82 79 80 (omega arith) (omega arith) (omega arith) (omega arith))
     (joined (codes "SND ") (body_bytes (replaced coded_cmpr ls)) (four 83 78 68 32 (omega arith) (omega arith) (omega arith) (omega arith)) new_local)
     (omega arith) in
-    let pre = body_joined (p.version ∷ p.front) (coded_prop p ∷ p.middle) inner.0
-    (joined (bytes_of_chunk (coded_prop p)) (body_bytes p.middle) new_prop prop_and.1) in
+    let pre = body_joined (p.parts.version ∷ p.parts.front) (coded_prop p ∷ p.parts.middle) inner.0
+    (joined (bytes_of_chunk (coded_prop p)) (body_bytes p.parts.middle) new_prop prop_and.1) in
     let dst = written_bytes "DST " (dst_body frames) 0 (four 68 83 84 32 (omega arith) (omega arith) (omega arith) (omega arith))
     (joined (frte (length frames)) (flat_map dstf frames) (frte_bytes (length frames)) (frames_bytes frames stored)) (omega arith) in
     let dsti = written_bytes "DSTI" (flat_map entry_bytes (entries_of p frames)) 0
     (four 68 83 84 73 (omega arith) (omega arith) (omega arith) (omega arith)) (index_bytes (entries_of p frames)) (omega arith) in
     let origin = written_bytes "KEPT" (origin_of_parts p form).body 0 (four 75 69 80 84 (omega arith) (omega arith) (omega arith) (omega arith))
-    (origin_bytes (length p.sound.body) form.pad (bytes_of_chunk p.lawful.cmpr) form.behind pad cmpr.0 behind) (omega arith) in
+    (origin_bytes (length p.parts.sound.body) form.pad (bytes_of_chunk p.parts.lawful.cmpr) form.behind pad cmpr.0 behind) (omega arith) in
     let rest = joined (bytes_of_chunk (dst_chunk frames)) _ dst
     (joined (bytes_of_chunk (dsti_chunk (entries_of p frames))) _ dsti (joined (bytes_of_chunk (origin_of_parts p form)) _ origin last)) in
-    let all = body_joined (coded_pre p) (dst_chunk frames ∷ dsti_chunk (entries_of p frames) ∷ origin_of_parts p form ∷ p.last) pre rest in
+    let all = body_joined (coded_pre p) (dst_chunk frames ∷ dsti_chunk (entries_of p frames) ∷ origin_of_parts p form ∷ p.parts.last) pre rest in
     form_is_bytes g (coded_chunks p form frames) whole all
   where
     cmpr_text : AreBytes (codes "DST " ++ 11 ∷ codes "DST Encoded")

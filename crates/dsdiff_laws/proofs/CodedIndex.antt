@@ -118,20 +118,7 @@ index_is_walk g form es h walked =
     rw (offset, size) refl) in
     rw sized rules
 
--- ---- the entries are numbers of eight and of four bytes
-pub entries_are_numbers : (place most n : ℕ) (frames : List (List ℕ)) → n < 2 ^ 32 → AreShort n frames → place + length (flat_map dstf frames) ≤ most →
-    most < 2 ^ 63 →
-    AreNumbers (entries_from place frames)
-entries_are_numbers place most n [] small short p q = tt
-entries_are_numbers place most n (w ∷ ws) small short p q =
-    let here = short.0 in
-    let long = length_written "DSTF" w 0 refl (omega (arith, here, small)) in
-    let both = length-append (dstf w) (flat_map dstf ws) in (
-      (omega (arith, p, q, long, both), omega (arith, here, small)),
-      entries_are_numbers (place + length (dstf w)) most n ws small short.1 (omega (arith, p, both)) q,
-    )
-
--- the same of frames among other chunks
+-- ---- entries of frames among chunks are numbers of eight and of four bytes
 pub entries_among_are_numbers : (place most n : ℕ) (cs : List Chunk) → AreChunks (λ id. true) cs → AreShortBodies n (frames_among cs) → n < 2 ^ 32 →
     place + length (body_bytes cs) ≤ most → most < 2 ^ 63 → AreNumbers (entries_among place cs)
 entries_among_are_numbers place most n [] are short small p q = tt

@@ -12,8 +12,9 @@ use Rattle.dsdiff_spec.specs.Written.{dstf, entries_from}
 use Rattle.dsdiff_spec.proofs.Tiling.{heads_from, head_of}
 use Rattle.dsdiff_laws.proofs.Composed.{AreChunks}
 use Rattle.dsdiff_laws.proofs.Filed.{body_bytes}
-use Rattle.dsdiff_laws.proofs.ChunkWalk.{frames_among, bodies_of, AreShortBodies, HasChunks, frames_are_found}
+use Rattle.dsdiff_laws.proofs.ChunkWalk.{frames_among, bodies_of, entries_among, AreShortBodies, HasChunks, frames_are_found}
 use Rattle.dsdiff_laws.proofs.CodedChunks.{frame_chunk}
+use Rattle.dsdiff_laws.proofs.CodedIndex.{AreNumbers, entries_among_are_numbers}
 use Rattle.dsdiff_laws.proofs.CodedFile.{is_whole, are_joined, AreShort}
 
 -- ---- frames one after the other
@@ -57,13 +58,16 @@ pub record Walked (g : List ℕ) (end place : ℕ) (frames : List (List ℕ)) : 
   pub ends : end ≡ place + length (flat_map dstf frames)
   pub few : length frames ≤ 1000000
 
+chunks_are : (n : ℕ) (frames : List (List ℕ)) → n < 2 ^ 64 → AreShort n frames → AreChunks (λ id. true) (frame_chunks frames)
+chunks_are n frames small short =
+    subst (AreChunks (λ id. true)) (append-nil (frame_chunks frames)) (are_joined (λ id. true) (frame_chunks frames) [] (frames_whole n frames small short) tt)
+
 has_chunks : (g : List ℕ) (end place n : ℕ) (frames : List (List ℕ)) → n < 2 ^ 64 → AreShort n frames → Walked g end place frames →
     HasChunks g end place (frame_chunks frames)
 has_chunks g end place n frames small short w = record {
   front = w.front;
   rest = w.rest;
-  are = subst (AreChunks (λ id. true)) (append-nil (frame_chunks frames)) (are_joined (λ id. true) (frame_chunks frames) []
-      (frames_whole n frames small short) tt);
+  are = chunks_are n frames small short;
   few = omega (arith, w.few, length-map frames frame_chunk);
   bytes = w.bytes ∙ ap (λ v. w.front ++ v ++ w.rest) (frames_are_chunks frames);
   at_place = w.at_place;
@@ -93,3 +97,14 @@ walk_is g form frames n small short fits count w =
       stored = found.stored ∙ ap bodies_of among ∙ bodies_of_frames frames;
       heads = found.heads;
     }
+
+-- ---- the entries are numbers of eight and of four bytes
+pub entries_are_numbers : (place most n : ℕ) (frames : List (List ℕ)) → n < 2 ^ 32 → AreShort n frames → place + length (flat_map dstf frames) ≤ most →
+    most < 2 ^ 63 → AreNumbers (entries_from place frames)
+entries_are_numbers place most n frames small short p q =
+    let cs = frame_chunks frames in
+    let among : entries_among place cs ≡ entries_from place frames = ap (map entry_of) (named_frames place frames) ∙ entries_of_heads place frames in
+    subst AreNumbers among
+    (entries_among_are_numbers place most n cs (chunks_are n frames (omega (arith, small)) short)
+    (subst (AreShortBodies n) (sym (frames_among_frames frames)) (short_bodies n frames short)) small
+    (omega (arith, p, ap length (frames_are_chunks frames))) q)

@@ -17,8 +17,8 @@ pub mod BehindFrte
 pub mod CodedRules
 pub mod FrameChunks
 pub mod MiddleFrames
-pub mod CodedWalk
 pub mod CodedIndex
+pub mod CodedWalk
 pub mod StoredBytes
 pub mod Accepting
 pub mod CutOrigin

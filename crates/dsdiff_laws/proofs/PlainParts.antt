@@ -28,7 +28,7 @@ use Rattle.dsdiff_laws.proofs.Filed.{IsFile, file_holds, not_false}
 use Rattle.dsdiff_laws.proofs.Props.{IsAcceptedProp}
 use Rattle.dsdiff_laws.proofs.Order.{none_chosen}
 use Rattle.dsdiff_laws.proofs.Places.{Lacks, head_behind, lacks_parts}
-use Rattle.dsdiff_laws.proofs.FormParts.{AreApart, form_parts, prop_id, sound_id, prop_body}
+use Rattle.dsdiff_laws.proofs.FormParts.{FormParts, form_parts}
 
 -- ---- the rules that the file keeps
 pub plain_rules : (level : ℕ) (file : List ℕ) → refusal (encode level) file ≡ None → (form_fault file ≡ None) × (kind file ≡ plain)
@@ -47,41 +47,19 @@ plain_rules level file h = go (form_fault file) refl h
 abbrev pub added_id : List ℕ → Bool
 added_id id = id is "DSTI" || id is "KEPT"
 
--- chunks of other ids
-pub record AreOther (cs : List Chunk) : Type 0 where
-  pub props : Lacks prop_id cs
-  pub sounds : Lacks sound_id cs
-  pub added : Lacks added_id cs
-
 pub record PlainParts (file : List ℕ) : Type 0 where
-  pub version : Chunk
-  pub front : List Chunk
-  pub prop : Chunk
-  pub middle : List Chunk
-  pub sound : Chunk
-  pub last : List Chunk
-  pub formed : IsFile file ((version ∷ front ++ prop ∷ middle) ++ sound ∷ last) (behind_form file)
-  pub bytes : AreBytes file
-  pub version_id : version.id ≡ codes "FVER"
-  pub version_size : length version.body ≡ 4
-  pub version_byte : get_or version.body 0 0 ≡ 1
-  pub is_prop : prop.id ≡ codes "PROP"
-  pub is_sound : sound.id ≡ codes "DSD "
-  pub others_front : AreOther (version ∷ front)
-  pub others_middle : AreOther middle
-  pub others_last : AreOther last
-  pub lawful : IsAcceptedProp prop.body
-  pub type : take 4 lawful.cmpr.body ≡ codes "DSD "
-  pub few : length ((version ∷ front ++ prop ∷ middle) ++ sound ∷ last) ≤ 1022
-  pub prop_most : length prop.body ≤ 65520
+  pub parts : FormParts file
+  pub is_dsd : parts.sound.id ≡ codes "DSD "
+  pub added_front : Lacks added_id (parts.version ∷ parts.front)
+  pub added_middle : Lacks added_id parts.middle
+  pub added_last : Lacks added_id parts.last
+  pub type : take 4 parts.lawful.cmpr.body ≡ codes "DSD "
+  pub few : length ((parts.version ∷ parts.front ++ parts.prop ∷ parts.middle) ++ parts.sound ∷ parts.last) ≤ 1022
+  pub prop_most : length parts.prop.body ≤ 65520
   pub size_most : form_size file ≤ 2 ^ 49
-  pub even : length sound.body % channel_count prop.body ≡ 0
-  pub frames : frames_for (sound_bytes_in prop.body) (length sound.body) ≤ 1000000
+  pub even : length parts.sound.body % channel_count parts.prop.body ≡ 0
+  pub frames : frames_for (sound_bytes_in parts.prop.body) (length parts.sound.body) ≤ 1000000
   pub behind_most : length (behind_form file) ≤ 65536
-  pub heads : (top_level file).heads ≡ heads_from 16 ((version ∷ front ++ prop ∷ middle) ++ sound ∷ last)
-  pub sound_head_is : sound_head file ≡ head_behind (version ∷ front ++ prop ∷ middle) sound
-  pub sound_holds : Holds file (form_end file) (head_behind (version ∷ front ++ prop ∷ middle) sound) sound
-  pub prop_is : prop_body file ≡ prop.body
 
 -- ---- its rules, one by one
 record Rules (file : List ℕ) : Type 0 where
@@ -140,9 +118,6 @@ length-heads : (n : ℕ) (cs : List Chunk) → length (heads_from n cs) ≡ leng
 length-heads n [] = refl
 length-heads n (c ∷ cs) = omega (arith, length-heads (n + length (bytes_of_chunk c)) cs)
 
-other_by : (cs : List Chunk) → AreApart cs → Lacks added_id cs → AreOther cs
-other_by cs a l = record { props = a.props; sounds = a.sounds; added = l }
-
 pub plain_parts : (level : ℕ) (file : List ℕ) → AreBytes file → refusal (encode level) file ≡ None → PlainParts file
 plain_parts level file bytes accepts =
     let rules = plain_rules level file accepts in
@@ -159,23 +134,11 @@ plain_parts level file bytes accepts =
     f.is_sound ∙ (bytes_eq-Decides (sound_head file).id (codes "DSD ")).0 (plain_is_id ((sound_head file).id is "DSD ") rules.1) in
     let sound_size : (sound_head file).size ≡ length f.sound.body = ap (λ (h : Head). h.size) f.sound_head_is in
     record {
-      version = f.version;
-      front = f.front;
-      prop = f.prop;
-      middle = f.middle;
-      sound = f.sound;
-      last = f.last;
-      formed = f.formed;
-      bytes = bytes;
-      version_id = f.version_id;
-      version_size = f.version_size;
-      version_byte = f.version_byte;
-      is_prop = f.is_prop;
-      is_sound = is_dsd;
-      others_front = other_by (f.version ∷ f.front) f.apart_front inner.0;
-      others_middle = other_by f.middle f.apart_middle inner.1.1;
-      others_last = other_by f.last f.apart_last outer.1.1;
-      lawful = f.lawful;
+      parts = f;
+      is_dsd = is_dsd;
+      added_front = inner.0;
+      added_middle = inner.1.1;
+      added_last = outer.1.1;
       type = f.type ∙ is_dsd;
       few = omega (arith, ap length f.heads, length-heads 16 cs, r.few);
       prop_most = omega (arith, f.prop_head_size, r.prop_most);
@@ -183,8 +146,4 @@ plain_parts level file bytes accepts =
       even = ap₂ (λ (n m : ℕ). n % m) (sym sound_size) (ap channel_count (sym f.prop_is)) ∙ r.even;
       frames = subst (λ n. n ≤ 1000000) (ap₂ frames_for (ap sound_bytes_in f.prop_is) sound_size) r.frames;
       behind_most = r.behind_most;
-      heads = f.heads;
-      sound_head_is = f.sound_head_is;
-      sound_holds = f.sound_holds;
-      prop_is = f.prop_is;
     }
