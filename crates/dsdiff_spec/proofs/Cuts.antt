@@ -5,8 +5,9 @@ use Rattle.dsdiff_spec.specs.Faults.{◌when◌}
 use Rattle.dsdiff_spec.specs.Bytes.{◌above◌}
 use Rattle.dsdiff_spec.specs.Rules.{accepted}
 use Rattle.dsdiff_spec.specs.Cut.{cut}
-use Rattle.dsdiff_spec.specs.Refusal.{cut_fault}
-use Rattle.dsdiff_spec.specs.declared.faults.FileFault.TheVariants.{TooManyChunks, FormTooLarge}
+use Rattle.dsdiff_spec.specs.Refusal.{cut_fault, refusal}
+use Rattle.dsdiff_spec.specs.Words as words
+use Rattle.dsdiff_spec.specs.declared.faults.FileFault.TheVariants.{Range, TooManyChunks, FormTooLarge}
 use Rattle.dsdiff_spec.proofs.Restoring.{written_open}
 
 -- chunks of all of them: `FVER`, and `PROP` of one channel at the lowest rate
@@ -273,3 +274,12 @@ largest_form w e = one_chunk w ∙ ap (λ n. FormTooLarge when n above 2 ^ 50) e
 
 pub larger_form : (w : List ℕ) → 4 + length w ≡ 2 ^ 50 + 1 → cut_fault (w ∷ []) ≡ Some FormTooLarge
 larger_form w e = one_chunk w ∙ ap (λ n. FormTooLarge when n above 2 ^ 50) e
+
+-- ---- a file that is cut, by its last frame
+pub three_are_cut : refusal (words.cut 0 2) three ≡ None
+unfolding written_open refusal
+three_are_cut = refl
+
+pub a_fourth_is_not_there : refusal (words.cut 0 3) three ≡ Some (Range 3 3)
+unfolding written_open refusal
+a_fourth_is_not_there = refl
