@@ -70,9 +70,9 @@ abbrev pub PiecesLaw : Type 0
 PiecesLaw = (n : ℕ) (sound : List ℕ) → 0 < n → take (length sound) (concat (pieces n sound)) ≡ sound
 
 -- What cutting writes is accepted for decoding, checking and listing, and each frame of it for writing its sound, by the
--- walk and by the index. Its frames are those that were asked for, byte for byte, and its one index is its walk. It is decoded
--- to the sounds of these frames, cut where the old sound ended if the last frame is in it, with the pad byte of that sound; the plain file's `CMPR` is the
--- old one, and no bytes are kept.
+-- walk and by the index. Its frames are those that were asked for, byte for byte, and its one index is its walk. It is
+-- decoded to the sounds of these frames: if the last frame is among them up to where the old sound ended, with the pad byte
+-- of that sound. The plain file's `CMPR` is the old one, and no bytes are kept.
 abbrev pub cut_file : List ℕ → ℕ → ℕ → List ℕ
 cut_file file first last = cutting.cut file (accepted file) first last
 
