@@ -146,7 +146,8 @@ module _ (file : List ℕ) (picks : Picks) (e : IsEncoded file picks)
         λ cs l. (either_lacks (λ id. id is "DSTI") (λ id. id is "KEPT") cs l).0 in
         let pre : Lacks (λ id. id is "DSTI") (coded_pre p ++ dst_chunk stored ∷ []) =
         all_append (λ (d : Chunk). (d.id is "DSTI") ≡ false) (coded_pre p) (dst_chunk stored ∷ [])
-        (all_append (λ (d : Chunk). (d.id is "DSTI") ≡ false) (p.parts.version ∷ p.parts.front) (coded_prop p ∷ p.parts.middle) (none (p.parts.version ∷ p.parts.front) p.added_front)
+        (all_append (λ (d : Chunk). (d.id is "DSTI") ≡ false) (p.parts.version ∷ p.parts.front) (coded_prop p ∷ p.parts.middle)
+        (none (p.parts.version ∷ p.parts.front) p.added_front)
         (refl, none p.parts.middle p.added_middle))
         (refl, tt) in
         let heads = ap (λ (x : Found). x.heads) (found_is g (coded_chunks p (accepted file) stored) [] e.made) in
@@ -167,7 +168,8 @@ module _ (file : List ℕ) (picks : Picks) (e : IsEncoded file picks)
               ∙ one_named (λ id. id is "DSTI") (coded_pre p ++ dst_chunk stored ∷ []) (origin_of_parts p (accepted file) ∷ p.parts.last)
               (dsti_chunk (entries_of p stored)) pre refl
               (refl, none p.parts.last p.added_last);
-          holds = stands_behind g (coded_pre p ++ dst_chunk stored ∷ []) (origin_of_parts p (accepted file) ∷ p.parts.last) (dsti_chunk (entries_of p stored)) []
+          holds = stands_behind g (coded_pre p ++ dst_chunk stored ∷ []) (origin_of_parts p (accepted file) ∷ p.parts.last)
+              (dsti_chunk (entries_of p stored)) []
               (subst (λ cs. IsFile g cs []) index_parts e.made);
           numbers = entries_are_numbers (16 + length (body_bytes (coded_pre p)) + 12 + 18) (2 ^ 50 + 100) 112897 stored (omega arith) e.frames.short
               (omega (arith, size, long, first, inside, body)) (omega arith);

@@ -85,7 +85,8 @@ lacks_append f (c ∷ cs) ds p q = (p.0, lacks_append f cs ds p.1 q)
 module _ (file : List ℕ) (p : PlainParts file) (form : Form) (is_form : form ≡ form_of_kind plain file)
   where
     pre_lacks_added : Lacks added_id (plain_pre p)
-    pre_lacks_added = lacks_append added_id (p.parts.version ∷ p.parts.front) (p.parts.prop ∷ p.parts.middle) p.added_front (ap added_id p.parts.is_prop, p.added_middle)
+    pre_lacks_added = lacks_append added_id (p.parts.version ∷ p.parts.front) (p.parts.prop ∷ p.parts.middle) p.added_front
+        (ap added_id p.parts.is_prop, p.added_middle)
 
     heads_are : form.chunks ≡ heads_from 16 (plain_pre p ++ p.parts.sound ∷ p.parts.last)
     heads_are = ap (λ (f : Form). f.chunks) is_form ∙ p.parts.heads
@@ -100,7 +101,8 @@ module _ (file : List ℕ) (p : PlainParts file) (form : Form) (is_form : form �
     prop_is = ap (λ (f : Form). f.prop) is_form ∙ p.parts.prop_is
 
     hold : AllZip (Holds file form.end) (heads_from 16 (plain_pre p)) (plain_pre p)
-    hold = subst (λ n. AllZip (Holds file n) (heads_from 16 (plain_pre p)) (plain_pre p)) end_is (parts_hold file (plain_pre p) (p.parts.sound ∷ p.parts.last) _ p.parts.formed).0
+    hold = subst (λ n. AllZip (Holds file n) (heads_from 16 (plain_pre p)) (plain_pre p)) end_is
+        (parts_hold file (plain_pre p) (p.parts.sound ∷ p.parts.last) _ p.parts.formed).0
 
     before_is : before_sound form ≡ heads_from 16 (plain_pre p)
     before_is =
@@ -114,9 +116,12 @@ module _ (file : List ℕ) (p : PlainParts file) (form : Form) (is_form : form �
         ∙ those_behind may_lack (λ h. not (added_id h.id)) 16 (plain_pre p) p.parts.last p.parts.sound p.parts.formed.are
         ∙ kept_named added_id _ p.parts.last p.added_last
 
-    hold_last : AllZip (Holds file form.end) (heads_from (16 + length (body_bytes (plain_pre p)) + length (bytes_of_chunk p.parts.sound)) p.parts.last) p.parts.last
+    hold_last : AllZip (Holds file form.end) (heads_from (16 + length (body_bytes (plain_pre p)) + length (bytes_of_chunk p.parts.sound)) p.parts.last)
+        p.parts.last
     hold_last =
-        subst (λ n. AllZip (Holds file n) (heads_from (16 + length (body_bytes (plain_pre p)) + length (bytes_of_chunk p.parts.sound)) p.parts.last) p.parts.last) end_is
+        subst
+        (λ n. AllZip (Holds file n) (heads_from (16 + length (body_bytes (plain_pre p)) + length (bytes_of_chunk p.parts.sound)) p.parts.last) p.parts.last)
+        end_is
         ((parts_hold file (plain_pre p) (p.parts.sound ∷ p.parts.last) _ p.parts.formed).1.1)
 
     new_prop : prop_with form.prop cmpr_coded ≡ bytes_of_chunk (coded_prop p)
@@ -125,7 +130,8 @@ module _ (file : List ℕ) (p : PlainParts file) (form : Form) (is_form : form �
     pub before_copied : encoding.coded_before file form ≡ map bytes_of_chunk (coded_pre p)
     before_copied =
         let new = prop_with form.prop cmpr_coded in
-        let here : copy_of new p.parts.prop ≡ bytes_of_chunk (coded_prop p) = ap (λ (b : Bool). if b then new else bytes_of_chunk p.parts.prop) (ap prop_id p.parts.is_prop)
+        let here : copy_of new p.parts.prop ≡ bytes_of_chunk (coded_prop p) =
+        ap (λ (b : Bool). if b then new else bytes_of_chunk p.parts.prop) (ap prop_id p.parts.is_prop)
         ∙ new_prop in
         ap (copied_with cmpr_coded file form) before_is
         ∙ copied_of cmpr_coded file form (heads_from 16 (plain_pre p)) (plain_pre p) hold
@@ -141,7 +147,9 @@ module _ (file : List ℕ) (p : PlainParts file) (form : Form) (is_form : form �
         ∙ copy_without (prop_with form.prop cmpr_coded) p.parts.last p.parts.apart_last.props
 
     cmpr_is : cmpr_in form.prop ≡ bytes_of_chunk p.parts.lawful.cmpr
-    cmpr_is = ap cmpr_in prop_is ∙ (fields_are_read p.parts.prop.body (locals p.parts.prop.body) p.parts.lawful.fs p.parts.lawful.chnl p.parts.lawful.cmpr p.parts.lawful.made p.parts.lawful.has).part
+    cmpr_is =
+        let l = p.parts.lawful in
+        ap cmpr_in prop_is ∙ (fields_are_read p.parts.prop.body (locals p.parts.prop.body) l.fs l.chnl l.cmpr l.made l.has).part
 
     size_is : form.sound.size ≡ length p.parts.sound.body
     size_is = ap (λ (f : Form). f.sound.size) is_form ∙ ap (λ (h : Head). h.size) p.parts.sound_head_is

@@ -1,5 +1,6 @@
 -- The entries that are written in `DSTI` are read back.
-use Rattle.std.proofs.Common.{◌≡◌, ℕ, zero, suc, ◌+◌, ◌*◌, ◌^◌, ◌<◌, ◌≤◌, ◌==◌, Bool, true, false, if◌then◌else◌, List, [], ◌∷◌, ◌++◌, length, flat_map, map, None, refl, sym, ap, ap₂}
+use Rattle.std.proofs.Common.{◌≡◌, ℕ, zero, suc, ◌+◌, ◌*◌, ◌^◌, ◌<◌, ◌≤◌, ◌==◌, Bool, true, false, if◌then◌else◌, List, [], ◌∷◌, ◌++◌, length}
+use Rattle.std.proofs.Common.{flat_map, map, None, refl, sym, ap, ap₂}
 use Rattle.std.proofs.Common.{◌∙◌, arith, length-append, append_assoc, append-nil, Option}
 use Rattle.std.specs.Prelude.{not}
 use Rattle.std.specs.List.{AllByRecursion, enumerate_from}
@@ -11,13 +12,12 @@ use Rattle.dsdiff_spec.specs.Faults.{◌when◌, first_some}
 use Rattle.dsdiff_spec.specs.Chunks.{Chunk, bytes_of_chunk, Head, body_place, named, the_first}
 use Rattle.dsdiff_spec.specs.Form.{Form}
 use Rattle.dsdiff_spec.specs.Walk.{Entry, entry_of, entry, entries, index_heads, index_head, indexed, has_index_of, same_entry, compare_fault}
-use Rattle.dsdiff_spec.specs.Written.{dstf, entries_from}
 use Rattle.dsdiff_spec.specs.declared.faults.FileFault.{FileFault}
 use Rattle.dsdiff_spec.specs.declared.faults.FileFault.TheVariants.{IndexBad}
 use Rattle.dsdiff_spec.proofs.Tiling.{heads_from, head_of, big_from-behind}
 use Rattle.dsdiff_laws.proofs.Standing.{Holds}
 use Rattle.dsdiff_laws.proofs.CodedChunks.{entry_bytes, dsti_chunk}
-use Rattle.dsdiff_laws.proofs.CodedFile.{length-index, AreShort, length_written}
+use Rattle.dsdiff_laws.proofs.CodedFile.{length-index}
 use Rattle.dsdiff_laws.proofs.Places.{number_inside}
 use Rattle.dsdiff_laws.proofs.Composed.{AreChunks, first_ends, others_are, length_of_ending}
 use Rattle.dsdiff_laws.proofs.Filed.{body_bytes}

@@ -43,7 +43,9 @@ module _ (file : List ℕ) (p : PlainParts file) (form : Form) (frames : List (L
     new_prop = replaced_is_prop coded_cmpr p.parts.prop.body (locals p.parts.prop.body) cmpr_whole p.parts.lawful.made
 
     pub new_fields : HasFields (replaced coded_cmpr (locals p.parts.prop.body)) p.parts.lawful.fs p.parts.lawful.chnl coded_cmpr
-    new_fields = replaced_has_fields coded_cmpr (locals p.parts.prop.body) p.parts.lawful.fs p.parts.lawful.chnl p.parts.lawful.cmpr p.parts.lawful.has refl (omega arith) (inr refl)
+    new_fields =
+        let l = p.parts.lawful in
+        replaced_has_fields coded_cmpr (locals p.parts.prop.body) l.fs l.chnl l.cmpr l.has refl (omega arith) (inr refl)
 
     abbrev as_form : IsCodedForm g
     as_form = record {
@@ -82,10 +84,14 @@ module _ (file : List ℕ) (p : PlainParts file) (form : Form) (frames : List (L
     prop_is = prop_read g as_form
 
     new_read : AreRead (coded_prop p).body p.parts.lawful.fs p.parts.lawful.chnl coded_cmpr
-    new_read = fields_are_read (coded_prop p).body (replaced coded_cmpr (locals p.parts.prop.body)) p.parts.lawful.fs p.parts.lawful.chnl coded_cmpr new_prop new_fields
+    new_read =
+        fields_are_read (coded_prop p).body (replaced coded_cmpr (locals p.parts.prop.body)) p.parts.lawful.fs p.parts.lawful.chnl coded_cmpr
+        new_prop new_fields
 
     old_read : AreRead p.parts.prop.body p.parts.lawful.fs p.parts.lawful.chnl p.parts.lawful.cmpr
-    old_read = fields_are_read p.parts.prop.body (locals p.parts.prop.body) p.parts.lawful.fs p.parts.lawful.chnl p.parts.lawful.cmpr p.parts.lawful.made p.parts.lawful.has
+    old_read =
+        let l = p.parts.lawful in
+        fields_are_read p.parts.prop.body (locals p.parts.prop.body) l.fs l.chnl l.cmpr l.made l.has
 
     pub same_count : channel_count (prop g) ≡ channel_count p.parts.prop.body
     same_count = ap channel_count prop_is ∙ new_read.count ∙ sym old_read.count
@@ -120,7 +126,8 @@ module _ (file : List ℕ) (p : PlainParts file) (form : Form) (frames : List (L
         ne_eqb ((sound_head file).size % 2) 1 (λ o. absurd (omega (arith, o, e, ap (λ (k : ℕ). k % 2) size))) in
         ap (λ (i : Form). i.pad) f.is_form ∙ rw even refl
 
-    pub origin_holds : IsOrigin (channel_count (prop g)) (sound_bytes_in (prop g)) (frame_count g) (length p.parts.sound.body) form.pad p.parts.lawful.cmpr form.behind
+    pub origin_holds : IsOrigin (channel_count (prop g)) (sound_bytes_in (prop g)) (frame_count g) (length p.parts.sound.body)
+        form.pad p.parts.lawful.cmpr form.behind
     origin_holds = record {
       cmpr = cmpr_is;
       cmpr_most = omega (arith, cmpr_size p, p.prop_most);
@@ -141,7 +148,8 @@ module _ (file : List ℕ) (p : PlainParts file) (form : Form) (frames : List (L
     kept_id : List ℕ → Bool
     kept_id id = id is "KEPT"
 
-    origin_parts : coded_chunks p form frames ≡ (coded_pre p ++ dst_chunk frames ∷ dsti_chunk (entries_of p frames) ∷ []) ++ origin_of_parts p form ∷ p.parts.last
+    origin_parts : coded_chunks p form frames
+        ≡ (coded_pre p ++ dst_chunk frames ∷ dsti_chunk (entries_of p frames) ∷ []) ++ origin_of_parts p form ∷ p.parts.last
     origin_parts = sym (append_assoc (coded_pre p) (dst_chunk frames ∷ dsti_chunk (entries_of p frames) ∷ []) (origin_of_parts p form ∷ p.parts.last))
 
     pub origin_only : all "KEPT" g ≡ head_behind (coded_pre p ++ dst_chunk frames ∷ dsti_chunk (entries_of p frames) ∷ []) (origin_of_parts p form) ∷ []
@@ -154,7 +162,8 @@ module _ (file : List ℕ) (p : PlainParts file) (form : Form) (frames : List (L
           (refl, tt),
         ) in
         ap (named "KEPT") (heads_are ∙ ap (heads_from 16) origin_parts)
-        ∙ one_named (λ id. id is "KEPT") (coded_pre p ++ dst_chunk frames ∷ dsti_chunk (entries_of p frames) ∷ []) p.parts.last (origin_of_parts p form) more refl
+        ∙ one_named (λ id. id is "KEPT") (coded_pre p ++ dst_chunk frames ∷ dsti_chunk (entries_of p frames) ∷ []) p.parts.last
+        (origin_of_parts p form) more refl
         (a p.parts.last p.added_last).1
 
     pub origin_body_is : body_of g (head_behind (coded_pre p ++ dst_chunk frames ∷ dsti_chunk (entries_of p frames) ∷ []) (origin_of_parts p form)) ≡

@@ -124,7 +124,8 @@ module _ (file : List ℕ) (first last : ℕ) (le : first ≤ last) (c : CutPart
     origin_is (Some o) = by_last (is_last form last)
       where
         by_last : (b : Bool) →
-            (if b then origin_chunk (o.sound - sound_bytes_of form * first) o.pad o.cmpr [] else origin_chunk (sound_bytes_of form * (last + 1 - first)) 0 o.cmpr [])
+            (if b then origin_chunk (o.sound - sound_bytes_of form * first) o.pad o.cmpr []
+            else origin_chunk (sound_bytes_of form * (last + 1 - first)) 0 o.cmpr [])
             ∷ [] ≡ origin_chunk (size_left b (sound_bytes_of form) o first last) (pad_left b o) o.cmpr [] ∷ []
         by_last true = refl
         by_last false = refl

@@ -181,7 +181,8 @@ size_left final f o first last = if final then o.sound - f * first else f * (las
 abbrev pub pad_left : Bool → Origin → ℕ
 pad_left final o = if final then o.pad else 0
 
-pub origin_of_cut : (f : Shape) (count first last : ℕ) (o : Origin) → IsShape f → (k : IsOriginOf f.channels (sound_bytes f) count o) → first ≤ last → last < count →
+pub origin_of_cut : (f : Shape) (count first last : ℕ) (o : Origin) → IsShape f → (k : IsOriginOf f.channels (sound_bytes f) count o) → first ≤ last →
+    last < count →
     count ≤ 1000000 → (final : Bool) → (count == last + 1) ≡ final →
     IsOrigin f.channels (sound_bytes f) (last + 1 - first) (size_left final (sound_bytes f) o first last) (pad_left final o) k.cmpr.chunk []
 origin_of_cut f count first last o s k le there few true is_last =

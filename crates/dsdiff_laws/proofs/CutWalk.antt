@@ -182,7 +182,8 @@ module _ (file : List ℕ) (first last : ℕ) (le : first ≤ last) (c : CutPart
     kept_bytes (Some k) are =
         let size = size_left (is_last form last) (sound_bytes_of form) k first last in
         let known = are k refl in
-        joined (bytes_of_chunk (origin_piece size (pad_left (is_last form last) k) k.cmpr [])) [] (written_bytes "KEPT" (origin_body size (pad_left (is_last form last) k) k.cmpr []) 0
+        joined (bytes_of_chunk (origin_piece size (pad_left (is_last form last) k) k.cmpr [])) []
+        (written_bytes "KEPT" (origin_body size (pad_left (is_last form last) k) k.cmpr []) 0
         (four 75 69 80 84 (omega arith) (omega arith) (omega arith) (omega arith))
         (origin_bytes size (pad_left (is_last form last) k) k.cmpr [] (by_last (is_last form last) known.1) known.0 tt) (omega arith)) tt
       where
@@ -211,7 +212,8 @@ module _ (file : List ℕ) (first last : ℕ) (le : first ≤ last) (c : CutPart
         (joined (bytes_of_chunk c.p.prop) (body_bytes (passed c.p.middle)) prop.0 (passed_bytes c.p.middle prop.1)) in
         let mid_bytes : AreBytes (body_bytes mid) = subst AreBytes (frames_bytes file first last le c)
         (AreBytes-take _ (drop (frame_place file form first) file) (AreBytes-drop (frame_place file form first) file c.bytes)) in
-        let sound = written_bytes "DST " (frte (last + 1 - first) ++ body_bytes mid) 0 (four 68 83 84 32 (omega arith) (omega arith) (omega arith) (omega arith))
+        let sound = written_bytes "DST " (frte (last + 1 - first) ++ body_bytes mid) 0
+        (four 68 83 84 32 (omega arith) (omega arith) (omega arith) (omega arith))
         (joined (frte (last + 1 - first)) (body_bytes mid) (frte_bytes (last + 1 - first)) mid_bytes) (omega arith) in
         let entries = written_bytes "DSTI" index.body 0 (four 68 83 84 73 (omega arith) (omega arith) (omega arith) (omega arith))
         (index_bytes (es file first last le c)) (omega arith) in

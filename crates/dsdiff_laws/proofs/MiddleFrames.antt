@@ -100,7 +100,8 @@ pub record IsMiddle (cs : List Chunk) (first last : ℕ) : Type 0 where
   pub count_before : length (frames_among before) ≡ first
   pub count : length (frames_among mid) ≡ last + 1 - first
   pub begins : (place : ℕ) → (entry (entries_among place cs) first).offset ≡ place + length (body_bytes before) + 12
-  pub ends : (place : ℕ) → (if length (frames_among cs) == last + 1 then place + length (body_bytes cs) else (entry (entries_among place cs) (last + 1)).offset - 12)
+  pub ends : (place : ℕ) →
+      (if length (frames_among cs) == last + 1 then place + length (body_bytes cs) else (entry (entries_among place cs) (last + 1)).offset - 12)
       ≡ place + length (body_bytes before) + length (body_bytes mid)
 
 pub middle : (cs : List Chunk) (first last : ℕ) → first ≤ last → last < length (frames_among cs) → IsMiddle cs first last
@@ -191,25 +192,24 @@ bodies_of_middle cs first last m =
 pub moved : (from to k : ℕ) (cs : List Chunk) →
     map (λ (e : Entry). record { offset = to + (e.offset - from); size = e.size }) (entries_among (from + k) cs) ≡ entries_among (to + k) cs
 moved from to k [] = refl
-moved from to k (c ∷ cs) = go (c.id is "DSTF") (subst₂ (moved from to (k + length (bytes_of_chunk c)) cs))
+moved from to k (c ∷ cs) = go (c.id is "DSTF") (placed (moved from to (k + length (bytes_of_chunk c)) cs))
   where
-    move : Entry → Entry
-    move e = record { offset = to + (e.offset - from); size = e.size }
-
     next : ℕ → List Head
     next place = named "DSTF" (heads_from (place + length (bytes_of_chunk c)) cs)
 
     assoc : (a n : ℕ) → a + (k + n) ≡ a + k + n
     assoc a n = omega arith
 
-    subst₂ : map (λ (e : Entry). record { offset = to + (e.offset - from); size = e.size }) (entries_among (from + (k + length (bytes_of_chunk c))) cs)
+    placed : map (λ (e : Entry). record { offset = to + (e.offset - from); size = e.size }) (entries_among (from + (k + length (bytes_of_chunk c))) cs)
         ≡ entries_among (to + (k + length (bytes_of_chunk c))) cs →
         map (λ (e : Entry). record { offset = to + (e.offset - from); size = e.size }) (map entry_of (next (from + k))) ≡ map entry_of (next (to + k))
-    subst₂ h =
-        ap (λ n. map (λ (e : Entry). record { offset = to + (e.offset - from); size = e.size }) (entries_among n cs)) (sym (assoc from (length (bytes_of_chunk c))))
+    placed h =
+        ap (λ n. map (λ (e : Entry). record { offset = to + (e.offset - from); size = e.size }) (entries_among n cs))
+        (sym (assoc from (length (bytes_of_chunk c))))
         ∙ h ∙ ap (λ n. entries_among n cs) (assoc to (length (bytes_of_chunk c)))
 
-    go : (b : Bool) → map (λ (e : Entry). record { offset = to + (e.offset - from); size = e.size }) (map entry_of (next (from + k))) ≡ map entry_of (next (to + k)) →
+    go : (b : Bool) →
+        map (λ (e : Entry). record { offset = to + (e.offset - from); size = e.size }) (map entry_of (next (from + k))) ≡ map entry_of (next (to + k)) →
         map (λ (e : Entry). record { offset = to + (e.offset - from); size = e.size })
         (map entry_of (if b then head_of c.id (from + k) (length c.body) ∷ next (from + k) else next (from + k)))
         ≡ map entry_of (if b then head_of c.id (to + k) (length c.body) ∷ next (to + k) else next (to + k))

@@ -1,6 +1,6 @@
 -- The chunks of a plain file that encoding accepts: `FVER`, others, `PROP`, others, `DSD `, others.
 use Rattle.std.proofs.Common.{◌≡◌, ℕ, ◌+◌, ◌%◌, ◌^◌, ◌≤◌, ◌==◌, Bool, true, false, if◌then◌else◌, List, [], ◌∷◌, ◌++◌}
-use Rattle.std.proofs.Common.{length, take, get_or, filter, Option, Some, None, refl, sym, ap, ap₂, subst, ◌∙◌, arith, ltb-false}
+use Rattle.std.proofs.Common.{length, take, filter, Option, Some, None, refl, sym, ap, ap₂, subst, ◌∙◌, arith, ltb-false}
 use Rattle.std.proofs.Common.{eqb-true}
 use Rattle.std.specs.Prelude.{codes, not, ◌||◌}
 use Rattle.std.specs.List.{AllZip}
@@ -24,10 +24,9 @@ use Rattle.dsdiff_spec.proofs.Lawful.{first_gives_none, later_gives_none, when_n
 use Rattle.dsdiff_spec.proofs.CodedFiles.{form_by, refused_by}
 use Rattle.dsdiff_spec.proofs.Tiling.{heads_from}
 use Rattle.dsdiff_laws.proofs.Standing.{Holds, chosen_hold}
-use Rattle.dsdiff_laws.proofs.Filed.{IsFile, file_holds, not_false}
-use Rattle.dsdiff_laws.proofs.Props.{IsAcceptedProp}
+use Rattle.dsdiff_laws.proofs.Filed.{file_holds, not_false}
 use Rattle.dsdiff_laws.proofs.Order.{none_chosen}
-use Rattle.dsdiff_laws.proofs.Places.{Lacks, head_behind, lacks_parts}
+use Rattle.dsdiff_laws.proofs.Places.{Lacks, lacks_parts}
 use Rattle.dsdiff_laws.proofs.FormParts.{FormParts, form_parts}
 
 -- ---- the rules that the file keeps

@@ -51,8 +51,10 @@ prop_again : {file : List ℕ} (p : PlainParts file) → IsChunk p.parts.prop �
 prop_again p whole =
     let ls = locals p.parts.prop.body in
     let back : body_with p.parts.lawful.cmpr (replaced coded_cmpr ls) ≡ p.parts.prop.body =
-    ap (λ ds. codes "SND " ++ body_bytes ds) (replaced_back coded_cmpr ls p.parts.lawful.cmpr p.parts.lawful.has.one_cmpr refl) ∙ sym p.parts.lawful.made.bytes in
-    let even : length p.parts.prop.body % 2 ≡ 0 = omega (arith, length-prop p.parts.prop.body ls p.parts.lawful.made, even_bytes ls p.parts.lawful.made.whole) in
+    ap (λ ds. codes "SND " ++ body_bytes ds) (replaced_back coded_cmpr ls p.parts.lawful.cmpr p.parts.lawful.has.one_cmpr refl)
+    ∙ sym p.parts.lawful.made.bytes in
+    let even : length p.parts.prop.body % 2 ≡ 0 =
+    omega (arith, length-prop p.parts.prop.body ls p.parts.lawful.made, even_bytes ls p.parts.lawful.made.whole) in
     let odd : (length p.parts.prop.body % 2 == 1) ≡ false = eqb-false' (length p.parts.prop.body % 2) even in
     let no_pad : p.parts.prop.pad ≡ [] = empty p.parts.prop.pad (omega (arith, whole.pad, even)) in
     ap (λ w. bytes_of_chunk (chunk_of "PROP" w 0)) back
@@ -73,7 +75,8 @@ sound_again file p =
     let ends = first_ends may_lack p.parts.sound p.parts.last (whole_before may_lack (plain_pre p) p.parts.last p.parts.sound p.parts.formed.are).1 in
     let pad : length p.parts.sound.pad ≡ length p.parts.sound.body % 2 = has_pad ends.pad in
     let size : (sound_head file).size ≡ length p.parts.sound.body = ap (λ (h : Head). h.size) p.parts.sound_head_is in
-    ap (λ (i : List ℕ). i ++ big_bytes 8 (length p.parts.sound.body) ++ p.parts.sound.body ++ (if length p.parts.sound.body % 2 == 1 then pad_byte file ∷ [] else []))
+    ap (λ (i : List ℕ). i ++ big_bytes 8 (length p.parts.sound.body) ++ p.parts.sound.body ++
+    (if length p.parts.sound.body % 2 == 1 then pad_byte file ∷ [] else []))
     (sym p.is_dsd)
     ∙ ap (λ (k : List ℕ). p.parts.sound.id ++ big_bytes 8 (length p.parts.sound.body) ++ p.parts.sound.body ++ k)
     (by_odd (length p.parts.sound.body % 2 == 1) refl p.parts.sound.pad pad refl)
@@ -185,7 +188,8 @@ module _ (file : List ℕ) (picks : Picks) (e : IsEncoded file picks)
         ap (λ (f : Form). f.origin) (coded_form file picks e)
         ∙ ap (origin_in g) (origin_only file e.p (accepted file) stored e.frames e.exact g e.made)
         ∙ ap (λ w. Some (origin_of w)) (origin_body_is file e.p (accepted file) stored e.frames e.exact g e.made)
-        ∙ ap Some (origin_is_read (length e.p.parts.sound.body) (accepted file).pad (bytes_of_chunk e.p.parts.lawful.cmpr) (accepted file).behind o.sound_fits o.kept_most)
+        ∙ ap Some (origin_is_read (length e.p.parts.sound.body) (accepted file).pad (bytes_of_chunk e.p.parts.lawful.cmpr)
+        (accepted file).behind o.sound_fits o.kept_most)
 
     prop_of_form : form'.prop ≡ (coded_prop e.p).body
     prop_of_form = ap (λ (f : Form). f.prop) (coded_form file picks e) ∙ prop_is file e.p (accepted file) stored e.frames e.exact g e.made
@@ -197,7 +201,8 @@ module _ (file : List ℕ) (picks : Picks) (e : IsEncoded file picks)
     prop_back : prop_with form'.prop (bytes_of_chunk e.p.parts.lawful.cmpr) ≡ bytes_of_chunk e.p.parts.prop
     prop_back =
         let p = e.p in
-        let parts = split_whole (p.parts.version ∷ p.parts.front) (p.parts.prop ∷ p.parts.middle) (whole_before may_lack (plain_pre p) p.parts.last p.parts.sound p.parts.formed.are).0 in
+        let parts = split_whole (p.parts.version ∷ p.parts.front) (p.parts.prop ∷ p.parts.middle)
+        (whole_before may_lack (plain_pre p) p.parts.last p.parts.sound p.parts.formed.are).0 in
         ap (λ w. prop_with w (bytes_of_chunk p.parts.lawful.cmpr)) prop_of_form
         ∙ prop_with_is p.parts.lawful.cmpr (coded_prop p).body (replaced coded_cmpr (locals p.parts.prop.body))
         (new_prop file p (accepted file) stored e.frames e.exact g e.made)
@@ -252,7 +257,8 @@ module _ (file : List ℕ) (picks : Picks) (e : IsEncoded file picks)
         let before : decoded_before g form' ≡ map bytes_of_chunk (plain_pre p) = ap (λ c. copied_with c g form' (before_sound form')) cmpr ∙ before_copied in
         let behind : copied_with (plain_cmpr form'.origin) g form' (behind_sound form') ≡ map bytes_of_chunk p.parts.last =
         ap (λ c. copied_with c g form' (behind_sound form')) cmpr ∙ behind_copied in
-        let sound : padded_chunk "DSD " p.parts.sound.body (plain_pad form'.origin) ≡ bytes_of_chunk p.parts.sound = ap (padded_chunk "DSD " p.parts.sound.body) pad
+        let sound : padded_chunk "DSD " p.parts.sound.body (plain_pad form'.origin) ≡ bytes_of_chunk p.parts.sound =
+        ap (padded_chunk "DSD " p.parts.sound.body) pad
         ∙ sound_again file p in
         let lists : decoded_before g form' ++ padded_chunk "DSD " p.parts.sound.body (plain_pad form'.origin) ∷ [] ++ copied_with
         (plain_cmpr form'.origin) g form' (behind_sound form')
@@ -262,7 +268,8 @@ module _ (file : List ℕ) (picks : Picks) (e : IsEncoded file picks)
         ∙ append_assoc (map bytes_of_chunk (plain_pre p)) (bytes_of_chunk p.parts.sound ∷ []) (map bytes_of_chunk p.parts.last)
         ∙ sym (map-append bytes_of_chunk (plain_pre p) (p.parts.sound ∷ p.parts.last)) in
         ap₂ (λ (a : List (List ℕ)) (b : List ℕ). form_of a ++ b) lists kept
-        ∙ ap (λ w. codes "FRM8" ++ big_bytes 8 (4 + length w) ++ codes "DSD " ++ w ++ behind_form file) (concat_bytes (plain_pre p ++ p.parts.sound ∷ p.parts.last))
+        ∙ ap (λ w. codes "FRM8" ++ big_bytes 8 (4 + length w) ++ codes "DSD " ++ w ++ behind_form file)
+        (concat_bytes (plain_pre p ++ p.parts.sound ∷ p.parts.last))
         ∙ sym p.parts.formed.bytes
 
     -- ---- the sound is the pieces, joined and cut

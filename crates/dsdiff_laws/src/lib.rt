@@ -11,9 +11,11 @@
 //! ```
 //!
 //! They speak of the definitions of `dsdiff_spec` alone: of files of any size, for every list of parameters that an encoder may
-//! pick. The proofs see a file as the chunks that it is made of (`proofs/Filed.antt`): a plain file that is accepted has its
-//! `FVER` first, one `PROP` and one `DSD ` (`PlainParts`); what encoding writes has the same chunks around `DST `, `DSTI` and
-//! `KEPT` (`CodedChunks`), keeps all rules (`CodedRules`), is walked (`CodedWalk`, `CodedIndex`), and comes back (`Restoring`).
+//! pick. The proofs see a file as the chunks that it is made of (`proofs/Filed.antt`): a file that keeps the rules of a form has
+//! its `FVER` first, one `PROP` and one sound (`FormParts`, `PlainParts`); what encoding writes has the same chunks around `DST `,
+//! `DSTI` and `KEPT` (`CodedChunks`), keeps all rules (`CodedRules`), is walked (`CodedWalk`, `CodedIndex`), and comes back
+//! (`Restoring`). A file that `cut` accepts has frames among the chunks in its `DST ` (`CutRules`, `FrameChunks`), which is cut at
+//! them (`MiddleFrames`); what is written has these chunks (`CutChunks`), keeps all rules (`CutForm`) and is walked (`CutWalk`).
 #![tactic(auto)]
 
 pub mod laws;

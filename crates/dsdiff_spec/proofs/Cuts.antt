@@ -3,9 +3,10 @@ use Rattle.std.proofs.Common.{◌≡◌, ℕ, ◌+◌, ◌^◌, ◌++◌, List, 
 use Rattle.std.specs.Prelude.{codes}
 use Rattle.dsdiff_spec.specs.Faults.{◌when◌}
 use Rattle.dsdiff_spec.specs.Bytes.{◌above◌}
+use Rattle.dsdiff_spec.specs.Form.{Form}
 use Rattle.dsdiff_spec.specs.Rules.{accepted}
-use Rattle.dsdiff_spec.specs.Cut.{cut}
-use Rattle.dsdiff_spec.specs.Refusal.{cut_fault, refusal}
+use Rattle.dsdiff_spec.specs.Cut.{cut, cut_chunks}
+use Rattle.dsdiff_spec.specs.Refusal.{no_frame, not_walked, cut_fault, command_fault, refusal}
 use Rattle.dsdiff_spec.specs.Words as words
 use Rattle.dsdiff_spec.specs.declared.faults.FileFault.TheVariants.{Range, TooManyChunks, FormTooLarge}
 use Rattle.dsdiff_spec.proofs.Restoring.{written_open}
@@ -283,3 +284,8 @@ three_are_cut = refl
 pub a_fourth_is_not_there : refusal (words.cut 0 3) three ≡ Some (Range 3 3)
 unfolding written_open refusal
 a_fourth_is_not_there = refl
+
+-- where the walk finds the frames and the last is there, the chunks that would be written are asked
+pub its_chunks_are_asked : (file : List ℕ) (form : Form) (first last : ℕ) → not_walked file form ≡ None → no_frame last form.frames ≡ None →
+    command_fault (words.cut first last) file form ≡ cut_fault (cut_chunks file form first last)
+its_chunks_are_asked file form first last walked there = rw (walked, there) refl
