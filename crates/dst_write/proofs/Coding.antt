@@ -6,7 +6,7 @@ use Rattle.dst_spec.specs.Spell.{stored}
 use Rattle.dsdiff_spec.specs.Chunks.{body_of}
 use Rattle.dsdiff_spec.specs.Form.{shape, sound_bytes_of, frames_for}
 use Rattle.dsdiff_spec.specs.Coded.{Picks, pieces, stored_frames}
-use Rattle.dsdiff_spec.proofs.Cut.{length-pieces, piece_at}
+use Rattle.dsdiff_spec.proofs.SoundPieces.{length-pieces, piece_at}
 use Rattle.dsdiff_chunks.specs.declared.form.PlainForm.{PlainForm}
 use Rattle.dsdiff_chunks.specs.Forms.{plain_seen}
 use Rattle.dsdiff_chunks.specs.Seen.{head_seen}
