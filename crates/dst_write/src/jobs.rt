@@ -1,7 +1,8 @@
 // The memory that frames are stored in.
 ghost use Rattle.std.specs.Prelude.{◌≡◌, ◌<◌, ◌≤◌, IfOk};
 ghost use Rattle.dst_spec.specs.Sample.{IsShape};
-ghost use Rattle.dst_write.specs.Jobs.{shape_of_job, shape_of_scratch, shape_number, AreJobsFor, AreScratchesFor};
+ghost use Rattle.dst_commands.specs.Rooms.{shape_number};
+ghost use Rattle.dst_write.specs.Jobs.{shape_of_job, shape_of_scratch, AreJobsFor, AreScratchesFor};
 
 use dst_num::Channels;
 use frame_crew::Slot;
