@@ -40,4 +40,4 @@ pub use lists::{ChunkHead, Heads, Octets};
 pub use open::{OpenFault, open_form};
 pub use origin::Origin;
 pub use read::read_range;
-pub use write::{prop_length, write_head, write_prop};
+pub use write::{append_all, prop_length, write_head, write_prop};

@@ -61,8 +61,8 @@ pub fn prop_length(prop: &[u8], cmpr: &[u8]) -> u64
     (12 + prop.len() - (end - place) + cmpr.len()) as u64
 }
 
-// Appends pieces one after the other.
-fn append_all<K: Sink>(sink: &mut K, pieces: &[&[u8]]) -> Result<(), Failed>
+/// Appends pieces one after the other.
+pub fn append_all<K: Sink>(sink: &mut K, pieces: &[&[u8]]) -> Result<(), Failed>
     ensures written { MatchResult result (λ _. K.written sink.new ≡ and_then (K.written sink.old) (flat_map (λ p. p.now) pieces.now)) (λ _. IsCutShort (K.written sink.old) (flat_map (λ p. p.now) pieces.now) (K.written sink.new)) }
     ensures appended { OnOk result (K.appended sink.new ≡ K.appended sink.old + length (flat_map (λ p. p.now) pieces.now)) }
     ensures sure { IsSure (K.room sink.old) (K.room sink.new) (length (flat_map (λ p. p.now) pieces.now)) result }

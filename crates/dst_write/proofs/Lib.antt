@@ -1,0 +1,2 @@
+-- made sound, and the file around it
+pub mod MadeSounds

@@ -13,5 +13,7 @@
 #![tactic(auto)]
 
 mod faults;
+mod make;
 
 pub use faults::{EncodeFault, Encoded};
+pub use make::{Made, MakeFault, make_file};
