@@ -11,6 +11,7 @@ pub mod Extents
 pub mod Versions
 pub mod Only
 pub mod CodedParts
+pub mod CodedPieces
 pub mod Chain
 pub mod Whole
 pub mod LawfulForms

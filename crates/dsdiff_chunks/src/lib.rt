@@ -9,6 +9,8 @@
 //! write_head(sink, *b"FRM8", size)?;
 //! write_prop(sink, form.prop.as_slice(), cmpr)?; // `PROP` with another `CMPR`
 //! copy_range(source, sink, buffer, head.place, head.place + 12 + head.size)?; // a chunk as it stands
+//! write_frte(sink, frames)?; // and the chunks of coded sound: `FRTE`, frames, entries, `KEPT`
+//! write_frame(sink, stored)?;
 //! ```
 //!
 //! A contract sees a form as the record that the definitions of files have (`specs/Forms.antt`). What is said of contents
@@ -31,6 +33,7 @@ mod prop;
 mod read;
 mod top;
 mod write;
+mod write_coded;
 
 pub use copy::{CopyFault, copy_range};
 pub use dsdiff_spec::FileFault;
@@ -40,4 +43,5 @@ pub use lists::{ChunkHead, Heads, Octets};
 pub use open::{OpenFault, open_form};
 pub use origin::Origin;
 pub use read::read_range;
-pub use write::{append_all, prop_length, write_head, write_prop};
+pub use write::{append_all, cmpr_of_prop, prop_length, write_head, write_prop};
+pub use write_coded::{write_entry, write_frame, write_frte, write_origin};

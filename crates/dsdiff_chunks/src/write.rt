@@ -6,7 +6,7 @@ ghost use Rattle.dst_streams.specs.Told.{IsCutShort, IsSure, and_then};
 ghost use Rattle.dsdiff_spec.specs.Chunks.{next_place};
 ghost use Rattle.dsdiff_spec.specs.Origin.{is_one_chunk};
 ghost use Rattle.dsdiff_spec.specs.Parts.{cmpr_head};
-ghost use Rattle.dsdiff_spec.specs.Written.{prop_with};
+ghost use Rattle.dsdiff_spec.specs.Written.{cmpr_in, prop_with};
 ghost use Rattle.dsdiff_chunks.specs.Lawful.{IsPropBody};
 
 use crate::prop::local;
@@ -17,6 +17,7 @@ use dst_streams::{Failed, Sink};
 pub fn write_head<K: Sink>(sink: &mut K, id: [u8; 4], size: u64) -> Result<(), Failed>
     ensures written { MatchResult result (λ _. K.written sink.new ≡ and_then (K.written sink.old) (id ++ big_bytes 8 size)) (λ _. IsCutShort (K.written sink.old) (id ++ big_bytes 8 size) (K.written sink.new)) }
     ensures appended { OnOk result (K.appended sink.new ≡ K.appended sink.old + 12) }
+    ensures grows { K.appended sink.old ≤ K.appended sink.new }
     ensures sure { IsSure (K.room sink.old) (K.room sink.new) 12 result }
     ensures cause { HasCause (K.faults sink.old) (K.faults sink.new) result }
 {
@@ -24,7 +25,7 @@ pub fn write_head<K: Sink>(sink: &mut K, id: [u8; 4], size: u64) -> Result<(), F
 }
 
 // An id and a size as they stand in a file.
-fn head_bytes(id: [u8; 4], size: u64) -> [u8; 12]
+pub(crate) fn head_bytes(id: [u8; 4], size: u64) -> [u8; 12]
     ensures { result ≡ id ++ big_bytes 8 size }
 {
     let mut head = [0; 12];
@@ -40,6 +41,7 @@ pub fn write_prop<K: Sink>(sink: &mut K, prop: &[u8], cmpr: &[u8]) -> Result<(),
     requires short { length cmpr.now ≤ 65536 }
     ensures written { MatchResult result (λ _. K.written sink.new ≡ and_then (K.written sink.old) (prop_with prop.now cmpr.now)) (λ _. IsCutShort (K.written sink.old) (prop_with prop.now cmpr.now) (K.written sink.new)) }
     ensures appended { OnOk result (K.appended sink.new ≡ K.appended sink.old + length (prop_with prop.now cmpr.now)) }
+    ensures grows { K.appended sink.old ≤ K.appended sink.new }
     ensures sure { IsSure (K.room sink.old) (K.room sink.new) (length (prop_with prop.now cmpr.now)) result }
     ensures cause { HasCause (K.faults sink.old) (K.faults sink.new) result }
 {
@@ -61,10 +63,21 @@ pub fn prop_length(prop: &[u8], cmpr: &[u8]) -> u64
     (12 + prop.len() - (end - place) + cmpr.len()) as u64
 }
 
+/// The chunk `CMPR` in a body of `PROP`, with its pad byte.
+pub fn cmpr_of_prop(prop: &[u8]) -> &[u8]
+    requires { IsPropBody prop.now }
+    ensures chunk { result.now ≡ cmpr_in prop.now }
+    ensures most { length result.now ≤ 65536 }
+{
+    let (place, end) = place_of_cmpr(prop);
+    &prop[place..end]
+}
+
 /// Appends pieces one after the other.
 pub fn append_all<K: Sink>(sink: &mut K, pieces: &[&[u8]]) -> Result<(), Failed>
     ensures written { MatchResult result (λ _. K.written sink.new ≡ and_then (K.written sink.old) (flat_map (λ p. p.now) pieces.now)) (λ _. IsCutShort (K.written sink.old) (flat_map (λ p. p.now) pieces.now) (K.written sink.new)) }
     ensures appended { OnOk result (K.appended sink.new ≡ K.appended sink.old + length (flat_map (λ p. p.now) pieces.now)) }
+    ensures grows { K.appended sink.old ≤ K.appended sink.new }
     ensures sure { IsSure (K.room sink.old) (K.room sink.new) (length (flat_map (λ p. p.now) pieces.now)) result }
     ensures cause { HasCause (K.faults sink.old) (K.faults sink.new) result }
 {

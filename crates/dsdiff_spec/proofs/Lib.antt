@@ -14,6 +14,7 @@ pub mod Limits
 pub mod Walks
 pub mod Keeping
 pub mod Restoring
+pub mod Cuts
 pub mod Passing
 pub mod Commands
 pub mod Texts
@@ -30,7 +31,9 @@ pub mod Settling
 pub mod OneAnswer
 pub mod ByIndex
 pub mod ReadOutcomes
+pub mod WriteOutcomes
 pub mod Shown
 pub mod Progress
 pub mod OneRow
 pub mod InOrder
+pub mod Cut

@@ -1,3 +1,5 @@
 pub mod InOrder
 pub mod Writing
-pub mod Passed
+pub mod PassedOn
+pub mod InTurn
+pub mod Rooms

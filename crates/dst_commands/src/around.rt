@@ -1,5 +1,5 @@
 // What stands around the sound of a plain file.
-ghost use Rattle.std.specs.Prelude.{◌≡◌, ◌≤◌, ◌<◌, ◌++◌, ℕ, List, length, codes, Some, IfErr, ◌∷◌, [], MatchResult, ◌%◌, ◌==◌, if◌then◌else◌};
+ghost use Rattle.std.specs.Prelude.{◌≡◌, ◌≤◌, ◌<◌, ◌++◌, ℕ, List, length, codes, Some, IfErr, OnOk, ◌+◌, ◌∷◌, [], MatchResult, ◌%◌, ◌==◌, if◌then◌else◌};
 ghost use Rattle.byteorder.specs.Endian.{big_bytes};
 ghost use Rattle.dst_streams.specs.Causes.{HasCause};
 ghost use Rattle.dsdiff_spec.specs.Form.{coded};
@@ -9,7 +9,7 @@ ghost use Rattle.dsdiff_chunks.specs.declared.copy.CopyFault.{CopyFault};
 ghost use Rattle.dst_commands.specs.Passing.{FailedBy};
 ghost use Rattle.dst_commands.specs.Writing.{Adds, Stops};
 
-use crate::chunks::{Side, kept_of, pad_of, pass_chunks};
+use crate::chunks::{FormRef, Passed, Side, cmpr_of, kept_of, pad_of, pass_chunks};
 use crate::pieces::write_any;
 use crate::sizes::form_size;
 use dsdiff_chunks::{CodedForm, CopyFault, write_head};
@@ -38,7 +38,12 @@ pub fn write_front<S: Source, K: Sink>(
     let Ok(()) = write_opening(sink, form_size(form, sound)) else {
         return Err(CopyFault::Write);
     };
-    if let Err(fault) = pass_chunks(source, sink, form, Side::Before, buffer) {
+    let cmpr = cmpr_of(form);
+    let passed = Passed {
+        form: FormRef::Coded(form),
+        cmpr: Some(cmpr),
+    };
+    if let Err(fault) = pass_chunks(source, sink, &passed, Side::Before, buffer) {
         return Err(fault);
     }
     match write_head(sink, *b"DSD ", sound) {
@@ -47,8 +52,9 @@ pub fn write_front<S: Source, K: Sink>(
     }
 }
 
-// Writes the head of a form of this size, and its type.
-fn write_opening<K: Sink>(sink: &mut K, size: u64) -> Result<(), Failed>
+/// Writes the head of a form of this size, and its type.
+pub fn write_opening<K: Sink>(sink: &mut K, size: u64) -> Result<(), Failed>
+    ensures appended { OnOk result (K.appended sink.new ≡ K.appended sink.old + 16) }
     ensures cause { HasCause (K.faults sink.old) (K.faults sink.new) result }
     ensures written { MatchResult result
         (λ _. Adds (codes "FRM8" ++ big_bytes 8 size ++ codes "DSD ") (K.written sink.old) (K.written sink.new) (K.room sink.old) (K.room sink.new))
@@ -81,7 +87,12 @@ pub fn write_end<S: Source, K: Sink>(
     let Ok(()) = write_pad(sink, sound, pad_of(form)) else {
         return Err(CopyFault::Write);
     };
-    if let Err(fault) = pass_chunks(source, sink, form, Side::Behind, buffer) {
+    let cmpr = cmpr_of(form);
+    let passed = Passed {
+        form: FormRef::Coded(form),
+        cmpr: Some(cmpr),
+    };
+    if let Err(fault) = pass_chunks(source, sink, &passed, Side::Behind, buffer) {
         return Err(fault);
     }
     match write_any(sink, kept_of(form)) {

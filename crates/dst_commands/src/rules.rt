@@ -5,15 +5,16 @@ ghost use Rattle.dsdiff_spec.specs.Form.{plain};
 ghost use Rattle.dsdiff_spec.specs.Walk.{check_index_fault, entries, walk_fault};
 ghost use Rattle.dsdiff_spec.specs.Walk as walks;
 ghost use Rattle.dsdiff_spec.specs.Refusal.{no_frame};
+ghost use Rattle.dsdiff_spec.specs.Rules.{accepted};
 ghost use Rattle.dsdiff_spec.specs.Words as words;
 ghost use Rattle.dsdiff_spec.specs.declared.faults.FileFault.{FileFault};
-ghost use Rattle.dsdiff_chunks.specs.Forms.{coded_seen, form_seen};
+ghost use Rattle.dsdiff_chunks.specs.Forms.{coded_seen, form_seen, plain_seen};
 ghost use Rattle.dsdiff_chunks.specs.Opening.{Reads, Stops};
 ghost use Rattle.dst_commands.specs.Opened.{IsWalked, IsFound, IsAny, end_of_any};
 
 use crate::opened::{AnyForm, FoundFrame, WalkedForm};
 use crate::opening::Rules;
-use dsdiff_chunks::{CodedForm, FileFault, Form, OpenFault};
+use dsdiff_chunks::{CodedForm, FileFault, Form, OpenFault, PlainForm};
 use dst_streams::Source;
 use frame_index::laws::index_beside_walk;
 use frame_index::{compare, locate_by_index, read_index, walk};
@@ -43,6 +44,10 @@ pub struct ShownFile;
 /// `check`: as [`ShownFile`], and the index, where there is one, is that of the frames.
 #[derive(Clone, Copy, Drop)]
 pub struct CheckedFile;
+
+/// `encode`: the form is plain. No byte is read for it.
+#[derive(Clone, Copy, Drop)]
+pub struct PlainFile;
 
 // A coded form.
 fn coded_of(form: Form) -> Result<CodedForm, FileFault>
@@ -85,6 +90,30 @@ fn range_fault(number: u32, frames: u32) -> Option<FileFault>
             asked: number,
             frames,
         })
+    }
+}
+
+impl Rules for PlainFile {
+    type Opened = PlainForm;
+
+    ghost command = { λ _. words.encode 1 };
+
+    ghost is_of = { λ _ file f. accepted file ≡ plain_seen f };
+
+    ghost end = { λ f. f.end };
+
+    ghost most = { λ _. 0 };
+
+    fn keep<S: Source>(
+        &self,
+        _: Global,
+        _: &mut S,
+        form: Form,
+    ) -> Result<PlainForm, OpenFault> {
+        match form {
+            Form::Plain(form) => Ok(form),
+            Form::Coded(_) => Err(OpenFault::File(FileFault::NotPlain)),
+        }
     }
 }
 

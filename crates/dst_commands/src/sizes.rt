@@ -4,7 +4,7 @@ ghost use Rattle.dsdiff_spec.specs.Form.{coded, shape, sound_bytes_of, size_of_s
 ghost use Rattle.dsdiff_spec.specs.Pieces.{decoded_size};
 ghost use Rattle.dsdiff_chunks.specs.Forms.{coded_seen};
 
-use crate::chunks::{Side, chunks_length};
+use crate::chunks::{FormRef, Passed, Side, chunks_length, cmpr_of};
 use dsdiff_chunks::CodedForm;
 
 /// Bytes of the sound.
@@ -24,7 +24,12 @@ pub fn form_size(form: &CodedForm, sound: u64) -> u64
     requires most { sound ≤ 112896000000 }
     ensures { (file : List ℕ) → form.now.end ≤ length file → result ≡ decoded_size sound file (coded_seen form.now) }
 {
-    let before = chunks_length(form, Side::Before);
-    let behind = chunks_length(form, Side::Behind);
+    let cmpr = cmpr_of(form);
+    let passed = Passed {
+        form: FormRef::Coded(form),
+        cmpr: Some(cmpr),
+    };
+    let before = chunks_length(&passed, Side::Before);
+    let behind = chunks_length(&passed, Side::Behind);
     4 + before + (12 + sound + sound % 2) + behind
 }

@@ -12,9 +12,11 @@ use Rattle.dst_read.specs.declared.feed.StoredFrames.{StoredFrames}
 use Rattle.dsdiff_chunks.specs.Forms.{coded_seen}
 use Rattle.dst_commands.specs.declared.opened.WalkedForm.{WalkedForm}
 use Rattle.dst_read.specs.Feeding.{IsLater, GivesFrame, FailsToRead, feed_shape}
-use Rattle.dst_read.specs.Jobs.{shape_number, stored_in}
+use Rattle.dst_commands.specs.Rooms.{shape_number}
+use Rattle.dst_read.specs.Jobs.{stored_in}
 use Rattle.dst_read.proofs.Framing.{entry_inside}
-use Rattle.dst_read.proofs.Shapes.{readable, few_channels}
+use Rattle.dst_commands.proofs.Rooms.{few_channels}
+use Rattle.dst_read.proofs.Shapes.{readable}
 
 -- the shape of a feed of a source that has the form
 pub ready_shape : (known : Option ℕ) (w : WalkedForm) → (n : ℕ) × (known ≡ Some n) × (w.form.end ≤ n) → IsShape w.form.channels →

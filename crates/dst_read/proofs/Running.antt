@@ -1,11 +1,8 @@
 -- A run of batches is read as one loop, a frame at a time.
-use Rattle.std.proofs.Common.{◌≡◌, ℕ, ◌≤◌, List, length, Option, Some, Ok, Err, Result, ap, sym, subst, ◌∙◌}
+use Rattle.std.proofs.Common.{◌≡◌, ℕ, ◌≤◌, List, length, Option, Some, Ok, Err, sym, subst}
 use Rattle.dst_spec.specs.Sample.{Shape, IsShape}
 use Rattle.dst_streams.specs.declared.source.Failed.{Failed}
 use Rattle.dsdiff_spec.specs.Form.{Form, shape, size_of_sound}
-use Rattle.frame_crew.specs.declared.ordered.RunFault.{RunFault}
-use Rattle.frame_crew.specs.declared.ordered.RunFault.TheVariants as run
-use Rattle.frame_crew.specs.Answers.{IfFeedFault, IfDrainFault}
 use Rattle.frame_crew.specs.Runs.{Ran, FailsAtFeed, FailsAtDrain}
 use Rattle.frame_crew.specs.Laws.{Ran-keep}
 use Rattle.dst_read.specs.declared.jobs.Job.{Job}
@@ -21,13 +18,6 @@ use Rattle.dst_read.specs.Draining.{TakesSound, FailsAtSound}
 use Rattle.dst_read.specs.Frames.{HasRun}
 use Rattle.dst_read.proofs.Feeding as fed
 use Rattle.dst_read.proofs.Underway as under
-
--- ---- whose fault it was
-pub fault_of_feed : {A F D : Type 0} (r : Result A (RunFault F D)) (x : RunFault F D) (e : F) (P : F → Type 0) → r ≡ Err x → x ≡ run.Feed e → IfFeedFault r P → P e
-fault_of_feed {A} {F} {D} r x e P is found h = subst (λ (r : Result A (RunFault F D)). IfFeedFault r P) (is ∙ ap Err found) h
-
-pub fault_of_drain : {A F D : Type 0} (r : Result A (RunFault F D)) (x : RunFault F D) (e : D) (P : D → Type 0) → r ≡ Err x → x ≡ run.Drain e → IfDrainFault r P → P e
-fault_of_drain {A} {F} {D} r x e P is found h = subst (λ (r : Result A (RunFault F D)). IfDrainFault r P) (is ∙ ap Err found) h
 
 -- what is known before the first frame
 pub record IsBegun {S K : Type 0} (bytes : S → Option (List ℕ)) (form : Form) (f : Shape) (s : StoredFrames S) (t : SoundWriter K) : Type 0 where

@@ -6,7 +6,8 @@ use Rattle.dst_streams.specs.Causes.{Rose}
 use Rattle.dst_streams.specs.declared.source.Failed.{Failed}
 use Rattle.dsdiff_spec.specs.Bytes.{◌below◌, ◌above◌}
 use Rattle.dsdiff_spec.specs.Walk.{Entry, entry, frame_at}
-use Rattle.dst_read.specs.Jobs.{shape_number, stored_in}
+use Rattle.dst_commands.specs.Rooms.{shape_number}
+use Rattle.dst_read.specs.Jobs.{stored_in}
 use Rattle.dst_read.specs.declared.jobs.Job.{Job}
 use Rattle.dst_read.specs.declared.feed.StoredFrames.{StoredFrames}
 

@@ -1,7 +1,8 @@
 // The memory that frames are worked in.
 ghost use Rattle.std.specs.Prelude.{◌≡◌, ◌<◌, ◌≤◌, IfOk};
 ghost use Rattle.dst_spec.specs.Sample.{IsShape};
-ghost use Rattle.dst_read.specs.Jobs.{shape_of_job, shape_of_tables, shape_number, AreJobsFor, AreTablesFor};
+ghost use Rattle.dst_commands.specs.Rooms.{shape_number};
+ghost use Rattle.dst_read.specs.Jobs.{shape_of_job, shape_of_tables, AreJobsFor, AreTablesFor};
 
 use dst_frames::Scratch;
 use dst_num::{Channels, FrameFault};

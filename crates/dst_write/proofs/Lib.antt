@@ -1,2 +1,11 @@
--- made sound, and the file around it
+pub mod Shapes
+pub mod Cutting
+pub mod Feeding
+pub mod Coding
+pub mod Underway
+pub mod Running
+pub mod Pieces
+pub mod BySize
+pub mod Sized
+pub mod Ending
 pub mod MadeSounds

@@ -1,8 +1,9 @@
 -- What a sink holds while a coded file isn't finished. Its two size fields are written last, that of `DST ` first and then that of
 -- `FRM8`; until then each is 0.
-use Rattle.std.specs.Prelude.{◌≡◌, ◌⊎◌, ℕ, ◌+◌, ◌≤◌, List, [], ◌++◌, length, take, drop, replicate, Option, Some, None}
+use Rattle.std.specs.Prelude.{◌≡◌, ◌⊎◌, ℕ, ◌+◌, ◌≤◌, List, [], ◌++◌, length, take, drop, replicate, Option, Some, None, Result, Ok, Err}
 use Rattle.std.specs.List.{concat}
-use Rattle.dst_streams.specs.Told.{IsSameOutside}
+use Rattle.byteorder.specs.Endian.{big_bytes}
+use Rattle.dst_streams.specs.Told.{written_over, IsOpenIn, IsSameOutside}
 use Rattle.dsdiff_spec.specs.Form.{Form}
 use Rattle.dsdiff_spec.specs.Coded.{coded_before}
 
@@ -34,3 +35,12 @@ IsUnfinished place out held =
 abbrev pub HoldsUnfinished : ℕ → List ℕ → Option (List ℕ) → Type 0
 HoldsUnfinished place out None = Unit {0}
 HoldsUnfinished place out (Some held) = IsUnfinished place out held
+
+-- ---- the two sizes, written over their zeros: first that of the sound, then that of the form; one of the two fields is open where the sink fails
+abbrev pub sized : ℕ → ℕ → ℕ → Option (List ℕ) → Option (List ℕ)
+sized place sound form old = written_over (written_over old place (big_bytes 8 sound)) form_size_place (big_bytes 8 form)
+
+abbrev pub SizesEnd : {T E : Type 0} → Result T E → (place sound form : ℕ) → (old new : Option (List ℕ)) → Type 0
+SizesEnd (Ok u) place sound form old new = new ≡ sized place sound form old
+SizesEnd (Err fault) place sound form old new =
+    IsOpenIn place 8 old new ⊎ IsOpenIn form_size_place 8 (written_over old place (big_bytes 8 sound)) new

@@ -12,8 +12,18 @@
 //! ```
 #![tactic(auto)]
 
+mod around;
+mod chunks;
+mod drain;
+mod encode;
 mod faults;
+mod feed;
+mod frames;
+mod jobs;
 mod make;
+mod sizes;
+mod work;
 
+pub use encode::encode_file;
 pub use faults::{EncodeFault, Encoded};
 pub use make::{Made, MakeFault, make_file};

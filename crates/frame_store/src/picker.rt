@@ -12,7 +12,7 @@ use std::marker::Model;
 pub type Candidates = ArrayVec<Params, 11>;
 
 /// What finds parameters for a sound. Which these are depends on the sound and its channels alone.
-pub trait Picker: Sync {
+pub trait Picker {
     /// The parameters that are picked, in order.
     ghost picks: { Self → List ℕ → Shape → List Parameters };
 

@@ -1,9 +1,26 @@
-use Rattle.std.proofs.Common.{◌≡◌, true, List, ℕ, subst, sym, refl}
-use Rattle.dsdiff_spec.specs.Origin.{is_one_chunk}
-use Rattle.dsdiff_chunks.specs.Forms.{coded_seen}
-use Rattle.dst_commands.proofs.Passed.{cmpr_is_chunk}
+-- Of `PROP` with another `CMPR`, or of the chunk as it stands.
+use Rattle.std.proofs.Common.{length, ap, sym, subst, ◌∙◌, arith}
+use Rattle.dsdiff_spec.specs.Written.{prop_with}
+use Rattle.dsdiff_chunks.specs.Lawful.{IsPropBody}
+use Rattle.dsdiff_chunks.specs.Seen.{head_seen}
+use Rattle.dst_commands.specs.Passing.{form_of, cmpr_of}
+use Rattle.dst_commands.proofs.PassedOn.{cmpr_is_one, lent_is_lawful, length-passed, passed_prop}
 use Rattle.dst_commands.proofs.chunks.chunk_length.Goals as goal
 
-pub prop_length-requires-clause-cmpr : goal.prop_length-requires-clause-cmpr
-prop_length-requires-clause-cmpr c =
-    subst (λ (w : List ℕ). is_one_chunk "CMPR" w ≡ true) (sym c.cmpr_of.ensures) (cmpr_is_chunk (coded_seen c.args.form.now) c.args.form.now.lawful refl).0
+pub prop_length-requires : goal.prop_length-requires
+prop_length-requires c =
+    let one = cmpr_is_one (cmpr_of c.args.passed.now) (head_seen c.args.head.now) c.in-Some.cmpr.now c.in-Some.ensures c.requires.cmpr in
+    record {
+      prop = subst IsPropBody (sym c.prop.ensures) (lent_is_lawful c.args.passed.now.form).prop;
+      cmpr = one.one;
+      short = one.most;
+    }
+
+pub returns-in-Some-clause-length : goal.returns-in-Some-clause-length
+returns-in-Some-clause-length c file fits =
+    c.prop_length.ensures.length
+    ∙ ap length (passed_prop file (form_of c.args.passed.now) (head_seen c.args.head.now) (cmpr_of c.args.passed.now) c.prop.result.now c.in-Some.cmpr.now c.in-Some.ensures c.prop.ensures)
+
+pub returns-in-None-clause-length : goal.returns-in-None-clause-length
+returns-in-None-clause-length c file fits =
+    length-passed file (form_of c.args.passed.now) (head_seen c.args.head.now) (cmpr_of c.args.passed.now) c.end_of.result c.end_of.ensures fits c.requires.within c.in-None.ensures

@@ -4,7 +4,7 @@ use Rattle.dst_spec.specs.Sample.{sound_bytes}
 use Rattle.dsdiff_spec.specs.Form.{sound_bytes_of, plain_size, size_of_sound}
 use Rattle.dsdiff_chunks.specs.Forms.{coded_seen}
 use Rattle.dsdiff_chunks.specs.Seen.{origin_seen}
-use Rattle.dst_commands.proofs.Passed.{coded_size, sound_is_needed}
+use Rattle.dst_commands.proofs.PassedOn.{coded_size, sound_is_needed}
 use Rattle.dst_commands.proofs.sizes.sound_size.Goals as goal
 
 pub returns-in-Some-clause-most : goal.returns-in-Some-clause-most

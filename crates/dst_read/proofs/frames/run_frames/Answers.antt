@@ -1,7 +1,8 @@
 -- The run is that of one frame after another.
 use Rattle.dsdiff_chunks.specs.Forms.{coded_seen}
 use Rattle.dst_read.proofs.Feeding.{ready_shape}
-use Rattle.dst_read.proofs.Running.{fault_of_feed, fault_of_drain, run_ended, run_at_read, run_at_job}
+use Rattle.frame_crew.specs.Laws.{fault_of_feed, fault_of_drain}
+use Rattle.dst_read.proofs.Running.{run_ended, run_at_read, run_at_job}
 use Rattle.dst_read.proofs.frames.run_frames.Goals as goal
 
 pub run_ordered-requires-clause-feed_shape : goal.run_ordered-requires-clause-feed_shape

@@ -1,7 +1,8 @@
 -- Tables more are of the shape.
 use Rattle.std.proofs.Common.{◌≡◌, arith}
 use Rattle.std.proofs.lemmas.List.Elements.{All-push}
-use Rattle.dst_read.specs.Jobs.{shape_of_tables, shape_number}
+use Rattle.dst_commands.specs.Rooms.{shape_number}
+use Rattle.dst_read.specs.Jobs.{shape_of_tables}
 use Rattle.dst_read.proofs.jobs.tables_for.Goals as goal
 
 pub loop-preserved : goal.loop-preserved

@@ -2,7 +2,8 @@
 use Rattle.std.proofs.Common.{◌<◌, [], length, ◌∙◌, arith}
 use Rattle.dsdiff_spec.specs.Lines.{index_lines}
 use Rattle.dst_commands.proofs.Writing.{added, cut_off}
-use Rattle.dst_read.proofs.InTurn.{one_more_part, stops_in_part, all_parts, with_feed, length-index_lines, line_of_entry}
+use Rattle.dst_commands.proofs.InTurn.{one_more_part, stops_in_part, all_parts}
+use Rattle.dst_read.proofs.InTurn.{with_feed, length-index_lines, line_of_entry}
 use Rattle.dst_read.proofs.listing.report_entries.Goals as goal
 
 pub returns-in_default-clause-written : goal.returns-in_default-clause-written

@@ -1,7 +1,7 @@
 -- One more line behind those that are reported.
 use Rattle.std.proofs.Common.{ap, ◌∙◌, arith}
 use Rattle.dst_commands.proofs.Writing.{added, cut_off}
-use Rattle.dst_read.proofs.InTurn.{one_more_part, stops_in_part}
+use Rattle.dst_commands.proofs.InTurn.{one_more_part, stops_in_part}
 use Rattle.dst_read.proofs.listing.report_lines.Goals as goal
 
 pub returns-in_default-clause-written : goal.returns-in_default-clause-written

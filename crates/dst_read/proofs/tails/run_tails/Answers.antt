@@ -1,7 +1,7 @@
 -- The run is that of one frame after another.
 use Rattle.dsdiff_chunks.specs.Forms.{coded_seen}
 use Rattle.dst_read.proofs.Feeding.{ready_shape}
-use Rattle.dst_read.proofs.Running.{fault_of_feed, fault_of_drain}
+use Rattle.frame_crew.specs.Laws.{fault_of_feed, fault_of_drain}
 use Rattle.dst_read.proofs.Summing.{sum_ended, sum_at_read, sum_at_job}
 use Rattle.dst_read.proofs.tails.run_tails.Goals as goal
 

@@ -1,0 +1,156 @@
+-- Frames by their sizes: the bytes of their chunks, and their entries in `DSTI`.
+use Rattle.std.proofs.Common.{◌≡◌, ℕ, ◌+◌, ◌*◌, ◌/◌, ◌%◌, ◌<◌, ◌==◌, Bool, true, false, if◌then◌else◌, List, [], ◌∷◌, ◌++◌, length, map, take, get_or, flat_map, refl, sym, ap, ◌∙◌, arith, length-append, append-nil, append_assoc, drop}
+use Rattle.std.specs.Prelude.{codes, sum_by}
+use Rattle.std.proofs.lemmas.Bool.{eqb-false}
+use Rattle.std.proofs.Common.{eqb-true}
+use Rattle.std.proofs.lemmas.List.{take_more, take-append-drop}
+use Rattle.std.proofs.lemmas.List.Sums.{sum_by-cons}
+use Rattle.std.proofs.lemmas.List.Concat.{flat_map-append}
+use Rattle.byteorder.specs.Endian.{big_bytes}
+use Rattle.byteorder.specs.Numbers.{length-bytes_high_first}
+use Rattle.dsdiff_spec.proofs.Progress.{BeginsWith}
+use Rattle.dsdiff_spec.specs.Walk.{Entry}
+use Rattle.dsdiff_spec.specs.Written.{padded_chunk, chunk, frte, dstf, dsti, entries_from}
+use Rattle.dst_write.specs.Layout.{chunk_size, frames_size, entries_by}
+use Prim.Native.String.{String}
+
+-- ---- the bytes of a chunk
+length-pad : (n pad : ℕ) → length (if n % 2 == 1 then pad ∷ [] else []) ≡ n % 2
+length-pad n pad = go (n % 2 == 1) refl
+  where
+    go : (b : Bool) → (n % 2 == 1) ≡ b → length (if b then pad ∷ [] else []) ≡ n % 2
+    go true e = let one = eqb-true (n % 2) 1 e in omega arith
+    go false e = let not_one = eqb-false (n % 2) 1 e in omega arith
+
+pub length-padded : (name : String) (body : List ℕ) (pad : ℕ) → length (codes name) ≡ 4 → length (padded_chunk name body pad) ≡ 12 + length body + length body % 2
+length-padded name body pad four =
+    let padding : List ℕ = if length body % 2 == 1 then pad ∷ [] else [] in
+    omega (
+      arith,
+      four,
+      length-append (codes name ++ big_bytes 8 (length body) ++ body) padding,
+      length-append (codes name ++ big_bytes 8 (length body)) body,
+      length-append (codes name) (big_bytes 8 (length body)),
+      length-bytes_high_first 8 (length body),
+      length-pad (length body) pad,
+    )
+
+-- behind a body of even size there is no pad byte
+pub even_chunk : (name : String) (body : List ℕ) (half : ℕ) → length body ≡ 2 * half → chunk name body ≡ codes name ++ big_bytes 8 (length body) ++ body
+even_chunk name body half e =
+    let none : (length body % 2 == 1) ≡ false = ap (λ n. n == 1) (let zero : length body % 2 ≡ 0 = omega arith in zero) in
+    ap (λ b. codes name ++ big_bytes 8 (length body) ++ body ++ (if b then 0 ∷ [] else [])) none
+    ∙ append-nil (codes name ++ big_bytes 8 (length body) ++ body)
+
+pub length-frte : (n : ℕ) → length (frte n) ≡ 18
+length-frte n =
+    let body : length (big_bytes 4 n ++ big_bytes 2 75) ≡ 6 =
+    omega (arith, length-append (big_bytes 4 n) (big_bytes 2 75), length-bytes_high_first 4 n, length-bytes_high_first 2 75) in
+    let six = ap (λ k. k % 2) body in
+    omega (arith, length-padded "FRTE" (big_bytes 4 n ++ big_bytes 2 75) 0 refl, body, six)
+
+-- ---- the chunks of frames
+pub chunk_size_is : (frame : List ℕ) → length (dstf frame) ≡ chunk_size (length frame)
+chunk_size_is frame = length-padded "DSTF" frame 0 refl
+
+pub frames_size_is : (frames : List (List ℕ)) → length (flat_map dstf frames) ≡ frames_size (map length frames)
+frames_size_is [] = refl
+frames_size_is (frame ∷ frames) =
+    omega (
+      arith,
+      length-append (dstf frame) (flat_map dstf frames),
+      chunk_size_is frame,
+      frames_size_is frames,
+      sum_by-cons chunk_size (length frame) (map length frames),
+    )
+
+pub half_of_frames : (sizes : List ℕ) → (half : ℕ) × (frames_size sizes ≡ 2 * half)
+half_of_frames [] = (0, refl)
+half_of_frames (size ∷ sizes) =
+    let later = half_of_frames sizes in
+    (6 + (size + 1) / 2 + later.0, omega (arith, later.1, sum_by-cons chunk_size size sizes))
+
+-- ---- entries
+pub entries_are : (place : ℕ) (frames : List (List ℕ)) → entries_by place (map length frames) ≡ entries_from place frames
+entries_are place [] = refl
+entries_are place (frame ∷ frames) =
+    ap (λ n. record { offset = place + 12; size = length frame } ∷ entries_by (place + n) (map length frames)) (sym (chunk_size_is frame))
+    ∙ ap (λ es. record { offset = place + 12; size = length frame } ∷ es) (entries_are (place + length (dstf frame)) frames)
+
+pub length-entries : (place : ℕ) (sizes : List ℕ) → length (entries_by place sizes) ≡ length sizes
+length-entries place [] = refl
+length-entries place (size ∷ sizes) = omega (arith, length-entries (place + chunk_size size) sizes)
+
+abbrev pub entry_bytes : Entry → List ℕ
+entry_bytes e = big_bytes 8 e.offset ++ big_bytes 4 e.size
+
+pub length-index : (es : List Entry) → length (flat_map entry_bytes es) ≡ 12 * length es
+length-index [] = refl
+length-index (e ∷ es) =
+    omega (
+      arith,
+      length-append (entry_bytes e) (flat_map entry_bytes es),
+      length-append (big_bytes 8 e.offset) (big_bytes 4 e.size),
+      length-bytes_high_first 8 e.offset,
+      length-bytes_high_first 4 e.size,
+      length-index es,
+    )
+
+pub dsti_is : (place : ℕ) (sizes : List ℕ) → codes "DSTI" ++ big_bytes 8 (12 * length sizes) ++ flat_map entry_bytes (entries_by place sizes) ≡ dsti (entries_by place sizes)
+dsti_is place sizes =
+    let body = flat_map entry_bytes (entries_by place sizes) in
+    let long : 12 * length sizes ≡ length body = omega (arith, length-index (entries_by place sizes), length-entries place sizes) in
+    ap (λ n. codes "DSTI" ++ big_bytes 8 n ++ body) long ∙ sym (even_chunk "DSTI" body (6 * length sizes) (omega (arith, long)))
+
+pub length-dsti : (place : ℕ) (sizes : List ℕ) → length (dsti (entries_by place sizes)) ≡ 12 + 12 * length sizes
+length-dsti place sizes =
+    let body = flat_map entry_bytes (entries_by place sizes) in
+    omega (arith, length-padded "DSTI" body 0 refl, length-index (entries_by place sizes), length-entries place sizes)
+
+-- of two parts, and of one more
+entries_of_parts : (place : ℕ) (a b : List ℕ) → entries_by place (a ++ b) ≡ entries_by place a ++ entries_by (place + frames_size a) b
+entries_of_parts place [] b = ap (λ n. entries_by n b) (let same : place ≡ place + 0 = omega arith in same)
+entries_of_parts place (size ∷ a) b =
+    let moved : place + chunk_size size + frames_size a ≡ place + frames_size (size ∷ a) = omega (arith, sum_by-cons chunk_size size a) in
+    ap (λ es. record { offset = place + 12; size = size } ∷ es) (entries_of_parts (place + chunk_size size) a b)
+    ∙ ap (λ n. record { offset = place + 12; size = size } ∷ (entries_by (place + chunk_size size) a ++ entries_by n b)) moved
+
+pub one_more_entry : (place : ℕ) (sizes : List ℕ) (j d : ℕ) → j < length sizes →
+    flat_map entry_bytes (entries_by place (take j sizes)) ++ (big_bytes 8 (place + frames_size (take j sizes) + 12) ++ big_bytes 4 (get_or sizes j d))
+    ≡ flat_map entry_bytes (entries_by place (take (j + 1) sizes))
+one_more_entry place sizes j d l =
+    let front = take j sizes in
+    let here = place + frames_size front in
+    let entry : Entry = record { offset = here + 12; size = get_or sizes j d } in
+    sym (
+    ap (λ w. flat_map entry_bytes (entries_by place w)) (take_more sizes j d l)
+    ∙ ap (flat_map entry_bytes) (entries_of_parts place front (get_or sizes j d ∷ []))
+    ∙ flat_map-append entry_bytes (entries_by place front) (entry ∷ [])
+    ∙ ap (λ w. flat_map entry_bytes (entries_by place front) ++ w) (append-nil (entry_bytes entry))
+    )
+
+-- `DSTI` begins with its head and its first entries
+abbrev pub dsti_head : List ℕ → List ℕ
+dsti_head sizes = codes "DSTI" ++ big_bytes 8 (12 * length sizes)
+
+pub begins_with_entries : (place : ℕ) (sizes : List ℕ) (j : ℕ) → BeginsWith (dsti (entries_by place sizes)) (dsti_head sizes ++ flat_map entry_bytes (entries_by place (take j sizes)))
+begins_with_entries place sizes j =
+    let front = take j sizes in
+    let rest = flat_map entry_bytes (entries_by (place + frames_size front) (drop j sizes)) in
+    record {
+      rest = rest;
+      is =
+          sym (dsti_is place sizes)
+          ∙ ap (λ w. dsti_head sizes ++ flat_map entry_bytes (entries_by place w)) (sym (take-append-drop j sizes))
+          ∙ ap (λ es. dsti_head sizes ++ flat_map entry_bytes es) (entries_of_parts place front (drop j sizes))
+          ∙ ap (λ w. dsti_head sizes ++ w) (flat_map-append entry_bytes (entries_by place front) (entries_by (place + frames_size front) (drop j sizes)))
+          ∙ sym (append_assoc (dsti_head sizes) (flat_map entry_bytes (entries_by place front)) rest);
+    }
+
+pub head_and_more : (place : ℕ) (sizes : List ℕ) (j d here : ℕ) → j < length sizes → here ≡ place + frames_size (take j sizes) →
+    dsti_head sizes ++ flat_map entry_bytes (entries_by place (take j sizes)) ++ (big_bytes 8 (here + 12) ++ big_bytes 4 (get_or sizes j d))
+    ≡ dsti_head sizes ++ flat_map entry_bytes (entries_by place (take (j + 1) sizes))
+head_and_more place sizes j d here l e =
+    append_assoc (dsti_head sizes) (flat_map entry_bytes (entries_by place (take j sizes))) (big_bytes 8 (here + 12) ++ big_bytes 4 (get_or sizes j d))
+    ∙ ap (λ n. dsti_head sizes ++ (flat_map entry_bytes (entries_by place (take j sizes)) ++ (big_bytes 8 (n + 12) ++ big_bytes 4 (get_or sizes j d)))) e
+    ∙ ap (λ w. dsti_head sizes ++ w) (one_more_entry place sizes j d l)

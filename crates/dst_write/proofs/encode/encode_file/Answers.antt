@@ -1,0 +1,97 @@
+-- Each answer is one of opening, or one of writing.
+use Rattle.std.proofs.Common.{◌≡◌, inl, inr, ℕ, List, [], length, Option, Some, None, Result, Ok, Err, IfOk, refl, ap, sym, subst, ◌∙◌, arith}
+use Rattle.dsdiff_spec.specs.Form.{Form}
+use Rattle.dsdiff_spec.specs.Coded.{Picks, coded, stored_bytes}
+use Rattle.dsdiff_spec.specs.Refusal.{form_refusal, refusal}
+use Rattle.dsdiff_spec.specs.Rules.{accepted}
+use Rattle.dsdiff_spec.specs.Words.{encode}
+use Rattle.dsdiff_spec.specs.declared.faults.FileFault.{FileFault}
+use Rattle.dsdiff_chunks.specs.Forms.{plain_seen}
+use Rattle.dsdiff_chunks.specs.declared.open.OpenFault.{OpenFault}
+use Rattle.dsdiff_chunks.specs.Opening as opening
+use Rattle.dst_streams.specs.Told.{and_then}
+use Rattle.dst_write.specs.Encoding.{EncodingEnds}
+use Rattle.dst_write.specs.Unfinished.{HoldsNothing, HoldsUnfinished, sound_size_place}
+use Rattle.dst_write.specs.declared.faults.EncodeFault.{EncodeFault}
+use Rattle.dst_write.specs.declared.faults.EncodeFault.TheVariants.{Source}
+use Rattle.dst_write.specs.declared.faults.Encoded.{Encoded}
+use Rattle.dst_write.proofs.Ending.{nothing_yet}
+use Rattle.dst_write.proofs.encode.encode_file.Goals as goal
+
+-- ---- of opening
+same_source : (a b : OpenFault) → ◌≡◌ {A = Result Encoded EncodeFault} (Err (Source a)) (Err (Source b)) → a ≡ b
+same_source a b e = cc
+
+rules_of_encode : (level : ℕ) (file : List ℕ) → refusal (encode level) file ≡ form_refusal (encode 1) file
+unfolding refusal
+rules_of_encode level file = refl
+
+pub returns-in-Err-clause-file : goal.returns-in-Err-clause-file
+returns-in-Err-clause-file g c fault e file told level =
+    rules_of_encode level file
+    ∙ (subst (λ f. opening.Stops (form_refusal (encode 1)) (g.S.Source.bytes c.args.source.now) (g.S.Source.faults c.args.source.now) (g.S.Source.faults c.open_file.new.source) f) (same_source c.in-Err.fault _ e) c.in-Err.ensures.stops) file told
+
+-- ---- of writing
+if_encoded : (r : Result Encoded EncodeFault) (picks : Picks) (bytes : Option (List ℕ)) (form : List ℕ → Form) (old new : Option (List ℕ)) (room : Option ℕ) →
+    ((file : List ℕ) → bytes ≡ Some file → EncodingEnds r picks file (form file) old new room) →
+    IfOk r (λ _. (file : List ℕ) → bytes ≡ Some file → HoldsNothing old → new ≡ and_then old (coded picks file (form file)))
+if_encoded (Ok e) picks bytes form old new room h = λ file told. (h file told).written
+if_encoded (Err fault) picks bytes form old new room h = tt {0}
+
+if_stored : (r : Result Encoded EncodeFault) (picks : Picks) (bytes : Option (List ℕ)) (form : List ℕ → Form) (old new : Option (List ℕ)) (room : Option ℕ) →
+    ((file : List ℕ) → bytes ≡ Some file → EncodingEnds r picks file (form file) old new room) →
+    IfOk r (λ e. (file : List ℕ) → bytes ≡ Some file → e.bytes ≡ stored_bytes picks file (form file))
+if_stored (Ok e) picks bytes form old new room h = λ file told. (h file told).bytes
+if_stored (Err fault) picks bytes form old new room h = tt {0}
+
+if_ok : (r : Result Encoded EncodeFault) (P : Type 0) → P → IfOk r (λ _. P)
+if_ok (Ok e) P p = p
+if_ok (Err fault) P p = tt {0}
+
+pub returns-clause-accepted : goal.returns-clause-accepted
+returns-clause-accepted g c =
+    if_ok c.write_encoded.result ((file : List ℕ) → g.S.Source.bytes c.args.source.now ≡ Some file → (level : ℕ) → refusal (encode level) file ≡ None)
+    (λ file told level. rules_of_encode level file ∙ c.in-Ok.ensures.accepted file told)
+
+pub returns-clause-encoded : goal.returns-clause-encoded
+returns-clause-encoded g c =
+    if_encoded c.write_encoded.result (g.P.Picker.picks c.args.picker.now) (g.S.Source.bytes c.args.source.now) accepted (g.K.Sink.written c.args.sink.now) (g.K.Sink.written c.write_encoded.new.sink) (g.K.Sink.room c.args.sink.now)
+    (λ file told.
+    subst (λ form. EncodingEnds c.write_encoded.result (g.P.Picker.picks c.args.picker.now) file form (g.K.Sink.written c.args.sink.now) (g.K.Sink.written c.write_encoded.new.sink) (g.K.Sink.room c.args.sink.now)) (sym (c.in-Ok.ensures.opened file told))
+    (c.write_encoded.ensures.written file (c.in-Ok.ensures.bytes ∙ told)))
+
+pub returns-clause-stored : goal.returns-clause-stored
+returns-clause-stored g c =
+    if_stored c.write_encoded.result (g.P.Picker.picks c.args.picker.now) (g.S.Source.bytes c.args.source.now) accepted (g.K.Sink.written c.args.sink.now) (g.K.Sink.written c.write_encoded.new.sink) (g.K.Sink.room c.args.sink.now)
+    (λ file told.
+    subst (λ form. EncodingEnds c.write_encoded.result (g.P.Picker.picks c.args.picker.now) file form (g.K.Sink.written c.args.sink.now) (g.K.Sink.written c.write_encoded.new.sink) (g.K.Sink.room c.args.sink.now)) (sym (c.in-Ok.ensures.opened file told))
+    (c.write_encoded.ensures.written file (c.in-Ok.ensures.bytes ∙ told)))
+
+ends_with : (r : Result Encoded EncodeFault) (fault : EncodeFault) (picks : Picks) (file : List ℕ) (seen form : Form) (old new : Option (List ℕ)) (room : Option ℕ) → r ≡ Err fault → form ≡ seen →
+    EncodingEnds r picks file seen old new room → EncodingEnds (Err fault) picks file form old new room
+ends_with r fault picks file seen form old new room e is h =
+    subst (λ form. EncodingEnds (Err fault) picks file form old new room) (sym is) (subst (λ r. EncodingEnds r picks file seen old new room) e h)
+
+pub returns-clause-unfinished : goal.returns-clause-unfinished
+returns-clause-unfinished g c (inl e) file told =
+    (ends_with c.write_encoded.result _ (g.P.Picker.picks c.args.picker.now) file (plain_seen c.in-Ok.form) (accepted file) (g.K.Sink.written c.args.sink.now) (g.K.Sink.written c.write_encoded.new.sink) (g.K.Sink.room c.args.sink.now) e (c.in-Ok.ensures.opened file told)
+    (c.write_encoded.ensures.written file (c.in-Ok.ensures.bytes ∙ told))).unfinished
+returns-clause-unfinished g c (inr e) file told =
+    (ends_with c.write_encoded.result _ (g.P.Picker.picks c.args.picker.now) file (plain_seen c.in-Ok.form) (accepted file) (g.K.Sink.written c.args.sink.now) (g.K.Sink.written c.write_encoded.new.sink) (g.K.Sink.room c.args.sink.now) e (c.in-Ok.ensures.opened file told)
+    (c.write_encoded.ensures.written file (c.in-Ok.ensures.bytes ∙ told))).unfinished
+
+pub returns-clause-sure : goal.returns-clause-sure
+returns-clause-sure g c e file told =
+    (ends_with c.write_encoded.result _ (g.P.Picker.picks c.args.picker.now) file (plain_seen c.in-Ok.form) (accepted file) (g.K.Sink.written c.args.sink.now) (g.K.Sink.written c.write_encoded.new.sink) (g.K.Sink.room c.args.sink.now) e (c.in-Ok.ensures.opened file told)
+    (c.write_encoded.ensures.written file (c.in-Ok.ensures.bytes ∙ told))).lacks refl
+
+-- a file that is accepted isn't refused
+not_refused : (a : Option FileFault) (fault : FileFault) → a ≡ None → a ≡ Some fault → ⊥
+not_refused a fault e h = absurd (let never : None ≡ Some fault = cc in cc)
+
+pub returns-clause-refused : goal.returns-clause-refused
+returns-clause-refused g c file told level fault e =
+    absurd (not_refused (form_refusal (encode 1) file) fault (c.in-Ok.ensures.accepted file told) (sym (rules_of_encode level file) ∙ e))
+
+pub returns-clause-write_accepted : goal.returns-clause-write_accepted
+returns-clause-write_accepted g c e file told level = rules_of_encode level file ∙ c.in-Ok.ensures.accepted file told
