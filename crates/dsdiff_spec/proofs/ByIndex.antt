@@ -12,7 +12,7 @@ use Rattle.dsdiff_spec.specs.Chunks.{Head, named, body_place, body_end}
 use Rattle.dsdiff_spec.specs.Form.{Form, longest_frame}
 use Rattle.dsdiff_spec.specs.Rules.{form_fault, accepted}
 use Rattle.dsdiff_spec.specs.Walk.{in_dst, frame_heads, frame_fault, walk_fault, Entry, entry_of, entries, entry, index_heads, indexed, has_index_of, names_frame, by_index_fault, same_entry, compare_fault, frame_at}
-use Rattle.dsdiff_spec.specs.Words.{Command, decode, frame, check}
+use Rattle.dsdiff_spec.specs.Words.{Command, frame}
 use Rattle.dsdiff_spec.specs.Refusal.{no_frame, not_coded, not_walked, command_fault, form_refusal, refusal}
 use Rattle.dsdiff_spec.specs.Outcome.{Answer, NoneRefused, nth_frame, indexed_frame, run, IsStopped, WritesSound, Does, IsDone, OfCommand}
 use Rattle.dsdiff_spec.specs.Laws.{SameByIndexLaw}

@@ -2,7 +2,7 @@
 use Rattle.std.proofs.Common.{◌≡◌, ℕ, List, [], ◌∷◌, map, refl, true, false, Some, None}
 use Rattle.std.specs.Prelude.{codes}
 use Prim.Native.String.{String}
-use Rattle.dsdiff_spec.specs.Words.{Word, Command, Task, decode, frame, check, show, show_frame, index}
+use Rattle.dsdiff_spec.specs.Words.{Word, Command, Task, encode, decode, frame, check, show, show_frame, index}
 use Rattle.dsdiff_spec.specs.Rows.{task_of}
 
 abbrev pub words : List String → List Word
@@ -14,6 +14,22 @@ abbrev ◌by◌ : Command → ℕ → Task
 c by n = record { command = c; workers = n }
 
 -- ---- lawful words
+pub level_one_does_else : task_of (words ("encode" ∷ "a" ∷ "b.dff" ∷ [])) ≡ Some ((encode 1) by 1)
+unfolding task_of
+level_one_does_else = refl
+
+pub least_level : task_of (words ("encode" ∷ "a" ∷ "b" ∷ "--level" ∷ "0" ∷ [])) ≡ Some ((encode 0) by 1)
+unfolding task_of
+least_level = refl
+
+pub level_and_workers : task_of (words ("encode" ∷ "a" ∷ "b" ∷ "--level" ∷ "2" ∷ "--workers" ∷ "4" ∷ [])) ≡ Some ((encode 2) by 4)
+unfolding task_of
+level_and_workers = refl
+
+pub workers_and_level : task_of (words ("encode" ∷ "a" ∷ "b" ∷ "--workers" ∷ "16" ∷ "--level" ∷ "2" ∷ [])) ≡ Some ((encode 2) by 16)
+unfolding task_of
+workers_and_level = refl
+
 pub two_files_are_decoded : task_of (words ("decode" ∷ "a" ∷ "b.dff" ∷ [])) ≡ Some (decode by 1)
 unfolding task_of
 two_files_are_decoded = refl
@@ -151,9 +167,29 @@ pub empty_number : task_of (codes "show" ∷ codes "a" ∷ [] ∷ []) ≡ None
 unfolding task_of
 empty_number = refl
 
-pub encoding_is_no_row : task_of (words ("encode" ∷ "a" ∷ "b" ∷ [])) ≡ None
+pub two_files_are_needed_to_encode : task_of (words ("encode" ∷ "a" ∷ [])) ≡ None
 unfolding task_of
-encoding_is_no_row = refl
+two_files_are_needed_to_encode = refl
+
+pub level_past_the_greatest : task_of (words ("encode" ∷ "a" ∷ "b" ∷ "--level" ∷ "3" ∷ [])) ≡ None
+unfolding task_of
+level_past_the_greatest = refl
+
+pub level_without_its_value : task_of (words ("encode" ∷ "a" ∷ "b" ∷ "--level" ∷ [])) ≡ None
+unfolding task_of
+level_without_its_value = refl
+
+pub level_twice : task_of (words ("encode" ∷ "a" ∷ "b" ∷ "--level" ∷ "1" ∷ "--level" ∷ "1" ∷ [])) ≡ None
+unfolding task_of
+level_twice = refl
+
+pub options_stand_behind_files : task_of (words ("encode" ∷ "--level" ∷ "1" ∷ "a" ∷ "b" ∷ [])) ≡ None
+unfolding task_of
+options_stand_behind_files = refl
+
+pub no_level_of_decoding : task_of (words ("decode" ∷ "a" ∷ "b" ∷ "--level" ∷ "1" ∷ [])) ≡ None
+unfolding task_of
+no_level_of_decoding = refl
 
 pub name_begins_a_longer_word : task_of (words ("decoder" ∷ "a" ∷ "b" ∷ [])) ≡ None
 unfolding task_of

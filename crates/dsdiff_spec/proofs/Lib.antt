@@ -30,6 +30,7 @@ pub mod Settling
 pub mod OneAnswer
 pub mod ByIndex
 pub mod ReadOutcomes
+pub mod WriteOutcomes
 pub mod Shown
 pub mod Progress
 pub mod OneRow

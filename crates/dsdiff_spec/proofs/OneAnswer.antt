@@ -19,93 +19,96 @@ use Rattle.dsdiff_spec.proofs.Stopping.{One, one_of_run}
 use Rattle.dsdiff_spec.proofs.Settling.{frame_is_settled, checked_are_settled, shown_is_settled, one_sound, one_list, one_check, one_line}
 use Rattle.dsdiff_spec.proofs.OneOutcome.{decoding_has_one_outcome}
 
--- ---- the commands that have rows
-abbrev pub ReadsCoded : Command → Type 0
-ReadsCoded (encode level) = ⊥
-ReadsCoded decode = ⊤
-ReadsCoded (cut first last) = ⊥
-ReadsCoded (frame k b) = ⊤
-ReadsCoded check = ⊤
-ReadsCoded show = ⊤
-ReadsCoded (show_frame k) = ⊤
-ReadsCoded index = ⊤
-ReadsCoded (make start frames channels multiple) = ⊥
-ReadsCoded (make_run start frames channels multiple) = ⊥
-ReadsCoded (encode_dsf level) = ⊥
-ReadsCoded decode_dsf = ⊥
-ReadsCoded (range pairs) = ⊥
+-- ---- the commands that have an outcome
+abbrev pub HasOutcome : Command → Type 0
+HasOutcome (encode level) = ⊤
+HasOutcome decode = ⊤
+HasOutcome (cut first last) = ⊤
+HasOutcome (frame k b) = ⊤
+HasOutcome check = ⊤
+HasOutcome show = ⊤
+HasOutcome (show_frame k) = ⊤
+HasOutcome index = ⊤
+HasOutcome (make start frames channels multiple) = ⊤
+HasOutcome (make_run start frames channels multiple) = ⊤
+HasOutcome (encode_dsf level) = ⊥
+HasOutcome decode_dsf = ⊥
+HasOutcome (range pairs) = ⊥
 
-abbrev GivesReading : Row → Type 0
-GivesReading r = (numbers : List ℕ) (found : List (Word × ℕ)) (c : Command) → r.command numbers found ≡ Some c → ReadsCoded c
+abbrev GivesOutcome : Row → Type 0
+GivesOutcome r = (numbers : List ℕ) (found : List (Word × ℕ)) (c : Command) → r.command numbers found ≡ Some c → HasOutcome c
 
-of_some : (a c : Command) → Some a ≡ Some c → ReadsCoded a → ReadsCoded c
-of_some a c e h = let is : a ≡ c = cc in subst ReadsCoded is h
+of_some : (a c : Command) → Some a ≡ Some c → HasOutcome a → HasOutcome c
+of_some a c e h = let is : a ≡ c = cc in subst HasOutcome is h
 
-of_frame : (b : Bool) (numbers : List ℕ) (c : Command) → frame_of b numbers ≡ Some c → ReadsCoded c
+of_frame : (b : Bool) (numbers : List ℕ) (c : Command) → frame_of b numbers ≡ Some c → HasOutcome c
 of_frame b [] c e = absurd cc
 of_frame b (k ∷ []) c e = of_some (frame k b) c e tt
 of_frame b (k ∷ m ∷ ns) c e = absurd cc
 
-of_show_frame : (numbers : List ℕ) (c : Command) → show_frame_of numbers ≡ Some c → ReadsCoded c
+of_show_frame : (numbers : List ℕ) (c : Command) → show_frame_of numbers ≡ Some c → HasOutcome c
 of_show_frame [] c e = absurd cc
 of_show_frame (k ∷ []) c e = of_some (show_frame k) c e tt
 of_show_frame (k ∷ m ∷ ns) c e = absurd cc
 
-all_read : AllByRecursion GivesReading rows
-all_read = (
+all_have_an_outcome : AllByRecursion GivesOutcome rows
+all_have_an_outcome = (
   (λ n o c e. of_some _ c e tt),
   (
-    (λ n o c e. of_frame _ n c e),
-    ((λ n o c e. of_some _ c e tt), ((λ n o c e. of_some _ c e tt), ((λ n o c e. of_show_frame n c e), ((λ n o c e. of_some _ c e tt), tt)))),
+    (λ n o c e. of_some _ c e tt),
+    (
+      (λ n o c e. of_frame _ n c e),
+      ((λ n o c e. of_some _ c e tt), ((λ n o c e. of_some _ c e tt), ((λ n o c e. of_show_frame n c e), ((λ n o c e. of_some _ c e tt), tt)))),
+    ),
   ),
 )
 
-of_row : (words : List Word) (r : Row) (t : Task) → GivesReading r → row_task words r ≡ Some t → ReadsCoded t.command
+of_row : (words : List Word) (r : Row) (t : Task) → GivesOutcome r → row_task words r ≡ Some t → HasOutcome t.command
 of_row [] r t h e = absurd cc
 of_row (name ∷ words) r t h e = named (bytes_eq name (codes r.name)) e
   where
     given : (read : List ℕ × List Word) (found : List (Word × ℕ)) (o : Option Command) → r.command read.0 found ≡ o →
-        option_map (task_with found) o ≡ Some t → ReadsCoded t.command
+        option_map (task_with found) o ≡ Some t → HasOutcome t.command
     given read found None is k = absurd cc
     given read found (Some c) is k =
         let same : task_with found c ≡ t = cc in
-        subst ReadsCoded (ap (λ (u : Task). u.command) same) (h read.0 found c is)
+        subst HasOutcome (ap (λ (u : Task). u.command) same) (h read.0 found c is)
 
     behind : (read : List ℕ × List Word) (o : Option (List (Word × ℕ))) →
-        elim o [ None ↦ None | Some found ↦ option_map (task_with found) (r.command read.0 found) ] ≡ Some t → ReadsCoded t.command
+        elim o [ None ↦ None | Some found ↦ option_map (task_with found) (r.command read.0 found) ] ≡ Some t → HasOutcome t.command
     behind read None k = absurd cc
     behind read (Some found) k = given read found (r.command read.0 found) refl k
 
-    slots : (o : Option (List ℕ × List Word)) → elim o [ None ↦ None | Some read ↦ task_behind r read ] ≡ Some t → ReadsCoded t.command
+    slots : (o : Option (List ℕ × List Word)) → elim o [ None ↦ None | Some read ↦ task_behind r read ] ≡ Some t → HasOutcome t.command
     slots None k = absurd cc
     slots (Some read) k = behind read _ k
 
     named : (b : Bool) → (if b then elim (read_slots r.slots words) [ None ↦ None | Some read ↦ task_behind r read ] else None) ≡ Some t →
-        ReadsCoded t.command
+        HasOutcome t.command
     named true k = slots (read_slots r.slots words) k
     named false k = absurd cc
 
-of_rows : (words : List Word) (rs : List Row) (t : Task) → AllByRecursion GivesReading rs → first_some (row_task words) rs ≡ Some t → ReadsCoded t.command
+of_rows : (words : List Word) (rs : List Row) (t : Task) → AllByRecursion GivesOutcome rs → first_some (row_task words) rs ≡ Some t → HasOutcome t.command
 of_rows words [] t h e = absurd cc
 of_rows words (r ∷ rs) t h e = go (λ k. of_rows words rs t h.1 k) (row_task words r) refl e
   where
-    go : (first_some (row_task words) rs ≡ Some t → ReadsCoded t.command) → (o : Option Task) → row_task words r ≡ o →
-        elim o [ Some x ↦ Some x | None ↦ first_some (row_task words) rs ] ≡ Some t → ReadsCoded t.command
+    go : (first_some (row_task words) rs ≡ Some t → HasOutcome t.command) → (o : Option Task) → row_task words r ≡ o →
+        elim o [ Some x ↦ Some x | None ↦ first_some (row_task words) rs ] ≡ Some t → HasOutcome t.command
     go later (Some x) is k = of_row words r t h.0 (is ∙ k)
     go later None is k = later k
 
-of_task : (words : List Word) (t : Task) → task_of words ≡ Some t → ReadsCoded t.command
+of_task : (words : List Word) (t : Task) → task_of words ≡ Some t → HasOutcome t.command
 unfolding task_of
-of_task words t e = of_rows words rows t all_read e
+of_task words t e = of_rows words rows t all_have_an_outcome e
 
-pub words_read_coded : (words : List Word) (c : Command) → command_of words ≡ Some c → ReadsCoded c
-words_read_coded words c e = go (task_of words) refl e
+pub words_have_an_outcome : (words : List Word) (c : Command) → command_of words ≡ Some c → HasOutcome c
+words_have_an_outcome words c e = go (task_of words) refl e
   where
-    go : (o : Option Task) → task_of words ≡ o → option_map (λ (t : Task). t.command) o ≡ Some c → ReadsCoded c
+    go : (o : Option Task) → task_of words ≡ o → option_map (λ (t : Task). t.command) o ≡ Some c → HasOutcome c
     go None is k = absurd cc
     go (Some t) is k =
         let same : t.command ≡ c = cc in
-        subst ReadsCoded same (of_task words t is)
+        subst HasOutcome same (of_task words t is)
 
 -- ---- each of them has one outcome
 form_is_accepted : (c : Command) (file : List ℕ) → form_refusal c file ≡ None → form_fault file ≡ None
@@ -157,17 +160,40 @@ listing_has_one_outcome : (file : List ℕ) → AreBytes file → One (OfCommand
 unfolding refusal
 listing_has_one_outcome file bytes = answered index file (form_refusal index file) (λ none. one_of_run index file (accepted file) tt (λ j. (refl, λ out e. e)) (λ never. (_, refl, λ other e. e)))
 
-pub command_has_one_outcome : (c : Command) (file : List ℕ) → ReadsCoded c → AreBytes file → One (OfCommand c file (refusal c file))
+-- commands of whose run no frame is refused, and whose answer is named
+coding_has_one_outcome : (level : ℕ) (file : List ℕ) → One (OfCommand (encode level) file (refusal (encode level) file))
+unfolding refusal
+coding_has_one_outcome level file = answered (encode level) file (form_refusal (encode level) file) (λ none.
+    one_of_run (encode level) file (accepted file) tt (λ j. (refl, λ out e. e)) (λ never. (_, refl, λ other e. e)))
+
+cutting_has_one_outcome : (first last : ℕ) (file : List ℕ) → One (OfCommand (cut first last) file (refusal (cut first last) file))
+unfolding refusal
+cutting_has_one_outcome first last file = answered (cut first last) file (form_refusal (cut first last) file) (λ none.
+    one_of_run (cut first last) file (accepted file) tt (λ j. (refl, λ out e. e)) (λ never. (_, refl, λ other e. e)))
+
+making_has_one_outcome : (start frames channels multiple : ℕ) (file : List ℕ) →
+    One (OfCommand (make start frames channels multiple) file (refusal (make start frames channels multiple) file))
+unfolding refusal
+making_has_one_outcome start frames channels multiple file =
+    one_of_run (make start frames channels multiple) file (accepted file) tt (λ j. (refl, λ out e. e)) (λ never. (_, refl, λ other e. e))
+
+running_has_one_outcome : (start frames channels multiple : ℕ) (file : List ℕ) →
+    One (OfCommand (make_run start frames channels multiple) file (refusal (make_run start frames channels multiple) file))
+unfolding refusal
+running_has_one_outcome start frames channels multiple file =
+    one_of_run (make_run start frames channels multiple) file (accepted file) tt (λ j. (refl, λ out e. e)) (λ never. (_, refl, λ other e. e))
+
+pub command_has_one_outcome : (c : Command) (file : List ℕ) → HasOutcome c → AreBytes file → One (OfCommand c file (refusal c file))
 command_has_one_outcome decode file h bytes = decoding_has_one_outcome file bytes
 command_has_one_outcome (frame k b) file h bytes = writing_has_one_outcome k b file bytes
 command_has_one_outcome check file h bytes = checking_has_one_outcome file bytes
 command_has_one_outcome show file h bytes = showing_has_one_outcome file bytes
 command_has_one_outcome (show_frame k) file h bytes = showing_a_frame_has_one_outcome k file bytes
 command_has_one_outcome index file h bytes = listing_has_one_outcome file bytes
-command_has_one_outcome (encode level) file h bytes = absurd h
-command_has_one_outcome (cut first last) file h bytes = absurd h
-command_has_one_outcome (make start frames channels multiple) file h bytes = absurd h
-command_has_one_outcome (make_run start frames channels multiple) file h bytes = absurd h
+command_has_one_outcome (encode level) file h bytes = coding_has_one_outcome level file
+command_has_one_outcome (cut first last) file h bytes = cutting_has_one_outcome first last file
+command_has_one_outcome (make start frames channels multiple) file h bytes = making_has_one_outcome start frames channels multiple file
+command_has_one_outcome (make_run start frames channels multiple) file h bytes = running_has_one_outcome start frames channels multiple file
 command_has_one_outcome (encode_dsf level) file h bytes = absurd h
 command_has_one_outcome decode_dsf file h bytes = absurd h
 command_has_one_outcome (range pairs) file h bytes = absurd h
@@ -178,4 +204,4 @@ one_outcome words file bytes = go (command_of words) refl
   where
     go : (r : Option Command) → command_of words ≡ r → One (OfWords r file)
     go None e = (not_understood, refl, λ other o. o)
-    go (Some c) e = command_has_one_outcome c file (words_read_coded words c e) bytes
+    go (Some c) e = command_has_one_outcome c file (words_have_an_outcome words c e) bytes

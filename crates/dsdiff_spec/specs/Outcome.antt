@@ -1,6 +1,6 @@
--- The one outcome of a run: the status, what is written, and the lines of the report. The commands that read coded files
--- have outcomes yet.
-use Rattle.std.specs.Prelude.{◌≡◌, ◌≢◌, ◌⊎◌, ℕ, ◌≤◌, true, false, List, [], ◌∷◌, ◌++◌, length, map, take, sum, Option, Some, None}
+-- The one outcome of a run: the status, what is written, and the lines of the report. Commands on DSF files and on parts of the sound
+-- have none yet.
+use Rattle.std.specs.Prelude.{◌≡◌, ◌≢◌, ◌⊎◌, ℕ, ◌≤◌, true, false, List, [], ◌∷◌, ◌++◌, ◌+◌, ◌-◌, length, map, take, sum, Option, Some, None}
 use Rattle.std.specs.List.{AllByRecursion, AllZip, enumerate_from}
 use Rattle.dst_spec.specs.Bits.{bits}
 use Rattle.dst_spec.specs.Sample.{Shape}
@@ -9,14 +9,18 @@ use Rattle.dst_spec.specs.Means.{Means, MeansWithTail, IsPlain}
 use Rattle.dst_spec.specs.Offends.{Offends}
 use Rattle.dst_spec.specs.declared.faults.FrameFault.{FrameFault}
 use Rattle.dst_spec.specs.declared.faults.Reason.TheVariants.{FirstCodeBit, CodeRange}
+use Rattle.level_spec.specs.Picks.{level_picks}
 use Rattle.dsdiff_spec.specs.Form.{Form, Kind, plain, coded, shape, size_of_sound}
 use Rattle.dsdiff_spec.specs.Rules.{accepted}
 use Rattle.dsdiff_spec.specs.Walk.{entry, entries, indexed, frame_at}
 use Rattle.dsdiff_spec.specs.Decoded.{Plain, Before, frames_of}
-use Rattle.dsdiff_spec.specs.Words.{Word, Command, decode, frame, check, show, show_frame, index}
+use Rattle.dsdiff_spec.specs.Coded as coding
+use Rattle.dsdiff_spec.specs.Cut as cutting
+use Rattle.dsdiff_spec.specs.Made.{made}
+use Rattle.dsdiff_spec.specs.Words.{Word, Command, encode, decode, cut, frame, check, show, show_frame, index, make, make_run}
 use Rattle.dsdiff_spec.specs.Rows.{command_of}
 use Rattle.dsdiff_spec.specs.Refusal.{refusal}
-use Rattle.dsdiff_spec.specs.Lines.{Line, words_line, file_line, frame_fault_line, decoded_line, frame_line, check_line, show_lines, plain_frame_line, coded_frame_line, index_lines}
+use Rattle.dsdiff_spec.specs.Lines.{Line, words_line, file_line, frame_fault_line, coded_line, decoded_line, cut_line, frame_line, made_line, made_run_line, check_line, show_lines, plain_frame_line, coded_frame_line, index_lines}
 use Rattle.dsdiff_spec.specs.declared.faults.FileFault.{FileFault}
 
 pub record Answer : Type 0 where
@@ -93,10 +97,25 @@ Shows f k w line =
 abbrev pub WritesSound : Form → ℕ → List ℕ → Answer → Type 0
 WritesSound form k w o = (sound : List ℕ) × Means (shape form) w sound × (o ≡ done sound (frame_line k (length sound) ∷ []))
 
--- the commands so far; of the others nothing is done
+-- a plain file, coded at a level: what is written, and the bytes of its stored frames
+abbrev pub coded_at : ℕ → List ℕ → Form → List ℕ
+coded_at level file form = coding.coded (level_picks level) file form
+
+abbrev pub stored_at : ℕ → List ℕ → Form → ℕ
+stored_at level file form = coding.stored_bytes (level_picks level) file form
+
+-- a made file that is coded at level 2 and decoded: its sound, what is stored of it, and the sound that comes back
+abbrev pub run_line : ℕ → List ℕ → Line
+run_line frames file =
+    made_run_line frames (size_of_sound (accepted file)) (stored_at 2 file (accepted file))
+    (size_of_sound (accepted (coded_at 2 file (accepted file))))
+
+-- of the other commands nothing is done yet
 abbrev pub Does : Command → List ℕ → Form → Answer → Type 0
+Does (encode level) file form o = o ≡ done (coded_at level file form) (coded_line form.frames (stored_at level file form) ∷ [])
 Does decode file form o =
     (out : List ℕ) × Plain file form out × (o ≡ done out (decoded_line form.frames (size_of_sound form) ∷ []))
+Does (cut first last) file form o = o ≡ done (cutting.cut file form first last) (cut_line (last + 1 - first) ∷ [])
 Does (frame k false) file form o = WritesSound form k (nth_frame file form k) o
 Does (frame k true) file form o = WritesSound form k (indexed_frame file form k) o
 Does check file form o =
@@ -105,6 +124,8 @@ Does check file form o =
 Does show file form o = o ≡ done [] (show_lines form (entries file form))
 Does (show_frame k) file form o = (line : Line) × Shows (shape form) k (nth_frame file form k) line × (o ≡ done [] (line ∷ []))
 Does index file form o = o ≡ done [] (index_lines (entries file form))
+Does (make start frames channels multiple) file form o = o ≡ done (made start frames channels multiple) (made_line frames ∷ [])
+Does (make_run start frames channels multiple) file form o = o ≡ done [] (run_line frames (made start frames channels multiple) ∷ [])
 Does c file form o = ⊥
 
 abbrev pub IsDone : Command → List ℕ → Form → Answer → Type 0

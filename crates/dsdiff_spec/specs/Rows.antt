@@ -1,9 +1,9 @@
--- The rows of commands: name, words, options, and the command of their numbers and settings. Those that read coded files
--- have rows yet. How many work at a command is an option of its row, and one does else.
+-- The rows of commands: name, words, options, and the command of their numbers and settings. Those that code a file or read a
+-- coded one have rows yet. How many work at a command is an option of its row, and one does else.
 use Rattle.std.specs.Prelude.{ℕ, Bool, ◌==◌, if◌then◌else◌, List, [], ◌∷◌, length, Option, Some, None, option_map}
 use Rattle.dsdiff_spec.specs.Bytes.{◌is◌}
 use Rattle.dsdiff_spec.specs.Faults.{first_some}
-use Rattle.dsdiff_spec.specs.Words.{Word, Command, Task, decode, frame, check, show, show_frame, index, Slot, file, number, read_slots, Setting, workers, by_index, read_settings, set_or}
+use Rattle.dsdiff_spec.specs.Words.{Word, Command, Task, encode, decode, frame, check, show, show_frame, index, Slot, file, number, read_slots, Setting, level, workers, by_index, read_settings, set_or}
 use Prim.Native.String.{String}
 
 pub record Row : Type 0 where
@@ -14,6 +14,9 @@ pub record Row : Type 0 where
 
 abbrev pub workers_of : List (Word × ℕ) → ℕ
 workers_of o = set_or "--workers" 1 o
+
+abbrev pub level_of : List (Word × ℕ) → ℕ
+level_of o = set_or "--level" 1 o
 
 abbrev pub is_set : String → List (Word × ℕ) → Bool
 is_set name o = set_or name 0 o == 1
@@ -33,7 +36,8 @@ row name slots settings command = record { name = name; slots = slots; settings 
 
 abbrev pub rows : List Row
 rows =
-    row "decode" (file ∷ file ∷ []) (workers ∷ []) (λ n o. Some decode)
+    row "encode" (file ∷ file ∷ []) (level ∷ workers ∷ []) (λ n o. Some (encode (level_of o)))
+    ∷ row "decode" (file ∷ file ∷ []) (workers ∷ []) (λ n o. Some decode)
     ∷ row "frame" (file ∷ file ∷ number ∷ []) (by_index ∷ []) (λ n o. frame_of (is_set "--by-index" o) n)
     ∷ row "check" (file ∷ []) (workers ∷ []) (λ n o. Some check)
     ∷ row "show" (file ∷ []) [] (λ n o. Some show)

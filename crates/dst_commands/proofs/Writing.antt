@@ -1,6 +1,6 @@
 -- Pieces that are written one after the other, up to the one at which it stops.
 use Rattle.std.proofs.Common.{◌≡◌, ℕ, ◌+◌, ◌-◌, ◌≤◌, false, true, List, [], ◌++◌, length, take, Option, Some, None, Result, Ok, Err, refl, ap, sym, subst, ◌∙◌, arith, length-append, append-nil}
-use Rattle.std.specs.Prelude.{OnOk, OnErr, MatchResult}
+use Rattle.std.specs.Prelude.{IsOk, OnOk, OnErr, MatchResult}
 use Rattle.std.proofs.lemmas.List.{take-append-le, take_all}
 use Rattle.std.proofs.Math.Seq.{take-append-add}
 use Rattle.dst_streams.specs.Told.{and_then, IsCutShort, IsSure}
@@ -49,6 +49,19 @@ stops_behind P piece old new room left not h = record {
   cut = record { kept = length piece; within = omega arith; written = h.written ∙ ap (and_then old) (sym (take_all (length piece) piece (omega arith))) };
   lacks = λ p. absurd (not p);
 }
+
+-- the piece is there whole, and the sink can't settle it: a call that succeeds where there is a sure room failed
+pub stops_unsettled : (piece : List ℕ) (old mid new : Option (List ℕ)) (room left : Option ℕ) → Adds piece old mid room left → new ≡ mid →
+    ((n : ℕ) → left ≡ Some n → false ≡ true) → Stops (Unit {0}) piece old new room
+stops_unsettled piece old mid new room left h same sure = record {
+  cut = record { kept = length piece; within = omega arith; written = same ∙ h.written ∙ ap (and_then old) (sym (take_all (length piece) piece (omega arith))) };
+  lacks = λ p n is fits. let never : false ≡ true = sure (n - length piece) (h.lowered n is fits) in cc;
+}
+
+pub then_settled : {T E : Type 0} (result : Result T E) (piece : List ℕ) (old mid new : Option (List ℕ)) (room left : Option ℕ) → Adds piece old mid room left → new ≡ mid →
+    ((n : ℕ) → left ≡ Some n → IsOk result) → MatchResult result (λ _. new ≡ and_then old piece) (λ _. Stops (Unit {0}) piece old new room)
+then_settled (Ok u) piece old mid new room left h same sure = same ∙ h.written
+then_settled (Err fault) piece old mid new room left h same sure = stops_unsettled piece old mid new room left h same sure
 
 -- ---- one piece behind another
 pub adds_then : (a b : List ℕ) (old mid new : Option (List ℕ)) (room half left : Option ℕ) →

@@ -1,5 +1,5 @@
 -- How decoding a file ends, from how its parts end.
-use Rattle.std.proofs.Common.{◌≡◌, ℕ, List, [], ◌∷◌, ◌++◌, Option, Ok, Err, refl, ap, sym, subst, ◌∙◌}
+use Rattle.std.proofs.Common.{◌≡◌, ℕ, List, [], ◌∷◌, ◌++◌, Option, Some, Ok, Err, false, true, refl, ap, sym, subst, ◌∙◌}
 use Rattle.dst_spec.specs.Bits.{AreBytes}
 use Rattle.dst_streams.specs.Told.{and_then}
 use Rattle.dst_streams.proofs.Told.{and_then-twice}
@@ -16,7 +16,7 @@ use Rattle.dst_read.specs.declared.faults.DecodeFault.TheVariants.{Source, Write
 use Rattle.dst_commands.specs.Commands.{OutcomeOf}
 use Rattle.dst_read.specs.Decoding.{of_device, IsOpened, sound_of, FramesEnd, DecodingEnds, IsStoppedShort}
 use Rattle.dst_commands.specs.Writing.{Adds, Stops}
-use Rattle.dst_commands.proofs.Writing.{adds_then, stops_then}
+use Rattle.dst_commands.proofs.Writing.{adds_then, stops_for, stops_then, stops_unsettled}
 use Rattle.dst_read.proofs.Stopping.{head_of, end_of, whole, sound_is_front, whole_is_front, done_outcome, refused_outcome, stopped_short, lacks_room, ends_at_device}
 
 -- ---- in the frames
@@ -48,14 +48,26 @@ ends_at_end fault file form index sounds old mid last new room half left bytes o
     (stops_then (fault ≡ CopyFault.Write) (head_of file form ++ sound_of form sounds) (end_of file form) old last new room left
     (adds_then (head_of file form) (sound_of form sounds) old mid last room half left front sound) s)
 
-pub ends_done : (s : Decoded) (file : List ℕ) (form : Form) (index : List Entry) (sounds : List (List ℕ)) (old mid last new : Option (List ℕ)) (room half left later : Option ℕ) →
+whole_added : (file : List ℕ) (form : Form) (sounds : List (List ℕ)) (old mid last new : Option (List ℕ)) (room half left later : Option ℕ) →
+    Adds (head_of file form) old mid room half → Adds (sound_of form sounds) mid last half left → Adds (end_of file form) last new left later → Adds (whole file form sounds) old new room later
+whole_added file form sounds old mid last new room half left later front sound behind =
+    adds_then (head_of file form ++ sound_of form sounds) (end_of file form) old last new room left later
+    (adds_then (head_of file form) (sound_of form sounds) old mid last room half left front sound) behind
+
+pub ends_unsettled : (file : List ℕ) (form : Form) (index : List Entry) (sounds : List (List ℕ)) (old mid last end new : Option (List ℕ)) (room half left later : Option ℕ) →
+    AreBytes file → IsOpened file form index → AreDecoded file form form.frames sounds → Adds (head_of file form) old mid room half → Adds (sound_of form sounds) mid last half left →
+    Adds (end_of file form) last end left later → new ≡ end → ((n : ℕ) → later ≡ Some n → false ≡ true) → DecodingEnds (Err Write) file old new room
+ends_unsettled file form index sounds old mid last end new room half left later bytes o h front sound behind same sure =
+    ends_at_device CopyFault.Write file (whole file form sounds) old new room bytes (whole_is_front file form index sounds bytes o h)
+    (stops_for (Unit {0}) (CopyFault.Write ≡ CopyFault.Write) (whole file form sounds) old new room (λ _. tt {0})
+    (stops_unsettled (whole file form sounds) old end new room later (whole_added file form sounds old mid last end room half left later front sound behind) same sure))
+
+pub ends_done : (s : Decoded) (file : List ℕ) (form : Form) (index : List Entry) (sounds : List (List ℕ)) (old mid last end new : Option (List ℕ)) (room half left later : Option ℕ) →
     IsOpened file form index → AreDecoded file form form.frames sounds → Adds (head_of file form) old mid room half → Adds (sound_of form sounds) mid last half left →
-    Adds (end_of file form) last new left later → s.frames ≡ form.frames → s.bytes ≡ size_of_sound form → DecodingEnds (Ok s) file old new room
-ends_done s file form index sounds old mid last new room half left later o h front sound behind frames bytes =
-    let all = adds_then (head_of file form ++ sound_of form sounds) (end_of file form) old last new room left later
-    (adds_then (head_of file form) (sound_of form sounds) old mid last room half left front sound) behind in (
-      whole file form sounds,
-      subst (λ n. OutcomeOf decode file (done (whole file form sounds) (decoded_line n s.bytes ∷ []))) (sym frames)
-          (subst (λ n. OutcomeOf decode file (done (whole file form sounds) (decoded_line form.frames n ∷ []))) (sym bytes) (done_outcome file form index sounds o h)),
-      all.written,
-    )
+    Adds (end_of file form) last end left later → new ≡ end → s.frames ≡ form.frames → s.bytes ≡ size_of_sound form → DecodingEnds (Ok s) file old new room
+ends_done s file form index sounds old mid last end new room half left later o h front sound behind same frames bytes = (
+  whole file form sounds,
+  subst (λ n. OutcomeOf decode file (done (whole file form sounds) (decoded_line n s.bytes ∷ []))) (sym frames)
+      (subst (λ n. OutcomeOf decode file (done (whole file form sounds) (decoded_line form.frames n ∷ []))) (sym bytes) (done_outcome file form index sounds o h)),
+  same ∙ (whole_added file form sounds old mid last end room half left later front sound behind).written,
+)

@@ -12,7 +12,7 @@ use Rattle.dsdiff_spec.specs.Words.{Command, frame}
 use Rattle.dsdiff_spec.specs.Refusal.{refusal}
 use Rattle.dsdiff_spec.specs.Lines.{Line, frame_line}
 use Rattle.dsdiff_spec.specs.Outcome.{Answer, done, frame_refused, IsStopped, IsDone}
-use Rattle.dsdiff_spec.proofs.OneAnswer.{ReadsCoded}
+use Rattle.dsdiff_spec.proofs.OneAnswer.{HasOutcome}
 use Rattle.dst_commands.specs.Commands.{OutcomeOf}
 use Rattle.dst_commands.specs.Opened.{named_entry}
 use Rattle.dst_commands.specs.declared.opened.FoundFrame.{FoundFrame}
@@ -61,7 +61,7 @@ sound_is_written file form k b f w sound bytes a same is s count =
     (done_outcome (frame k b) file form (done sound (frame_line k (length sound) ∷ [])) a (is_done file form k b sound shaped))
 
 -- ---- a sink that is sure to take the sound doesn't fail
-pub sink_is_sure : (c : Command) (file out : List ℕ) (lines : List Line) (old new : Option (List ℕ)) (room : Option ℕ) → ReadsCoded c → AreBytes file → OutcomeOf c file (done out lines) →
+pub sink_is_sure : (c : Command) (file out : List ℕ) (lines : List Line) (old new : Option (List ℕ)) (room : Option ℕ) → HasOutcome c → AreBytes file → OutcomeOf c file (done out lines) →
     Stops (Unit {0}) out old new room → (o : Answer) → OutcomeOf c file o → (n : ℕ) → room ≡ Some n → length o.out ≤ n → ⊥
 sink_is_sure c file out lines old new room reads bytes is s o other n told fits =
     let long = ap (λ (a : Answer). length a.out) (one_answer c file o (done out lines) reads bytes other is) in

@@ -16,7 +16,7 @@ use Rattle.dsdiff_spec.specs.Lines.{Line, report, summary_lines, coded_summary_l
 use Rattle.dsdiff_spec.specs.Outcome.{Answer, done, frame_refused, Refuses, Shows, IsStopped, IsDone, OfCommand}
 use Rattle.dsdiff_spec.specs.declared.faults.FileFault.{FileFault}
 use Rattle.dst_spec.specs.declared.faults.FrameFault.{FrameFault}
-use Rattle.dsdiff_spec.proofs.OneAnswer.{ReadsCoded, command_has_one_outcome}
+use Rattle.dsdiff_spec.proofs.OneAnswer.{HasOutcome, command_has_one_outcome}
 use Rattle.dsdiff_spec.proofs.Verdicts.{NotRefused}
 use Rattle.dsdiff_chunks.specs.declared.open.OpenFault.{OpenFault}
 use Rattle.dsdiff_chunks.specs.declared.open.OpenFault.TheVariants.{Read, Memory, File}
@@ -47,13 +47,13 @@ pub show_outcome : (file : List ℕ) (form : Form) → IsAccepted (refusal show)
 show_outcome file form a = done_outcome show file form (done [] (show_lines form (entries file form))) a (tt, refl)
 
 -- ---- there is one
-pub one_answer : (c : Command) (file : List ℕ) (a b : Answer) → ReadsCoded c → AreBytes file → OutcomeOf c file a → OutcomeOf c file b → a ≡ b
+pub one_answer : (c : Command) (file : List ℕ) (a b : Answer) → HasOutcome c → AreBytes file → OutcomeOf c file a → OutcomeOf c file b → a ≡ b
 one_answer c file a b reads bytes p q =
     let one = command_has_one_outcome c file reads bytes in
     one.2 a p ∙ sym (one.2 b q)
 
 -- so a report of its lines doesn't fail where it is sure to take them
-pub report_is_sure : (c : Command) (file : List ℕ) (lines : List Line) (old new : Option (List ℕ)) (room : Option ℕ) → ReadsCoded c → AreBytes file → OutcomeOf c file (done [] lines) →
+pub report_is_sure : (c : Command) (file : List ℕ) (lines : List Line) (old new : Option (List ℕ)) (room : Option ℕ) → HasOutcome c → AreBytes file → OutcomeOf c file (done [] lines) →
     Stops (Unit {0}) (report lines) old new room → (o : Answer) → OutcomeOf c file o → (n : ℕ) → room ≡ Some n → length (report o.lines) ≤ n → ⊥
 report_is_sure c file lines old new room reads bytes is s o other n told fits =
     let same : report o.lines ≡ report lines = ap (λ (a : Answer). report a.lines) (one_answer c file o (done [] lines) reads bytes other is) in

@@ -7,7 +7,7 @@ use Rattle.dsdiff_spec.specs.Rules.{accepted}
 use Rattle.dsdiff_spec.specs.Words.{Command}
 use Rattle.dsdiff_spec.specs.Lines.{Line, report}
 use Rattle.dsdiff_spec.specs.Outcome.{Answer, done}
-use Rattle.dsdiff_spec.proofs.OneAnswer.{ReadsCoded}
+use Rattle.dsdiff_spec.proofs.OneAnswer.{HasOutcome}
 use Rattle.dst_read.specs.declared.faults.Reported.{Reported}
 use Rattle.dst_read.specs.declared.faults.ShowFault.{ShowFault}
 use Rattle.dst_read.specs.declared.faults.ShowFault.TheVariants.{Report}
@@ -15,7 +15,7 @@ use Rattle.dst_commands.specs.Commands.{OutcomeOf, shown}
 use Rattle.dst_read.specs.Reporting.{ReportEnds}
 use Rattle.dst_read.proofs.ReportedLines.{report_is_sure}
 
-pub reads_shown : (q : Option ℕ) → ReadsCoded (shown q)
+pub reads_shown : (q : Option ℕ) → HasOutcome (shown q)
 reads_shown None = tt
 reads_shown (Some k) = tt
 
@@ -40,6 +40,6 @@ pub told_short : (c : Command) (file : List ℕ) (old new : Option (List ℕ)) (
     (lines : List Line) × OutcomeOf c file (done [] lines) × IsCutShort old (report lines) new
 told_short c file old new room h = (h.0, h.1, h.2.cut)
 
-pub told_sure : (c : Command) (file : List ℕ) (old new : Option (List ℕ)) (room : Option ℕ) → ReadsCoded c → AreBytes file → ReportEnds (Err Report) c file old new room →
+pub told_sure : (c : Command) (file : List ℕ) (old new : Option (List ℕ)) (room : Option ℕ) → HasOutcome c → AreBytes file → ReportEnds (Err Report) c file old new room →
     (o : Answer) → OutcomeOf c file o → (n : ℕ) → room ≡ Some n → length (report o.lines) ≤ n → ⊥
 told_sure c file old new room reads bytes h = report_is_sure c file h.0 old new room reads bytes h.1 h.2

@@ -1,5 +1,5 @@
 // Decoding a coded file.
-ghost use Rattle.std.specs.Prelude.{◌≡◌, ◌⊎◌, ◌≤◌, ◌<◌, ℕ, List, length, Option, Some, IfOk, IfErr, OnOk, Err, ◌∷◌, []};
+ghost use Rattle.std.specs.Prelude.{◌≡◌, ◌⊎◌, ◌≤◌, ◌<◌, ℕ, true, List, length, Option, Some, IfOk, IfErr, OnOk, Err, ◌∷◌, []};
 ghost use Rattle.dst_spec.specs.declared.faults.FrameFault.{FrameFault};
 ghost use Rattle.dst_streams.specs.Causes.{Rose};
 ghost use Rattle.dst_streams.specs.Told.{IsCutShort, and_then};
@@ -45,6 +45,7 @@ pub fn decode_file<R: Threads + Sync, S: Source, K: Sink, G: Gate>(
         (out : List ℕ) × OutcomeOf decode file (done out (decoded_line s.frames s.bytes ∷ [])) × (K.written sink.new ≡ and_then (K.written sink.old) out)) }
     ensures frames { IfOk result (λ s. (file : List ℕ) → S.bytes source.old ≡ Some file → s.frames ≡ (accepted file).frames) }
     ensures size { IfOk result (λ s. (file : List ℕ) → S.bytes source.old ≡ Some file → s.bytes ≡ size_of_sound (accepted file)) }
+    ensures settled { IfOk result (λ _. K.settled sink.new ≡ true) }
     // a refused file, before anything is written
     ensures file { (fault : FileFault) → result ≡ Err (DecodeFault.Source (OpenFault.File fault)) → (file : List ℕ) → S.bytes source.old ≡ Some file → refusal decode file ≡ Some fault }
     ensures untouched { (fault : FileFault) → result ≡ Err (DecodeFault.Source (OpenFault.File fault)) → sink.new ≡ sink.old }
@@ -72,7 +73,7 @@ pub fn decode_file<R: Threads + Sync, S: Source, K: Sink, G: Gate>(
     write_decoded(rt, source, sink, &walked, gate, &mut workspace)
 }
 
-// Writes the plain file of an opened coded one.
+// Writes the plain file of an opened coded one, and has it settled.
 fn write_decoded<R: Threads + Sync, S: Source, K: Sink, G: Gate>(
     rt: &R,
     source: &mut S,
@@ -89,6 +90,7 @@ fn write_decoded<R: Threads + Sync, S: Source, K: Sink, G: Gate>(
     ensures sink_later { K.faults sink.old ≤ K.faults sink.new }
     ensures cause { IfErr result (λ fault. HasItsCause fault (S.faults source.old) (S.faults source.new) (K.faults sink.old) (K.faults sink.new)) }
     ensures done { IfOk result (λ d. d ≡ record { frames = walked.now.form.frames; bytes = size_of_sound (coded_seen walked.now.form) }) }
+    ensures settled { IfOk result (λ _. K.settled sink.new ≡ true) }
     ensures written { (file : List ℕ) → S.bytes source.old ≡ Some file →
         DecodingEnds result file (K.written sink.old) (K.written sink.new) (K.room sink.old) }
 {
@@ -105,6 +107,9 @@ fn write_decoded<R: Threads + Sync, S: Source, K: Sink, G: Gate>(
     if let Err(fault) = write_end(source, sink, form, size, &mut workspace.buffer) {
         return Err(fault_of_device(fault));
     }
+    let Ok(()) = sink.finish() else {
+        return Err(DecodeFault::Write);
+    };
     Ok(Decoded {
         frames: form.frames,
         bytes: size,

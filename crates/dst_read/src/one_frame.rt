@@ -1,7 +1,7 @@
 // The sound of one frame.
-ghost use Rattle.std.specs.Prelude.{◌≡◌, ◌≢◌, ◌+◌, ◌*◌, ◌<◌, ◌≤◌, ◌^◌, ℕ, true, List, [], ◌∷◌, length, Option, Some, None, IfOk, IfErr, Err};
+ghost use Rattle.std.specs.Prelude.{◌≡◌, ◌≢◌, ◌+◌, ◌*◌, ◌<◌, ◌≤◌, ◌^◌, ℕ, true, List, [], ◌∷◌, length, Option, Some, None, IfOk, IfErr, OnOk, Err, MatchResult};
 ghost use Rattle.dst_spec.specs.declared.faults.FrameFault.{FrameFault};
-ghost use Rattle.dst_streams.specs.Causes.{Rose};
+ghost use Rattle.dst_streams.specs.Causes.{Rose, HasCause};
 ghost use Rattle.dst_streams.specs.Told.{IsCutShort, and_then};
 ghost use Rattle.dsdiff_spec.specs.declared.faults.FileFault.{FileFault};
 ghost use Rattle.dsdiff_spec.specs.Form.{sound_bytes_of};
@@ -12,16 +12,17 @@ ghost use Rattle.dsdiff_spec.specs.Walk.{frame_at};
 ghost use Rattle.dsdiff_spec.specs.Words as words;
 ghost use Rattle.dsdiff_spec.specs.Outcome.{Answer, done, frame_refused};
 ghost use Rattle.frame_index.specs.Entries.{entry_seen};
-ghost use Rattle.dsdiff_chunks.specs.Opening.{Stops};
+ghost use Rattle.dsdiff_chunks.specs.Opening as opening;
 ghost use Rattle.dst_commands.specs.Commands.{OutcomeOf};
 ghost use Rattle.dst_commands.specs.Opened.{IsFound};
+ghost use Rattle.dst_commands.specs.Writing.{Stops};
 ghost use Rattle.dst_read.specs.OneFrame.{IsSoundOf, HasNoSound};
 
 use crate::faults::{DecodeFault, FrameWritten};
 use dsdiff_chunks::{OpenFault, read_range};
 use dst_commands::{FoundFrame, FrameByIndex, FrameByWalk, open_file};
 use dst_frames::{Scratch, decode_frame};
-use dst_streams::{Sink, Source};
+use dst_streams::{Failed, Sink, Source};
 use std::alloc::Global;
 
 /// Writes the sound of one frame, frames being counted from 0.
@@ -40,6 +41,7 @@ pub fn frame_out<S: Source, K: Sink>(
     // the sound is written whole
     ensures written { IfOk result (λ s. (file : List ℕ) → S.bytes source.old ≡ Some file →
         (out : List ℕ) × OutcomeOf (words.frame frame by_index) file (done out (frame_line frame s.bytes ∷ [])) × (K.written sink.new ≡ and_then (K.written sink.old) out)) }
+    ensures settled { IfOk result (λ _. K.settled sink.new ≡ true) }
     // a refused file, or a refused frame
     ensures file { (fault : FileFault) → result ≡ Err (DecodeFault.Source (OpenFault.File fault)) → (file : List ℕ) → S.bytes source.old ≡ Some file → refusal (words.frame frame by_index) file ≡ Some fault }
     ensures frame { (k : ℕ) (fault : FrameFault) → result ≡ Err (DecodeFault.Frame k fault) → (file : List ℕ) → S.bytes source.old ≡ Some file → OutcomeOf (words.frame frame by_index) file (frame_refused k fault []) }
@@ -64,12 +66,26 @@ pub fn frame_out<S: Source, K: Sink>(
         Ok(sound) => sound,
         Err(fault) => return Err(fault),
     };
-    match sink.append(&sound) {
+    match write_sound(sink, &sound) {
         Ok(()) => Ok(FrameWritten {
             bytes: sound.len() as u64,
         }),
         Err(_) => Err(DecodeFault::Write),
     }
+}
+
+// Appends a sound, and has it settled.
+fn write_sound<K: Sink>(sink: &mut K, sound: &[u8]) -> Result<(), Failed>
+    ensures cause { HasCause (K.faults sink.old) (K.faults sink.new) result }
+    ensures written { MatchResult result
+        (λ _. K.written sink.new ≡ and_then (K.written sink.old) sound.now)
+        (λ _. Stops (Unit {0}) sound.now (K.written sink.old) (K.written sink.new) (K.room sink.old)) }
+    ensures settled { OnOk result (K.settled sink.new ≡ true) }
+{
+    let Ok(()) = sink.append(sound) else {
+        return Err(Failed);
+    };
+    sink.finish()
 }
 
 // Opens a coded file, and finds one of its frames, by the walk or by the index in the file.
@@ -85,7 +101,7 @@ fn open_frame<S: Source>(
     ensures size { IfOk result (λ f. (n : ℕ) × (S.known source.new ≡ Some n) × (f.form.end ≤ n)) }
     ensures accepted { IfOk result (λ _. (file : List ℕ) → S.bytes source.old ≡ Some file → refusal (words.frame number by_index) file ≡ None) }
     ensures found { IfOk result (λ f. (file : List ℕ) → S.bytes source.old ≡ Some file → IsFound by_index file number f) }
-    ensures stops { IfErr result (Stops (refusal (words.frame number by_index)) (S.bytes source.old) (S.faults source.old) (S.faults source.new)) }
+    ensures stops { IfErr result (opening.Stops (refusal (words.frame number by_index)) (S.bytes source.old) (S.faults source.old) (S.faults source.new)) }
 {
     if by_index {
         open_file(alloc, source, &FrameByIndex { number })

@@ -1,5 +1,5 @@
 -- The answer of a command is told from its faults in the words of the report.
-use Rattle.std.proofs.Common.{◌≡◌, ℕ, Result, Ok, Err, IfOk, refl, ap, sym, ◌∙◌}
+use Rattle.std.proofs.Common.{◌≡◌, ℕ, Result, Ok, Err, IfOk, OnOk, refl, ap, sym, ◌∙◌}
 use Rattle.dst_spec.specs.declared.faults.FrameFault.{FrameFault}
 use Rattle.dsdiff_chunks.specs.declared.open.OpenFault.TheVariants as opening
 use Rattle.dst_read.specs.declared.faults.DecodeFault.{DecodeFault}
@@ -10,15 +10,22 @@ use Rattle.dst_read.specs.declared.faults.ShowFault.{ShowFault}
 use Rattle.dst_read.specs.declared.faults.ShowFault.TheVariants as showing
 use Rattle.dst_read.specs.declared.faults.ListFault.{ListFault}
 use Rattle.dst_read.specs.declared.faults.ListFault.TheVariants as listing
+use Rattle.dst_write.specs.declared.faults.EncodeFault.{EncodeFault}
+use Rattle.dst_write.specs.declared.faults.EncodeFault.TheVariants as encoding
 use Rattle.dst_tool.specs.declared.answers.Numbers.{Numbers}
 use Rattle.dst_tool.specs.declared.answers.Fault.{Fault}
 use Rattle.dst_tool.specs.declared.answers.Fault.TheVariants.{Read, Write, Memory, Report, File, Frame}
-use Rattle.dst_tool.specs.Answers.{answered, of_check, of_decode, of_list, of_show}
+use Rattle.dst_tool.specs.Answers.{answered, of_check, of_decode, of_encode, of_list, of_show}
 
 -- what is done is so in these words too
 pub if_answered : {A E : Type 0} (f : A → Numbers) (h : E → Fault) (r : Result A E) (P : Numbers → Type 0) → IfOk r (λ a. P (f a)) → IfOk (answered f h r) P
 if_answered f h (Ok a) P is = is
 if_answered f h (Err e) P is = tt {0}
+
+-- so is what holds of a command that is done
+pub if_done : {A E P : Type 0} (f : A → Numbers) (h : E → Fault) (r : Result A E) (s : Numbers) → answered f h r ≡ Ok s → OnOk r P → P
+if_done f h (Ok a) s e is = is
+if_done f h (Err x) s e is = absurd cc
 
 -- a fault is the one that it came from
 same_fault : (a b : Fault) → ◌≡◌ {A = Result Numbers Fault} (Err a) (Err b) → a ≡ b
@@ -27,6 +34,32 @@ same_fault a b e = cc
 pub back_from : {A E : Type 0} (f : A → Numbers) (h : E → Fault) (back : Fault → E) → ((e : E) → back (h e) ≡ e) → (r : Result A E) (fault : Fault) → answered f h r ≡ Err fault → r ≡ Err (back fault)
 back_from f h back is (Ok a) fault e = absurd cc
 back_from f h back is (Err x) fault e = ap Err (sym (is x) ∙ ap back (same_fault (h x) fault e))
+
+abbrev pub to_encode : Fault → EncodeFault
+to_encode Read = encoding.Source opening.Read
+to_encode Memory = encoding.Source opening.Memory
+to_encode (File fault) = encoding.Source (opening.File fault)
+to_encode fault = encoding.Write
+
+pub encode_again : (e : EncodeFault) → to_encode (of_encode e) ≡ e
+encode_again (encoding.Source opening.Read) = refl
+encode_again (encoding.Source opening.Memory) = refl
+encode_again (encoding.Source (opening.File fault)) = refl
+encode_again encoding.Write = refl
+
+pub encode_reports : {A : Type 0} (f : A → Numbers) (r : Result A EncodeFault) → answered f of_encode r ≡ Err Report → ⊥
+encode_reports f (Ok a) e = absurd cc
+encode_reports f (Err (encoding.Source opening.Read)) e = absurd cc
+encode_reports f (Err (encoding.Source opening.Memory)) e = absurd cc
+encode_reports f (Err (encoding.Source (opening.File fault))) e = absurd cc
+encode_reports f (Err encoding.Write) e = absurd cc
+
+pub encode_refuses : {A : Type 0} (f : A → Numbers) (r : Result A EncodeFault) (k : ℕ) (fault : FrameFault) → answered f of_encode r ≡ Err (Frame k fault) → ⊥
+encode_refuses f (Ok a) k fault e = absurd cc
+encode_refuses f (Err (encoding.Source opening.Read)) k fault e = absurd cc
+encode_refuses f (Err (encoding.Source opening.Memory)) k fault e = absurd cc
+encode_refuses f (Err (encoding.Source (opening.File other))) k fault e = absurd cc
+encode_refuses f (Err encoding.Write) k fault e = absurd cc
 
 abbrev pub to_decode : Fault → DecodeFault
 to_decode Read = decoding.Source opening.Read

@@ -3,3 +3,4 @@ pub mod OneLine
 pub mod OwnLines
 pub mod Runs
 pub mod Inverting
+pub mod Coding

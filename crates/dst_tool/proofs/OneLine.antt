@@ -8,27 +8,27 @@ use Rattle.dst_streams.specs.Told.{and_then, IsCutShort}
 use Rattle.dsdiff_spec.specs.declared.faults.FileFault.{FileFault}
 use Rattle.dsdiff_spec.specs.Form.{sound_bytes_of}
 use Rattle.dsdiff_spec.specs.Rules.{accepted}
-use Rattle.dsdiff_spec.specs.Words.{Command, decode, frame, check, show, show_frame, index}
+use Rattle.dsdiff_spec.specs.Words.{Command, encode, decode, cut, frame, check, show, show_frame, index, make, make_run, encode_dsf, decode_dsf, range}
 use Rattle.dsdiff_spec.specs.Refusal.{refusal}
 use Rattle.dsdiff_spec.specs.Lines.{Line, report}
 use Rattle.dsdiff_spec.specs.Outcome.{Answer, done, file_refused, frame_refused, OfCommand}
 use Rattle.dsdiff_spec.proofs.Stopping.{One}
-use Rattle.dsdiff_spec.proofs.OneAnswer.{ReadsCoded, command_has_one_outcome}
+use Rattle.dsdiff_spec.proofs.OneAnswer.{HasOutcome, command_has_one_outcome}
 use Rattle.dst_tool.specs.declared.answers.Numbers.{Numbers}
 use Rattle.dst_tool.specs.declared.answers.Fault.{Fault}
 use Rattle.dst_tool.specs.declared.answers.Fault.TheVariants.{Read, Write, Memory, Report, File, Frame}
 use Rattle.dst_tool.specs.Answers.{status_of, done_line, fault_line, line_of}
 use Rattle.dst_commands.specs.Commands.{OutcomeOf}
-use Rattle.dst_tool.specs.Runs.{DidNotRise, EndsAsOne, EndsBy, Reports, WritesNowhere, most_given, longest_sound, Counts, Held, IsRun}
-use Rattle.dst_tool.proofs.Statuses.{status_is_read, status_is_write, status_is_memory, status_is_file, status_is_not_words, status_is_below}
+use Rattle.dst_tool.specs.Runs.{DidNotRise, WholeOf, PartOf, EndsAsOne, EndsBy, Reports, WritesNowhere, WritesFile, most_given, longest_sound, Counts, Held, IsRun}
+use Rattle.dst_tool.proofs.Statuses.{status_is_done, status_is_read, status_is_write, status_is_memory, status_is_file, status_is_not_words, status_is_below}
 use Rattle.dst_commands.proofs.Writing.{and_then-nothing}
 
 pub record IsAnswer (c : Command) (r : Result Numbers Fault) (file : List ℕ) (old new : Option (List ℕ)) : Type 0 where
-  pub finished : IfOk r (λ s. (out : List ℕ) × OutcomeOf c file (done out (done_line c s ∷ [])) × (new ≡ and_then old out))
+  pub finished : IfOk r (λ s. (out : List ℕ) × OutcomeOf c file (done out (done_line c s ∷ [])) × WholeOf (Some c) out old new)
   pub file_is : (fault : FileFault) → r ≡ Err (File fault) → refusal c file ≡ Some fault
   pub untouched : (fault : FileFault) → r ≡ Err (File fault) → new ≡ old
   pub frame_is : (k : ℕ) (fault : FrameFault) → r ≡ Err (Frame k fault) → (out : List ℕ) × OutcomeOf c file (frame_refused k fault out) × (new ≡ and_then old out)
-  pub cut_short : (r ≡ Err Read) ⊎ (r ≡ Err Write) → (o : Answer) × OutcomeOf c file o × IsCutShort old o.out new
+  pub cut_short : (r ≡ Err Read) ⊎ (r ≡ Err Write) → (o : Answer) × OutcomeOf c file o × PartOf (Some c) file o.out old new
   pub memory : r ≡ Err Memory → new ≡ old
   pub no_report : r ≡ Err Report → ⊥
 
@@ -37,22 +37,38 @@ pub at_file : {A E : Type 0} (r : Result A E) (P : A → List ℕ → Type 0) (b
 at_file (Ok s) P bytes file told h = h file told
 at_file (Err fault) P bytes file told h = tt {0}
 
+-- ---- what is added to a sink
+pub whole_of : (c : Command) (out : List ℕ) (old new : Option (List ℕ)) → new ≡ and_then old out → WholeOf (Some c) out old new
+whole_of (encode level) out old new e = λ nothing. e
+whole_of decode out old new e = e
+whole_of (cut first last) out old new e = e
+whole_of (frame k by_index) out old new e = e
+whole_of check out old new e = e
+whole_of show out old new e = e
+whole_of (show_frame k) out old new e = e
+whole_of index out old new e = e
+whole_of (make start frames channels multiple) out old new e = e
+whole_of (make_run start frames channels multiple) out old new e = e
+whole_of (encode_dsf level) out old new e = e
+whole_of decode_dsf out old new e = e
+whole_of (range pairs) out old new e = e
+
 -- ---- how it ends
 pub refusal_is : (c : Command) (file : List ℕ) (fault : FileFault) → refusal c file ≡ Some fault → OutcomeOf c file (file_refused fault)
 refusal_is c file fault e = subst (λ q. OfCommand c file q (file_refused fault)) (sym e) refl
 
-done_ends : (c : Command) (s : Numbers) (file : List ℕ) (old new : Option (List ℕ)) → IsAnswer c (Ok s) file old new → EndsAsOne (OutcomeOf c file) 0 (line_of c (Ok s) ∷ []) old new
+done_ends : (c : Command) (s : Numbers) (file : List ℕ) (old new : Option (List ℕ)) → IsAnswer c (Ok s) file old new → EndsAsOne (OutcomeOf c file) (Some c) 0 (line_of c (Ok s) ∷ []) old new
 done_ends c s file old new a = (done a.finished.0 (done_line c s ∷ []), a.finished.1, refl, refl, a.finished.2)
 
-file_ends : (c : Command) (fault : FileFault) (file : List ℕ) (old new : Option (List ℕ)) → IsAnswer c (Err (File fault)) file old new → EndsAsOne (OutcomeOf c file) 5 (fault_line (File fault) ∷ []) old new
-file_ends c fault file old new a = (file_refused fault, refusal_is c file fault (a.file_is fault refl), refl, refl, a.untouched fault refl ∙ sym (and_then-nothing old))
+file_ends : (c : Command) (fault : FileFault) (file : List ℕ) (old new : Option (List ℕ)) → IsAnswer c (Err (File fault)) file old new → EndsAsOne (OutcomeOf c file) (Some c) 5 (fault_line (File fault) ∷ []) old new
+file_ends c fault file old new a = (file_refused fault, refusal_is c file fault (a.file_is fault refl), refl, refl, whole_of c [] old new (a.untouched fault refl ∙ sym (and_then-nothing old)))
 
-frame_ends : (c : Command) (k : ℕ) (fault : FrameFault) (file : List ℕ) (old new : Option (List ℕ)) → IsAnswer c (Err (Frame k fault)) file old new → EndsAsOne (OutcomeOf c file) 6 (fault_line (Frame k fault) ∷ []) old new
+frame_ends : (c : Command) (k : ℕ) (fault : FrameFault) (file : List ℕ) (old new : Option (List ℕ)) → IsAnswer c (Err (Frame k fault)) file old new → EndsAsOne (OutcomeOf c file) (Some c) 6 (fault_line (Frame k fault) ∷ []) old new
 frame_ends c k fault file old new a =
     let f = a.frame_is k fault refl in
-    (frame_refused k fault f.0, f.1, refl, refl, f.2)
+    (frame_refused k fault f.0, f.1, refl, refl, whole_of c f.0 old new f.2)
 
-pub answer_ends : (c : Command) (r : Result Numbers Fault) (file : List ℕ) (old new : Option (List ℕ)) → IsAnswer c r file old new → EndsBy (OutcomeOf c file) ⊤ (status_of r) (line_of c r ∷ []) old new
+pub answer_ends : (c : Command) (r : Result Numbers Fault) (file : List ℕ) (old new : Option (List ℕ)) → IsAnswer c r file old new → EndsBy (OutcomeOf c file) (Some c) file ⊤ (status_of r) (line_of c r ∷ []) old new
 answer_ends c (Ok s) file old new a = inr (inr (inr (done_ends c s file old new a)))
 answer_ends c (Err Read) file old new a = inl (refl, refl, a.cut_short (inl refl))
 answer_ends c (Err Write) file old new a = inr (inl (refl, refl, a.cut_short (inr refl)))
@@ -62,12 +78,12 @@ answer_ends c (Err (Frame k fault)) file old new a = inr (inr (inr (frame_ends c
 answer_ends c (Err Report) file old new a = absurd (a.no_report refl)
 
 -- ---- a report that is sure to take the outcome's lines takes the line
-pub same_lines : (c : Command) (file : List ℕ) (status : ℕ) (lines : List Line) (old new : Option (List ℕ)) (o : Answer) → ReadsCoded c → AreBytes file → OutcomeOf c file o → EndsAsOne (OutcomeOf c file) status lines old new → o.lines ≡ lines
+pub same_lines : (c : Command) (file : List ℕ) (status : ℕ) (lines : List Line) (old new : Option (List ℕ)) (o : Answer) → HasOutcome c → AreBytes file → OutcomeOf c file o → EndsAsOne (OutcomeOf c file) (Some c) status lines old new → o.lines ≡ lines
 same_lines c file status lines old new o reads bytes h (p, is, st, same, w) =
     let one = command_has_one_outcome c file reads bytes in
     ap (λ (a : Answer). a.lines) (one.2 o h ∙ sym (one.2 p is)) ∙ same
 
-line_fits : (c : Command) (r : Result Numbers Fault) (file : List ℕ) (old new : Option (List ℕ)) (o : Answer) (n : ℕ) → ReadsCoded c → AreBytes file → IsAnswer c r file old new → OutcomeOf c file o →
+line_fits : (c : Command) (r : Result Numbers Fault) (file : List ℕ) (old new : Option (List ℕ)) (o : Answer) (n : ℕ) → HasOutcome c → AreBytes file → IsAnswer c r file old new → OutcomeOf c file o →
     (r ≡ Err Read → ⊥) → (r ≡ Err Write → ⊥) → 7 ≤ n → length (report o.lines) ≤ n → length (report (line_of c r ∷ [])) ≤ n
 line_fits c (Ok s) file old new o n reads bytes a h no_read no_write least fits = subst (λ lines. length (report lines) ≤ n) (same_lines c file 0 (line_of c (Ok s) ∷ []) old new o reads bytes h (done_ends c s file old new a)) fits
 line_fits c (Err Read) file old new o n reads bytes a h no_read no_write least fits = absurd (no_read refl)
@@ -81,8 +97,8 @@ line_fits c (Err Report) file old new o n reads bytes a h no_read no_write least
 -- ---- the line is reported, or the report failed
 pub reports_line : (status result : ℕ) (line : Line) (old new : Option (List ℕ)) → (result ≡ status) ⊎ (result ≡ 7) → (result ≡ status → new ≡ and_then old (report (line ∷ []))) → (result ≡ 7 → IsCutShort old (report (line ∷ [])) new) →
     Reports status (line ∷ []) result old new
-reports_line status result line old new (inl e) whole cut = inl (e, whole e)
-reports_line status result line old new (inr e) whole cut = inr (e, cut e)
+reports_line status result line old new (inl e) whole short = inl (e, whole e)
+reports_line status result line old new (inr e) whole short = inr (e, short e)
 
 -- a status below 7 is that of the answer
 pub status_told : (status result want : ℕ) → (result ≡ status) ⊎ (result ≡ 7) → result ≡ want → want < 7 → status ≡ want
@@ -97,21 +113,22 @@ pub record TellsLine (status : ℕ) (line : Line) (result : ℕ) (counts : Count
   pub sure : result ≡ 7 → (n : ℕ) → told.room ≡ Some n → length (report (line ∷ [])) ≤ n → ⊥
 
 -- ---- the run
-pub record HasCauses (c : Command) (r : Result Numbers Fault) (bytes : Option (List ℕ)) (source sink given : Counts) (written : Held) (Same : Type 0) : Type 0 where
+pub record HasCauses (c : Command) (r : Result Numbers Fault) (bytes : Option (List ℕ)) (source sink given : Counts) (written : Held) (Same Settled : Type 0) : Type 0 where
   pub read : r ≡ Err Read → Rose source.before source.now
   pub write : r ≡ Err Write → Rose sink.before sink.now
   pub sure : r ≡ Err Write → (file : List ℕ) → bytes ≡ Some file → (o : Answer) → OutcomeOf c file o → (n : ℕ) → written.room ≡ Some n → length o.out ≤ n → ⊥
   pub memory : r ≡ Err Memory → Same
   pub untouched : (fault : FileFault) → r ≡ Err (File fault) → Same
   pub idle : WritesNowhere c → Same
+  pub settled : WritesFile c → (s : Numbers) → r ≡ Ok s → Settled
   pub by_index : (k : ℕ) → c ≡ frame k true → (file : List ℕ) → bytes ≡ Some file → given.now ≤ given.before + most_given (sound_bytes_of (accepted file))
   pub any_source : (k : ℕ) → c ≡ frame k true → given.now ≤ given.before + most_given longest_sound
   pub no_report : r ≡ Err Report → ⊥
 
-pub run_of_answer : (c : Command) (r : Result Numbers Fault) (result : ℕ) (bytes : Option (List ℕ)) (source sink counts given : Counts) (written told : Held) (Same : Type 0) → ReadsCoded c →
+pub run_of_answer : (c : Command) (r : Result Numbers Fault) (result : ℕ) (bytes : Option (List ℕ)) (source sink counts given : Counts) (written told : Held) (Same Settled : Type 0) → HasOutcome c →
     ((file : List ℕ) → bytes ≡ Some file → AreBytes file) → ((file : List ℕ) → bytes ≡ Some file → IsAnswer c r file written.old written.new) →
-    HasCauses c r bytes source sink given written Same → TellsLine (status_of r) (line_of c r) result counts told → IsRun c result bytes source sink counts given written told Same
-run_of_answer c r result bytes source sink counts given written told Same reads are answer h t = record {
+    HasCauses c r bytes source sink given written Same Settled → TellsLine (status_of r) (line_of c r) result counts told → IsRun c result bytes source sink counts given written told Same Settled
+run_of_answer c r result bytes source sink counts given written told Same Settled reads are answer h t = record {
   ends = λ file e. (status_of r, line_of c r ∷ [], answer_ends c r file written.old written.new (answer file e), reports_line (status_of r) result (line_of c r) told.old told.new t.reported t.whole t.cut_short);
   read = λ e. h.read (status_is_read r (status_told (status_of r) result 2 t.reported e (omega arith)));
   write = λ e. h.write (status_is_write r (status_told (status_of r) result 3 t.reported e (omega arith)));
@@ -122,6 +139,7 @@ run_of_answer c r result bytes source sink counts given written told Same reads 
   memory = λ e. h.memory (status_is_memory r (status_told (status_of r) result 4 t.reported e (omega arith)));
   file_refused = λ e. let f = status_is_file r (status_told (status_of r) result 5 t.reported e (omega arith)) in h.untouched f.0 f.1;
   idle = h.idle;
+  settled = λ w e. let d = status_is_done r (status_told (status_of r) result 0 t.reported e (omega arith)) in h.settled w d.0 d.1;
   by_index = h.by_index;
   any_source = h.any_source;
   least_status = λ e. status_is_not_words r (status_told (status_of r) result 1 t.reported e (omega arith));
@@ -133,8 +151,11 @@ run_of_answer c r result bytes source sink counts given written told Same reads 
     most (inr e) = omega arith
 
 -- a run of one command is a run of the same one
-pub same_run : {a c : Command} {result : ℕ} {bytes : Option (List ℕ)} {source sink counts given : Counts} {written told : Held} {Same : Type 0} → a ≡ c → IsRun c result bytes source sink counts given written told Same → IsRun a result bytes source sink counts given written told Same
-same_run {a} {c} {result} {bytes} {source} {sink} {counts} {given} {written} {told} {Same} e h = subst (λ c. IsRun c result bytes source sink counts given written told Same) (sym e) h
+pub same_run : {a c : Command} {result : ℕ} {bytes : Option (List ℕ)} {source sink counts given : Counts} {written told : Held} {Same Settled : Type 0} → a ≡ c → IsRun c result bytes source sink counts given written told Same Settled → IsRun a result bytes source sink counts given written told Same Settled
+same_run {a} {c} {result} {bytes} {source} {sink} {counts} {given} {written} {told} {Same} {Settled} e h = subst (λ c. IsRun c result bytes source sink counts given written told Same Settled) (sym e) h
+
+pub encoding_is_no_frame : (level k : ℕ) → encode level ≡ frame k true → ⊥
+encoding_is_no_frame level k e = absurd cc
 
 pub decoding_is_no_frame : (k : ℕ) → decode ≡ frame k true → ⊥
 decoding_is_no_frame k e = absurd cc
@@ -169,11 +190,42 @@ not_both_faults r a b e f = same (sym e ∙ f)
     same : ◌≡◌ {A = Result Numbers Fault} (Err a) (Err b) → a ≡ b
     same h = cc
 
+-- a command that makes no call on the sink
+pub nothing_of : (c : Command) (file out : List ℕ) (old : Option (List ℕ)) → WritesNowhere c → PartOf (Some c) file out old old
+nothing_of check file out old w = nothing_cut old out
+nothing_of show file out old w = nothing_cut old out
+nothing_of (show_frame k) file out old w = nothing_cut old out
+nothing_of index file out old w = nothing_cut old out
+nothing_of (encode level) file out old w = absurd w
+nothing_of decode file out old w = absurd w
+nothing_of (cut first last) file out old w = absurd w
+nothing_of (frame k by_index) file out old w = absurd w
+nothing_of (make start frames channels multiple) file out old w = absurd w
+nothing_of (make_run start frames channels multiple) file out old w = absurd w
+nothing_of (encode_dsf level) file out old w = absurd w
+nothing_of decode_dsf file out old w = absurd w
+nothing_of (range pairs) file out old w = absurd w
+
+pub not_both_kinds : (c : Command) → WritesNowhere c → WritesFile c → ⊥
+not_both_kinds (encode level) w f = w
+not_both_kinds decode w f = w
+not_both_kinds (cut first last) w f = w
+not_both_kinds (frame k by_index) w f = w
+not_both_kinds check w f = f
+not_both_kinds show w f = f
+not_both_kinds (show_frame k) w f = f
+not_both_kinds index w f = f
+not_both_kinds (make start frames channels multiple) w f = w
+not_both_kinds (make_run start frames channels multiple) w f = w
+not_both_kinds (encode_dsf level) w f = w
+not_both_kinds decode_dsf w f = w
+not_both_kinds (range pairs) w f = w
+
 -- where the source failed nothing is written; where the sink did, a prefix
 pub cut_or_nothing : (c : Command) (r : Result Numbers Fault) (file : List ℕ) (old new : Option (List ℕ)) → One (OutcomeOf c file) → (r ≡ Err Read → new ≡ old) → (r ≡ Err Write → (o : Answer) × OutcomeOf c file o × IsCutShort old o.out new) →
     (r ≡ Err Read) ⊎ (r ≡ Err Write) → (o : Answer) × OutcomeOf c file o × IsCutShort old o.out new
-cut_or_nothing c r file old new one nothing cut (inl e) = (one.0, one.1, subst (λ w. IsCutShort old one.0.out w) (sym (nothing e)) (nothing_cut old one.0.out))
-cut_or_nothing c r file old new one nothing cut (inr e) = cut e
+cut_or_nothing c r file old new one nothing short (inl e) = (one.0, one.1, subst (λ w. IsCutShort old one.0.out w) (sym (nothing e)) (nothing_cut old one.0.out))
+cut_or_nothing c r file old new one nothing short (inr e) = short e
 
 -- ---- bytes of the source that one frame takes
 pub few_given : (now before size : ℕ) → now ≤ before + 208974 + 2 * size → now ≤ before + most_given size

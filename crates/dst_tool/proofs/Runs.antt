@@ -13,9 +13,8 @@ use Rattle.dsdiff_spec.specs.Refusal.{refusal}
 use Rattle.dsdiff_spec.specs.Lines.{Line, report, words_line, file_line, frame_fault_line}
 use Rattle.dsdiff_spec.specs.Outcome.{Answer, not_understood, file_refused, frame_refused, NoneRefused, run, IsStopped, Does, IsDone, OfCommand, OfWords, Outcome}
 use Rattle.dsdiff_spec.proofs.Stopping.{not_both}
-use Rattle.dsdiff_spec.proofs.OneAnswer.{ReadsCoded}
 use Rattle.dst_commands.specs.Commands.{OutcomeOf}
-use Rattle.dst_tool.specs.Runs.{DidNotRise, EndsAsOne, EndsBy, EndsAs, Ends, Reports, IsRefused, NoFrameIsRefused, Counts, Held, IsRun}
+use Rattle.dst_tool.specs.Runs.{DidNotRise, WholeOf, PartOf, EndsAsOne, EndsBy, EndsAs, Ends, Reports, IsRefused, NoFrameIsRefused, Counts, Held, IsRun}
 use Rattle.dst_commands.proofs.Writing.{and_then-nothing}
 
 -- ---- words and their command
@@ -38,12 +37,14 @@ some_command words c e f = neither (sym e ∙ f)
     neither h = absurd cc
 
 -- ---- how it ends
-pub as_one : (words : List Word) (c : Command) (file : List ℕ) (status : ℕ) (lines : List Line) (old new : Option (List ℕ)) → command_of words ≡ Some c → EndsAsOne (OutcomeOf c file) status lines old new → EndsAs words file status lines old new
-as_one words c file status lines old new e (o, is, s, l, w) = (o, of_words words c file o e is, s, l, w)
+pub as_one : (words : List Word) (c : Command) (file : List ℕ) (status : ℕ) (lines : List Line) (old new : Option (List ℕ)) → command_of words ≡ Some c → EndsAsOne (OutcomeOf c file) (Some c) status lines old new →
+    EndsAs words file status lines old new
+as_one words c file status lines old new e (o, is, s, l, w) = (o, of_words words c file o e is, s, l, subst (λ r. WholeOf r o.out old new) (sym e) w)
 
-pub ends_of_words : (words : List Word) (c : Command) (file : List ℕ) (status : ℕ) (lines : List Line) (old new : Option (List ℕ)) → command_of words ≡ Some c → EndsBy (OutcomeOf c file) ⊤ status lines old new → Ends words file status lines old new
-ends_of_words words c file status lines old new e (inl (s, l, (o, is, piece))) = inl (s, l, (o, of_words words c file o e is, piece))
-ends_of_words words c file status lines old new e (inr (inl (s, l, (o, is, piece)))) = inr (inl (s, l, (o, of_words words c file o e is, piece)))
+pub ends_of_words : (words : List Word) (c : Command) (file : List ℕ) (status : ℕ) (lines : List Line) (old new : Option (List ℕ)) → command_of words ≡ Some c → EndsBy (OutcomeOf c file) (Some c) file ⊤ status lines old new →
+    Ends words file status lines old new
+ends_of_words words c file status lines old new e (inl (s, l, (o, is, piece))) = inl (s, l, (o, of_words words c file o e is, subst (λ r. PartOf r file o.out old new) (sym e) piece))
+ends_of_words words c file status lines old new e (inr (inl (s, l, (o, is, piece)))) = inr (inl (s, l, (o, of_words words c file o e is, subst (λ r. PartOf r file o.out old new) (sym e) piece)))
 ends_of_words words c file status lines old new e (inr (inr (inl (s, l, free, w)))) = inr (inr (inl (s, l, some_command words c e, w)))
 ends_of_words words c file status lines old new e (inr (inr (inr h))) = inr (inr (inr (as_one words c file status lines old new e h)))
 
@@ -51,11 +52,11 @@ ends_of_words words c file status lines old new e (inr (inr (inr h))) = inr (inr
 abbrev pub Headline : List Word → List ℕ → ℕ → Option (List ℕ) → Option (List ℕ) → Option (List ℕ) → Option (List ℕ) → Type 0
 Headline words file result old new told_old told_new = (result ≡ 4) ⊎ ((lines : List Line) × EndsAs words file result lines old new × (told_new ≡ and_then told_old (report lines)))
 
-pub run_headline : (words : List Word) (c : Command) (file : List ℕ) (result : ℕ) (bytes : Option (List ℕ)) (source sink counts given : Counts) (written told : Held) (Same : Type 0) → command_of words ≡ Some c → IsRun c result bytes source sink counts given written told Same → bytes ≡ Some file →
+pub run_headline : (words : List Word) (c : Command) (file : List ℕ) (result : ℕ) (bytes : Option (List ℕ)) (source sink counts given : Counts) (written told : Held) (Same Settled : Type 0) → command_of words ≡ Some c → IsRun c result bytes source sink counts given written told Same Settled → bytes ≡ Some file →
     DidNotRise source.before source.now → DidNotRise sink.before sink.now → DidNotRise counts.before counts.now → Headline words file result written.old written.new told.old told.new
-run_headline words c file result bytes source sink counts given written told Same e r is no_read no_write no_report = go (r.ends file is).0 (r.ends file is).1 (r.ends file is).2 (r.ends file is).3
+run_headline words c file result bytes source sink counts given written told Same Settled e r is no_read no_write no_report = go (r.ends file is).0 (r.ends file is).1 (r.ends file is).2 (r.ends file is).3
   where
-    go : (status : ℕ) (lines : List Line) → EndsBy (OutcomeOf c file) ⊤ status lines written.old written.new → Reports status lines result told.old told.new → Headline words file result written.old written.new told.old told.new
+    go : (status : ℕ) (lines : List Line) → EndsBy (OutcomeOf c file) (Some c) file ⊤ status lines written.old written.new → Reports status lines result told.old told.new → Headline words file result written.old written.new told.old told.new
     go status lines ends (inr (seven, piece)) = absurd (no_report (r.reported seven))
     go status lines (inl (s, l, short)) (inl (same, w)) = absurd (no_read (r.read (same ∙ s)))
     go status lines (inr (inl (s, l, short))) (inl (same, w)) = absurd (no_write (r.write (same ∙ s)))
@@ -71,10 +72,10 @@ done_is_0 check file form o (sounds, all, e) = ap (λ (a : Answer). a.status) e
 done_is_0 show file form o e = ap (λ (a : Answer). a.status) e
 done_is_0 (show_frame k) file form o (line, shows, e) = ap (λ (a : Answer). a.status) e
 done_is_0 index file form o e = ap (λ (a : Answer). a.status) e
-done_is_0 (encode level) file form o h = absurd h
-done_is_0 (cut first last) file form o h = absurd h
-done_is_0 (make start frames channels multiple) file form o h = absurd h
-done_is_0 (make_run start frames channels multiple) file form o h = absurd h
+done_is_0 (encode level) file form o e = ap (λ (a : Answer). a.status) e
+done_is_0 (cut first last) file form o e = ap (λ (a : Answer). a.status) e
+done_is_0 (make start frames channels multiple) file form o e = ap (λ (a : Answer). a.status) e
+done_is_0 (make_run start frames channels multiple) file form o e = ap (λ (a : Answer). a.status) e
 done_is_0 (encode_dsf level) file form o h = absurd h
 done_is_0 decode_dsf file form o h = absurd h
 done_is_0 (range pairs) file form o h = absurd h
@@ -94,11 +95,11 @@ refused_file c file o (Some fault) e h five = (fault, e, ap (λ (a : Answer). a.
 refused_file c file o None e (inl s) five = let six = ap (λ (a : Answer). a.status) s.answer in absurd (omega arith)
 refused_file c file o None e (inr h) five = let zero_status = done_is_0 c file (accepted file) o h.1 in absurd (omega arith)
 
-pub run_refused : (words : List Word) (c : Command) (file : List ℕ) (result : ℕ) (bytes : Option (List ℕ)) (source sink counts given : Counts) (written told : Held) (Same : Type 0) → command_of words ≡ Some c → IsRun c result bytes source sink counts given written told Same → bytes ≡ Some file → result ≡ 5 →
+pub run_refused : (words : List Word) (c : Command) (file : List ℕ) (result : ℕ) (bytes : Option (List ℕ)) (source sink counts given : Counts) (written told : Held) (Same Settled : Type 0) → command_of words ≡ Some c → IsRun c result bytes source sink counts given written told Same Settled → bytes ≡ Some file → result ≡ 5 →
     (fault : FileFault) × IsRefused words file fault × (told.new ≡ and_then told.old (report (file_line fault ∷ [])))
-run_refused words c file result bytes source sink counts given written told Same e r is five = go (r.ends file is).0 (r.ends file is).1 (r.ends file is).2 (r.ends file is).3
+run_refused words c file result bytes source sink counts given written told Same Settled e r is five = go (r.ends file is).0 (r.ends file is).1 (r.ends file is).2 (r.ends file is).3
   where
-    go : (status : ℕ) (lines : List Line) → EndsBy (OutcomeOf c file) ⊤ status lines written.old written.new → Reports status lines result told.old told.new → (fault : FileFault) × IsRefused words file fault × (told.new ≡ and_then told.old (report (file_line fault ∷ [])))
+    go : (status : ℕ) (lines : List Line) → EndsBy (OutcomeOf c file) (Some c) file ⊤ status lines written.old written.new → Reports status lines result told.old told.new → (fault : FileFault) × IsRefused words file fault × (told.new ≡ and_then told.old (report (file_line fault ∷ [])))
     go status lines ends (inr (seven, piece)) = absurd (omega arith)
     go status lines (inl (s, l, short)) (inl (same, w)) = absurd (omega arith)
     go status lines (inr (inl (s, l, short))) (inl (same, w)) = absurd (omega arith)
@@ -112,15 +113,38 @@ refused_frame c file o (Some fault) h six = let five = ap (λ (a : Answer). a.st
 refused_frame c file o None (inl s) six = (s.stop.0, s.fault, s.out, s.answer)
 refused_frame c file o None (inr h) six = let zero_status = done_is_0 c file (accepted file) o h.1 in absurd (omega arith)
 
+-- no frame is refused by a command that asks for a sink that holds nothing
+not_nothing : {A : Type 0} (before behind : List A) (x : A) → [] ≡ before ++ x ∷ behind → ⊥
+not_nothing [] behind x e = absurd cc
+not_nothing (b ∷ before) behind x e = absurd cc
+
+whole_of_refused : (c : Command) (file : List ℕ) (o : Answer) (r : Option FileFault) (old new : Option (List ℕ)) → OfCommand c file r o → o.status ≡ 6 →
+    WholeOf (Some c) o.out old new → new ≡ and_then old o.out
+whole_of_refused (encode level) file o (Some fault) old new h six w = let five = ap (λ (a : Answer). a.status) h in absurd (omega arith)
+whole_of_refused (encode level) file o None old new (inl s) six w = absurd (not_nothing s.before s.behind s.stop s.is_run)
+whole_of_refused (encode level) file o None old new (inr h) six w = let zero_status = done_is_0 (encode level) file (accepted file) o h.1 in absurd (omega arith)
+whole_of_refused decode file o r old new h six w = w
+whole_of_refused (cut first last) file o r old new h six w = w
+whole_of_refused (frame k by_index) file o r old new h six w = w
+whole_of_refused check file o r old new h six w = w
+whole_of_refused show file o r old new h six w = w
+whole_of_refused (show_frame k) file o r old new h six w = w
+whole_of_refused index file o r old new h six w = w
+whole_of_refused (make start frames channels multiple) file o r old new h six w = w
+whole_of_refused (make_run start frames channels multiple) file o r old new h six w = w
+whole_of_refused (encode_dsf level) file o r old new h six w = w
+whole_of_refused decode_dsf file o r old new h six w = w
+whole_of_refused (range pairs) file o r old new h six w = w
+
 abbrev FrameIsTold : List Word → List ℕ → Held → Held → Type 0
 FrameIsTold words file written told =
     (k : ℕ) × (fault : FrameFault) × (out : List ℕ) × Outcome words file (frame_refused k fault out) × (written.new ≡ and_then written.old out) × (told.new ≡ and_then told.old (report (frame_fault_line k fault ∷ [])))
 
-pub run_refused_frame : (words : List Word) (c : Command) (file : List ℕ) (result : ℕ) (bytes : Option (List ℕ)) (source sink counts given : Counts) (written told : Held) (Same : Type 0) → command_of words ≡ Some c → IsRun c result bytes source sink counts given written told Same → bytes ≡ Some file → result ≡ 6 →
+pub run_refused_frame : (words : List Word) (c : Command) (file : List ℕ) (result : ℕ) (bytes : Option (List ℕ)) (source sink counts given : Counts) (written told : Held) (Same Settled : Type 0) → command_of words ≡ Some c → IsRun c result bytes source sink counts given written told Same Settled → bytes ≡ Some file → result ≡ 6 →
     FrameIsTold words file written told
-run_refused_frame words c file result bytes source sink counts given written told Same e r is six = go (r.ends file is).0 (r.ends file is).1 (r.ends file is).2 (r.ends file is).3
+run_refused_frame words c file result bytes source sink counts given written told Same Settled e r is six = go (r.ends file is).0 (r.ends file is).1 (r.ends file is).2 (r.ends file is).3
   where
-    go : (status : ℕ) (lines : List Line) → EndsBy (OutcomeOf c file) ⊤ status lines written.old written.new → Reports status lines result told.old told.new → FrameIsTold words file written told
+    go : (status : ℕ) (lines : List Line) → EndsBy (OutcomeOf c file) (Some c) file ⊤ status lines written.old written.new → Reports status lines result told.old told.new → FrameIsTold words file written told
     go status lines ends (inr (seven, piece)) = absurd (omega arith)
     go status lines (inl (s, l, short)) (inl (same, w)) = absurd (omega arith)
     go status lines (inr (inl (s, l, short))) (inl (same, w)) = absurd (omega arith)
@@ -131,13 +155,14 @@ run_refused_frame words c file result bytes source sink counts given written tol
           f.1,
           f.2,
           of_words words c file (frame_refused f.0 f.1 f.2) e (subst (OutcomeOf c file) f.3 outcome),
-          still ∙ ap (λ (a : Answer). and_then written.old a.out) f.3,
+          whole_of_refused c file o (refusal c file) written.old written.new outcome (s ∙ sym same ∙ six) still ∙ ap (λ (a : Answer). and_then written.old a.out) f.3,
           w ∙ ap (λ ls. and_then told.old (report ls)) (sym l ∙ ap (λ (a : Answer). a.lines) f.3),
         )
 
 -- ---- words that aren't understood
 pub no_command : (words : List Word) (file : List ℕ) (old : Option (List ℕ)) → command_of words ≡ None → EndsAs words file 1 (words_line ∷ []) old old
-no_command words file old e = (not_understood, subst (λ r. OfWords r file not_understood) (sym e) refl, refl, refl, sym (and_then-nothing old))
+no_command words file old e =
+    (not_understood, subst (λ r. OfWords r file not_understood) (sym e) refl, refl, refl, subst (λ r. WholeOf r [] old old) (sym e) (sym (and_then-nothing old)))
 
 pub only_words_line : (words : List Word) (file : List ℕ) (o : Answer) → command_of words ≡ None → Outcome words file o → o.lines ≡ words_line ∷ []
 only_words_line words file o e h =

@@ -7,6 +7,15 @@ use Rattle.dst_tool.specs.declared.answers.Fault.{Fault}
 use Rattle.dst_tool.specs.declared.answers.Fault.TheVariants.{Read, Write, Memory, Report, File, Frame}
 use Rattle.dst_tool.specs.Answers.{status_of}
 
+pub status_is_done : (r : Result Numbers Fault) → status_of r ≡ 0 → (s : Numbers) × (r ≡ Ok s)
+status_is_done (Ok s) e = (s, refl)
+status_is_done (Err Read) e = absurd (omega arith)
+status_is_done (Err Write) e = absurd (omega arith)
+status_is_done (Err Memory) e = absurd (omega arith)
+status_is_done (Err Report) e = absurd (omega arith)
+status_is_done (Err (File fault)) e = absurd (omega arith)
+status_is_done (Err (Frame k fault)) e = absurd (omega arith)
+
 pub status_is_read : (r : Result Numbers Fault) → status_of r ≡ 2 → r ≡ Err Read
 status_is_read (Err Read) e = refl
 status_is_read (Ok s) e = absurd (omega arith)

@@ -1,7 +1,7 @@
 -- The status and the line of what a command answers.
 use Rattle.std.specs.Prelude.{ℕ, List, [], ⊤, Result, Ok, Err}
 use Rattle.dsdiff_spec.specs.Words.{Command, encode, decode, cut, frame, check, show, show_frame, index, make, make_run, encode_dsf, decode_dsf, range}
-use Rattle.dsdiff_spec.specs.Lines.{Line, read_fault_line, write_fault_line, memory_line, file_line, frame_fault_line, decoded_line, frame_line, check_line}
+use Rattle.dsdiff_spec.specs.Lines.{Line, read_fault_line, write_fault_line, memory_line, file_line, frame_fault_line, coded_line, decoded_line, frame_line, check_line}
 use Rattle.dsdiff_chunks.specs.declared.open.OpenFault.{OpenFault}
 use Rattle.dsdiff_chunks.specs.declared.open.OpenFault.TheVariants as opening
 use Rattle.dst_read.specs.declared.faults.DecodeFault.{DecodeFault}
@@ -12,6 +12,8 @@ use Rattle.dst_read.specs.declared.faults.ShowFault.{ShowFault}
 use Rattle.dst_read.specs.declared.faults.ShowFault.TheVariants as showing
 use Rattle.dst_read.specs.declared.faults.ListFault.{ListFault}
 use Rattle.dst_read.specs.declared.faults.ListFault.TheVariants as listing
+use Rattle.dst_write.specs.declared.faults.EncodeFault.{EncodeFault}
+use Rattle.dst_write.specs.declared.faults.EncodeFault.TheVariants as encoding
 use Rattle.dst_tool.specs.declared.answers.Numbers.{Numbers}
 use Rattle.dst_tool.specs.declared.answers.Fault.{Fault}
 use Rattle.dst_tool.specs.declared.answers.Fault.TheVariants.{Read, Write, Memory, Report, File, Frame}
@@ -27,12 +29,14 @@ status_of (Err Report) = 7
 
 -- the one line of a command that is done; those that report more lines than one write them themselves
 abbrev pub done_line : Command → Numbers → Line
+done_line (encode level) s = coded_line s.frames s.bytes
 done_line decode s = decoded_line s.frames s.bytes
 done_line (frame k by_index) s = frame_line k s.bytes
 done_line check s = check_line s.frames s.unread
 done_line c s = []
 
 abbrev pub TellsOneLine : Command → Type 0
+TellsOneLine (encode level) = ⊤
 TellsOneLine decode = ⊤
 TellsOneLine (frame k by_index) = ⊤
 TellsOneLine check = ⊤
@@ -60,6 +64,10 @@ abbrev pub of_source : OpenFault → Fault
 of_source opening.Read = Read
 of_source opening.Memory = Memory
 of_source (opening.File fault) = File fault
+
+abbrev pub of_encode : EncodeFault → Fault
+of_encode (encoding.Source fault) = of_source fault
+of_encode encoding.Write = Write
 
 abbrev pub of_decode : DecodeFault → Fault
 of_decode (decoding.Source fault) = of_source fault

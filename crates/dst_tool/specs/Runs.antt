@@ -3,7 +3,7 @@ use Rattle.std.specs.Prelude.{◌≡◌, ◌≢◌, ◌⊎◌, ℕ, ◌+◌, ◌
 use Rattle.dst_streams.specs.Causes.{Rose}
 use Rattle.dst_streams.specs.Told.{and_then, IsCutShort}
 use Rattle.dsdiff_spec.specs.Form.{sound_bytes_of}
-use Rattle.dsdiff_spec.specs.Words.{Word, Command, decode, frame, check, show, show_frame, index}
+use Rattle.dsdiff_spec.specs.Words.{Word, Command, encode, decode, cut, frame, check, show, show_frame, index, make}
 use Rattle.dsdiff_spec.specs.Rows.{command_of}
 use Rattle.dsdiff_spec.specs.Lines.{Line, report, read_fault_line, write_fault_line, memory_line}
 use Rattle.dsdiff_spec.specs.Refusal.{refusal}
@@ -11,35 +11,48 @@ use Rattle.dsdiff_spec.specs.Rules.{accepted}
 use Rattle.dsdiff_spec.specs.Outcome.{Answer, Outcome, NoneRefused, run}
 use Rattle.dsdiff_spec.specs.declared.faults.FileFault.{FileFault}
 use Rattle.dst_commands.specs.Commands.{OutcomeOf}
+use Rattle.dst_write.specs.Unfinished.{HoldsNothing, HoldsUnfinished, sound_size_place}
 
 -- a count of faults didn't rise: the device didn't fail
 abbrev pub DidNotRise : ℕ → ℕ → Type 0
 DidNotRise before now = Rose before now → ⊥
 
+-- ---- what is added to a sink
+-- All of an output. `encode` writes over what it has written, and so asks for a sink that holds nothing.
+abbrev pub WholeOf : Option Command → List ℕ → Option (List ℕ) → Option (List ℕ) → Type 0
+WholeOf (Some (encode level)) out old new = HoldsNothing old → new ≡ and_then old out
+WholeOf c out old new = new ≡ and_then old out
+
+-- Part of an output, where a device failed: a prefix of it; of `encode` a file that isn't finished.
+abbrev pub PartOf : Option Command → List ℕ → List ℕ → Option (List ℕ) → Option (List ℕ) → Type 0
+PartOf (Some (encode level)) file out old new = HoldsNothing old → HoldsUnfinished (sound_size_place file (accepted file)) out new
+PartOf c file out old new = IsCutShort old out new
+
+-- ---- how a run ends
 -- the status, what is added to the sink, and the lines are those of an outcome
-abbrev pub EndsAsOne : (Answer → Type 0) → ℕ → List Line → Option (List ℕ) → Option (List ℕ) → Type 0
-EndsAsOne IsOutcome status lines old new =
-    (o : Answer) × IsOutcome o × (o.status ≡ status) × (o.lines ≡ lines) × (new ≡ and_then old o.out)
+abbrev pub EndsAsOne : (Answer → Type 0) → Option Command → ℕ → List Line → Option (List ℕ) → Option (List ℕ) → Type 0
+EndsAsOne IsOutcome c status lines old new =
+    (o : Answer) × IsOutcome o × (o.status ≡ status) × (o.lines ≡ lines) × WholeOf c o.out old new
 
--- only a prefix of what the outcome writes is added
-abbrev pub StopsShortOfOne : (Answer → Type 0) → Option (List ℕ) → Option (List ℕ) → Type 0
-StopsShortOfOne IsOutcome old new = (o : Answer) × IsOutcome o × IsCutShort old o.out new
+-- only part of what the outcome writes is added
+abbrev pub StopsShortOfOne : (Answer → Type 0) → Option Command → List ℕ → Option (List ℕ) → Option (List ℕ) → Type 0
+StopsShortOfOne IsOutcome c file old new = (o : Answer) × IsOutcome o × PartOf c file o.out old new
 
--- How a run ends before its lines are reported: where a device failed, with a prefix of what the outcome writes; where
+-- How a run ends before its lines are reported: where a device failed, with part of what the outcome writes; where
 -- memory was refused, with nothing; else with the outcome.
-abbrev pub EndsBy : (Answer → Type 0) → Type 0 → ℕ → List Line → Option (List ℕ) → Option (List ℕ) → Type 0
-EndsBy IsOutcome MayWantMemory status lines old new =
-    ((status ≡ 2) × (lines ≡ read_fault_line ∷ []) × StopsShortOfOne IsOutcome old new)
-    ⊎ ((status ≡ 3) × (lines ≡ write_fault_line ∷ []) × StopsShortOfOne IsOutcome old new)
+abbrev pub EndsBy : (Answer → Type 0) → Option Command → List ℕ → Type 0 → ℕ → List Line → Option (List ℕ) → Option (List ℕ) → Type 0
+EndsBy IsOutcome c file MayWantMemory status lines old new =
+    ((status ≡ 2) × (lines ≡ read_fault_line ∷ []) × StopsShortOfOne IsOutcome c file old new)
+    ⊎ ((status ≡ 3) × (lines ≡ write_fault_line ∷ []) × StopsShortOfOne IsOutcome c file old new)
     ⊎ ((status ≡ 4) × (lines ≡ memory_line ∷ []) × MayWantMemory × (new ≡ old))
-    ⊎ EndsAsOne IsOutcome status lines old new
+    ⊎ EndsAsOne IsOutcome c status lines old new
 
 -- the same of words over a file
 abbrev pub EndsAs : List Word → List ℕ → ℕ → List Line → Option (List ℕ) → Option (List ℕ) → Type 0
-EndsAs words file = EndsAsOne (Outcome words file)
+EndsAs words file = EndsAsOne (Outcome words file) (command_of words)
 
 abbrev pub Ends : List Word → List ℕ → ℕ → List Line → Option (List ℕ) → Option (List ℕ) → Type 0
-Ends words file = EndsBy (Outcome words file) (command_of words ≢ None)
+Ends words file = EndsBy (Outcome words file) (command_of words) file (command_of words ≢ None)
 
 -- the lines are reported, or the report failed at them and the status is 7
 abbrev pub Reports : ℕ → List Line → ℕ → Option (List ℕ) → Option (List ℕ) → Type 0
@@ -64,6 +77,15 @@ WritesNowhere (show_frame k) = ⊤
 WritesNowhere index = ⊤
 WritesNowhere c = ⊥
 
+-- one that writes a file
+abbrev pub WritesFile : Command → Type 0
+WritesFile (encode level) = ⊤
+WritesFile decode = ⊤
+WritesFile (cut first last) = ⊤
+WritesFile (frame k by_index) = ⊤
+WritesFile (make start frames channels multiple) = ⊤
+WritesFile c = ⊥
+
 -- the most bytes that the source gives where one frame is found by the index, a frame's sound having so many
 abbrev pub most_given : ℕ → ℕ
 most_given frame_size = 208974 + 2 * frame_size
@@ -82,10 +104,11 @@ pub record Held : Type 0 where
   pub new : Option (List ℕ)
   pub room : Option ℕ
 
--- What one command leaves over a source that may tell its bytes: `Same` says that the sink is what it was.
-pub record IsRun (c : Command) (status : ℕ) (bytes : Option (List ℕ)) (source sink report_counts given : Counts) (written told : Held) (Same : Type 0) : Type 0 where
+-- What one command leaves over a source that may tell its bytes: `Same` says that the sink is what it was, `Settled` that all it holds is
+-- where it keeps it for good.
+pub record IsRun (c : Command) (status : ℕ) (bytes : Option (List ℕ)) (source sink report_counts given : Counts) (written told : Held) (Same Settled : Type 0) : Type 0 where
   pub ends : (file : List ℕ) → bytes ≡ Some file →
-      (wanted : ℕ) × (lines : List Line) × EndsBy (OutcomeOf c file) ⊤ wanted lines written.old written.new × Reports wanted lines status told.old told.new
+      (wanted : ℕ) × (lines : List Line) × EndsBy (OutcomeOf c file) (Some c) file ⊤ wanted lines written.old written.new × Reports wanted lines status told.old told.new
   pub read : status ≡ 2 → Rose source.before source.now
   pub write : status ≡ 3 → Rose sink.before sink.now
   pub reported : status ≡ 7 → Rose report_counts.before report_counts.now
@@ -95,6 +118,7 @@ pub record IsRun (c : Command) (status : ℕ) (bytes : Option (List ℕ)) (sourc
   pub memory : status ≡ 4 → Same
   pub file_refused : status ≡ 5 → Same
   pub idle : WritesNowhere c → Same
+  pub settled : WritesFile c → status ≡ 0 → Settled
   pub by_index : (k : ℕ) → c ≡ frame k true → (file : List ℕ) → bytes ≡ Some file → given.now ≤ given.before + most_given (sound_bytes_of (accepted file))
   pub any_source : (k : ℕ) → c ≡ frame k true → given.now ≤ given.before + most_given longest_sound
   pub least_status : status ≢ 1

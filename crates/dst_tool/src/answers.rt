@@ -1,12 +1,13 @@
 // What commands answer, as far as the line of a report says it.
 ghost use Rattle.std.specs.Prelude.{◌≡◌};
-ghost use Rattle.dst_tool.specs.Answers.{answered, of_check, of_decode, of_list, of_show, of_source};
+ghost use Rattle.dst_tool.specs.Answers.{answered, of_check, of_decode, of_encode, of_list, of_show, of_source};
 
 use dsdiff_chunks::{FileFault, OpenFault};
 use dst_num::FrameFault;
 use dst_read::{
     CheckFault, Checked, DecodeFault, Decoded, FrameWritten, ListFault, Reported, ShowFault,
 };
+use dst_write::{EncodeFault, Encoded};
 
 /// The numbers that the line of a command has which is done.
 #[derive(Clone, Copy)]
@@ -44,6 +45,21 @@ fn of_decode(fault: DecodeFault) -> Fault
         DecodeFault::Source(fault) => of_source(fault),
         DecodeFault::Write => Fault::Write,
         DecodeFault::Frame { frame, fault } => Fault::Frame { frame, fault },
+    }
+}
+
+/// The answer of `encode`.
+pub(crate) fn encoded(answer: Result<Encoded, EncodeFault>) -> Result<Numbers, Fault>
+    ensures { result ≡ answered (λ d. record { frames = d.frames; bytes = d.bytes; unread = 0 }) of_encode answer }
+{
+    match answer {
+        Ok(Encoded { frames, bytes }) => Ok(Numbers {
+            frames,
+            bytes,
+            unread: 0,
+        }),
+        Err(EncodeFault::Source(fault)) => Err(of_source(fault)),
+        Err(EncodeFault::Write) => Err(Fault::Write),
     }
 }
 

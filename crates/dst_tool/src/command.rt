@@ -1,16 +1,18 @@
 // One command, run over its devices, and its lines reported.
-ghost use Rattle.std.specs.Prelude.{◌≡◌, ◌≢◌, ◌⊎◌, ◌<◌, ◌≤◌, ℕ, [], ◌∷◌, length, Some, Err, Ok};
+ghost use Rattle.std.specs.Prelude.{◌≡◌, ◌≢◌, ◌⊎◌, ◌<◌, ◌≤◌, ℕ, [], ◌∷◌, length, true, Some, Err, Ok};
 ghost use Rattle.dst_streams.specs.Causes.{Rose};
 ghost use Rattle.dst_streams.specs.Told.{IsCutShort, and_then};
 ghost use Rattle.dsdiff_spec.specs.Lines as reports;
-ghost use Rattle.dst_words.specs.Commands.{command_seen};
+ghost use Rattle.dst_words.specs.Commands.{command_seen, LevelIsKnown};
 ghost use Rattle.dst_tool.specs.Answers.{status_of, done_line, fault_line, line_of, TellsOneLine};
 ghost use Rattle.dst_tool.specs.Runs.{IsRun, Counts, Held};
 
-use crate::answers::{Fault, Numbers, checked, decoded, frame_written, listed, shown};
+use crate::answers::{Fault, Numbers, checked, decoded, encoded, frame_written, listed, shown};
 use dst_read::{check_file, decode_file, frame_out, index_file, show_file};
 use dst_streams::{Sink, Source};
 use dst_words::{Command, lines};
+use dst_write::encode_file;
+use filter_analyser::LevelPicker;
 use frame_crew::OpenGate;
 use std::alloc::Global;
 use std::thread::Threads;
@@ -27,14 +29,22 @@ pub(crate) fn run_command<E: Threads + Sync, S: Source, K: Sink, R: Sink>(
 ) -> u8
     requires least { 1 ≤ workers }
     requires most { workers ≤ 16 }
+    requires level { LevelIsKnown command }
     ensures { IsRun (command_seen command) result (S.bytes source.old)
         (record { before = S.faults source.old; now = S.faults source.new }) (record { before = K.faults sink.old; now = K.faults sink.new })
         (record { before = R.faults report.old; now = R.faults report.new }) (record { before = S.given source.old; now = S.given source.new })
         (record { old = K.written sink.old; new = K.written sink.new; room = K.room sink.old })
         (record { old = R.written report.old; new = R.written report.new; room = R.room report.old })
-        (sink.new ≡ sink.old) }
+        (sink.new ≡ sink.old) (K.settled sink.new ≡ true) }
 {
     match command {
+        Command::Encode { level } => {
+            let Some(picker) = LevelPicker::new(level) else {
+                unreachable!()
+            };
+            let answer = encode_file(rt, alloc, source, sink, &picker, workers, &OpenGate);
+            tell(report, command, encoded(answer))
+        }
         Command::Decode => {
             let answer = decode_file(rt, alloc, source, sink, workers, &OpenGate);
             tell(report, command, decoded(answer))
@@ -110,6 +120,7 @@ fn done_line(command: Command, done: Numbers) -> lines::Line
     ensures { result.bytes ≡ reports.report (done_line (command_seen command) done ∷ []) }
 {
     match command {
+        Command::Encode { .. } => lines::coded(done.frames, done.bytes),
         Command::Decode => lines::decoded(done.frames, done.bytes),
         Command::Frame { frame, .. } => lines::frame_written(frame, done.bytes),
         Command::Check => lines::checked(done.frames, done.unread),

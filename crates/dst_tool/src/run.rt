@@ -11,7 +11,7 @@ ghost use Rattle.dsdiff_spec.specs.Lines as reports;
 ghost use Rattle.dsdiff_spec.specs.Rows.{command_of};
 ghost use Rattle.dsdiff_spec.specs.Words as asked;
 ghost use Rattle.dsdiff_spec.specs.Outcome.{Answer, Outcome, frame_refused};
-ghost use Rattle.dst_tool.specs.Runs.{DidNotRise, Ends, EndsAs, Reports, IsRefused, NoFrameIsRefused, WritesNowhere, most_given, longest_sound};
+ghost use Rattle.dst_tool.specs.Runs.{DidNotRise, Ends, EndsAs, Reports, IsRefused, NoFrameIsRefused, WritesFile, WritesNowhere, most_given, longest_sound};
 
 use crate::command::{report_line, run_command};
 use dst_streams::{Sink, Source};
@@ -51,6 +51,8 @@ pub fn dst_run<E: Threads + Sync, S: Source, K: Sink, R: Sink>(
     ensures untouched { command_of (map string_bytes words.now) ≡ None → (source.new ≡ source.old) × (sink.new ≡ sink.old) }
     // A command that writes no file makes no call on the sink.
     ensures no_call { (c : asked.Command) → command_of (map string_bytes words.now) ≡ Some c → WritesNowhere c → sink.new ≡ sink.old }
+    // What a done command has written is where the sink keeps it for good: of a real file, on its disk.
+    ensures settled { (c : asked.Command) → command_of (map string_bytes words.now) ≡ Some c → WritesFile c → result ≡ 0 → K.settled sink.new ≡ true }
     // Devices fail by their own cause.
     ensures read { result ≡ 2 → Rose (S.faults source.old) (S.faults source.new) }
     ensures write { result ≡ 3 → Rose (K.faults sink.old) (K.faults sink.new) }

@@ -1,7 +1,7 @@
 //! The lines of a report, each with the line feed that ends it. Numbers are decimal.
 ghost use Rattle.std.specs.Prelude.{◌≡◌, ◌+◌, ◌<◌, ◌≤◌, ◌∷◌, ◌++◌, [], length, decimal, codes, flat_map};
 ghost use Rattle.arrayvec.specs.ArrayString.{array_string_len};
-ghost use Rattle.dsdiff_spec.specs.Lines.{report, words_line, read_fault_line, write_fault_line, memory_line, file_line, frame_fault_line, decoded_line, frame_line, check_line, plain_frame_line, coded_frame_line};
+ghost use Rattle.dsdiff_spec.specs.Lines.{report, words_line, read_fault_line, write_fault_line, memory_line, file_line, frame_fault_line, coded_line, decoded_line, frame_line, check_line, plain_frame_line, coded_frame_line};
 ghost use Rattle.dst_words.specs.Numbers.{numbers_seen};
 
 use crate::texts::{Numbers, text_of_file, text_of_frame};
@@ -71,6 +71,18 @@ pub fn frame_refused(frame: u32, fault: FrameFault) -> Line
     line.push_str(text.name);
     line.push_str(" at bit ");
     push_number(&mut line, fault.bit);
+    ended(line)
+}
+
+/// A file is coded: how many frames, and how many bytes are stored of them.
+pub fn coded(frames: u32, bytes: u64) -> Line
+    ensures { result.bytes ≡ report (coded_line frames bytes ∷ []) }
+{
+    let mut line = line_of("coded ");
+    push_number(&mut line, frames);
+    line.push_str(" frames into ");
+    push_number(&mut line, bytes);
+    line.push_str(" bytes");
     ended(line)
 }
 

@@ -22,6 +22,10 @@ fn frame(frame: u32, by_index: bool) -> Option<Task> {
     task(Command::Frame { frame, by_index }, 1)
 }
 
+fn encode(level: u32, workers: u32) -> Option<Task> {
+    task(Command::Encode { level }, workers)
+}
+
 #[test]
 fn words_that_are_a_row_are_a_task(rt: HostRuntime) -> Result<(), Fail> {
     let decode = task(Command::Decode, 1);
@@ -41,7 +45,15 @@ fn words_that_are_a_row_are_a_task(rt: HostRuntime) -> Result<(), Fail> {
         ("decoder a b", None),
         ("decod a b", None),
         ("Decode a b", None),
-        ("encode a b", None),
+        ("encode a b", encode(1, 1)),
+        ("encode a b --level 0", encode(0, 1)),
+        ("encode a b --level 2 --workers 16", encode(2, 16)),
+        ("encode a b --workers 4 --level 2", encode(2, 4)),
+        ("encode a b --level 3", None),
+        ("encode a b --level 1 --level 1", None),
+        ("encode a b --workers 4 --level", None),
+        ("encode a b --level 1 --workers 4 --level", None),
+        ("encode a", None),
         ("decode a b --workers 2", task(Command::Decode, 2)),
         ("decode a b --workers", None),
         ("decode a b --workers 0", None),
@@ -139,6 +151,7 @@ fn lines_of_what_is_done_are_those_of_reports(rt: HostRuntime) {
         "frame 4294967295 coded length 18446744073709551615 filters 4294967295 tables 4294967295 code 18446744073709551615\n";
     let (most, greatest) = (u32::MAX, u64::MAX);
     let cases = [
+        (lines::coded(2, 9410), "coded 2 frames into 9410 bytes\n"),
         (lines::frame_written(1, 4704), "frame 1, 4704 bytes\n"),
         (lines::checked(2, 0), "sound, 2 frames, 0 unread bytes\n"),
         (lines::plain_frame(0, 4705), "frame 0 plain length 4705\n"),

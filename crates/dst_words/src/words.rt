@@ -2,14 +2,18 @@
 ghost use Rattle.std.specs.Prelude.{◌≡◌, map, option_map, IfSome};
 ghost use Rattle.std.specs.String.{string_bytes};
 ghost use Rattle.dsdiff_spec.specs.Rows.{task_of};
-ghost use Rattle.dst_words.specs.Commands.{task_seen, HasFewWorkers};
-ghost use Rattle.dst_words.specs.RowWords.{decode_words, frame_words, check_words, show_words, index_words};
+ghost use Rattle.dst_words.specs.Commands.{task_seen, HasFewWorkers, HasKnownLevel};
+ghost use Rattle.dst_words.specs.RowWords.{encode_words, decode_words, frame_words, check_words, show_words, index_words};
 
-use crate::slots::{is_file_word, read_by_index, read_number, read_workers};
+use crate::slots::{
+    is_file_word, read_by_index, read_level_and_workers, read_number, read_workers,
+};
 
 /// What is asked for. The names of files stay in words 1 and 2, word 0 being the command's name. Frames are numbered from 0.
 #[derive(Clone, Copy, Debug, Drop, PartialEq, Eq)]
 pub enum Command {
+    /// `encode IN OUT [--level L] [--workers W]`: code a plain file at a level, 0 to 2.
+    Encode { level: u32 },
     /// `decode IN OUT [--workers W]`: decode a coded file.
     Decode,
     /// `frame IN OUT K [--by-index]`: write the sound of one frame, which is found by the file's index or by its chunks.
@@ -37,11 +41,13 @@ pub struct Task {
 pub fn read_words(words: &[String]) -> Option<Task>
     ensures task { option_map task_seen result ≡ task_of (map string_bytes words.now) }
     ensures workers { IfSome result HasFewWorkers }
+    ensures level { IfSome result HasKnownLevel }
 {
     let [name, rest @ ..] = words else {
         return None;
     };
     match name.as_str() {
+        "encode" => read_encode(rest),
         "decode" => read_decode(rest),
         "frame" => read_frame(rest),
         "check" => read_check(rest),
@@ -51,9 +57,28 @@ pub fn read_words(words: &[String]) -> Option<Task>
     }
 }
 
+fn read_encode(words: &[String]) -> Option<Task>
+    ensures task { option_map task_seen result ≡ encode_words (map string_bytes words.now) }
+    ensures workers { IfSome result HasFewWorkers }
+    ensures level { IfSome result HasKnownLevel }
+{
+    let [input, output, options @ ..] = words else {
+        return None;
+    };
+    if !is_file_word(input) || !is_file_word(output) {
+        return None;
+    }
+    let (level, workers) = read_level_and_workers(options)?;
+    Some(Task {
+        command: Command::Encode { level },
+        workers,
+    })
+}
+
 fn read_decode(words: &[String]) -> Option<Task>
     ensures task { option_map task_seen result ≡ decode_words (map string_bytes words.now) }
     ensures workers { IfSome result HasFewWorkers }
+    ensures level { IfSome result HasKnownLevel }
 {
     let [input, output, options @ ..] = words else {
         return None;
@@ -71,6 +96,7 @@ fn read_decode(words: &[String]) -> Option<Task>
 fn read_frame(words: &[String]) -> Option<Task>
     ensures task { option_map task_seen result ≡ frame_words (map string_bytes words.now) }
     ensures workers { IfSome result HasFewWorkers }
+    ensures level { IfSome result HasKnownLevel }
 {
     let [input, output, number, options @ ..] = words else {
         return None;
@@ -86,6 +112,7 @@ fn read_frame(words: &[String]) -> Option<Task>
 fn read_check(words: &[String]) -> Option<Task>
     ensures task { option_map task_seen result ≡ check_words (map string_bytes words.now) }
     ensures workers { IfSome result HasFewWorkers }
+    ensures level { IfSome result HasKnownLevel }
 {
     let [input, options @ ..] = words else {
         return None;
@@ -103,6 +130,7 @@ fn read_check(words: &[String]) -> Option<Task>
 fn read_show(words: &[String]) -> Option<Task>
     ensures task { option_map task_seen result ≡ show_words (map string_bytes words.now) }
     ensures workers { IfSome result HasFewWorkers }
+    ensures level { IfSome result HasKnownLevel }
 {
     let [input, rest @ ..] = words else {
         return None;
@@ -123,6 +151,7 @@ fn read_show(words: &[String]) -> Option<Task>
 fn read_index(words: &[String]) -> Option<Task>
     ensures task { option_map task_seen result ≡ index_words (map string_bytes words.now) }
     ensures workers { IfSome result HasFewWorkers }
+    ensures level { IfSome result HasKnownLevel }
 {
     let [input] = words else {
         return None;

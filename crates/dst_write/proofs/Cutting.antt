@@ -1,14 +1,11 @@
 -- Pieces of a sound: where they lie, and what is read of them.
-use Rattle.std.proofs.Common.{◌≡◌, ℕ, zero, suc, ◌+◌, ◌*◌, ◌-◌, ◌^◌, ◌<◌, ◌≤◌, List, ◌++◌, length, take, drop, replicate, min, refl, ap, sym, subst, ◌∙◌, arith, length-drop}
-use Rattle.std.proofs.lemmas.List.{length-take, take-take, take_at, take_all, take_min, drop-drop, drop-take}
+use Rattle.std.proofs.Common.{◌≡◌, ℕ, zero, suc, ◌+◌, ◌*◌, ◌-◌, ◌^◌, ◌<◌, ◌≤◌, List, ◌++◌, length, take, drop, replicate, min, refl, ap, sym, ◌∙◌, arith, length-drop}
+use Rattle.std.proofs.lemmas.List.{length-take, take-take, take_min, drop-drop, drop-take}
 use Rattle.dst_spec.specs.Sample.{sound_bytes}
 use Rattle.dsdiff_spec.specs.Bytes.{bytes_at}
-use Rattle.dsdiff_spec.specs.Chunks.{body_of}
-use Rattle.dsdiff_spec.specs.Form.{Form, sound_bytes_of, frames_for}
+use Rattle.dsdiff_spec.specs.Form.{sound_bytes_of, frames_for}
 use Rattle.dsdiff_chunks.specs.declared.form.PlainForm.{PlainForm}
 use Rattle.dsdiff_chunks.specs.Forms.{plain_seen}
-use Rattle.dsdiff_chunks.specs.Lawful.{IsLawful, IsPlainForm}
-use Rattle.dsdiff_chunks.specs.Seen.{head_seen}
 use Rattle.dsdiff_chunks.proofs.LawfulForms.{sound_inside}
 use Rattle.dst_commands.proofs.PassedOn.{needed}
 use Rattle.dst_write.specs.Feeding.{piece_of}

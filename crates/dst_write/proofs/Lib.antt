@@ -1,5 +1,9 @@
 pub mod Shapes
 pub mod Cutting
+pub mod Feeding
+pub mod Coding
+pub mod Underway
+pub mod Running
 pub mod Pieces
 pub mod BySize
 pub mod Sized

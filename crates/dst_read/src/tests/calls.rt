@@ -69,9 +69,12 @@ fn devices_that_fail_are_told(rt: HostRuntime) -> Result<(), Fail> {
     let mut report = MemorySink::new(alloc, 100, &[0])?;
     let answer = show_file(alloc, &mut HonestSource::new(&two), &mut report, None);
     assert_eq!(rt; answer, Err(ShowFault::Report));
-    let mut sink = MemorySink::new(alloc, 5_000, &[0])?;
-    let answer = frame_out(alloc, &mut HonestSource::new(&two), &mut sink, 0, true);
-    assert_eq!(rt; answer, Err(DecodeFault::Write));
+    for (fails, held) in [(&[0u64], 2_352usize), (&[1], 4_704)] {
+        let mut sink = MemorySink::new(alloc, 5_000, fails)?;
+        let answer = frame_out(alloc, &mut HonestSource::new(&two), &mut sink, 0, true);
+        assert_eq!(rt; answer, Err(DecodeFault::Write));
+        assert_eq!(rt; sink.written().len(), held);
+    }
     let mut report = MemorySink::new(alloc, 100, &[])?;
     let mut source = MemorySource::new(&two, &[], &[0]);
     let answer = show_file(alloc, &mut source, &mut report, Some(0));

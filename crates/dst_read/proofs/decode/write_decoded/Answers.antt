@@ -6,7 +6,7 @@ use Rattle.dsdiff_chunks.specs.declared.copy.CopyFault.{CopyFault}
 use Rattle.dst_read.specs.Decoding.{DecodingEnds}
 use Rattle.dst_commands.specs.Writing.{Adds, Stops}
 use Rattle.dst_read.proofs.Stopping.{head_of, head_is_front, ends_at_device}
-use Rattle.dst_read.proofs.Ending.{ends_in_frames, ends_at_end, ends_done}
+use Rattle.dst_read.proofs.Ending.{ends_in_frames, ends_at_end, ends_unsettled, ends_done}
 use Rattle.dst_read.proofs.decode.write_decoded.Goals as goal
 
 pub returns-in-Err-clause-written : goal.returns-in-Err-clause-written
@@ -43,6 +43,18 @@ returns-in-Err-write_end-clause-written g c file told =
     subst (λ fault. DecodingEnds (Err fault) file (g.K.Sink.written c.args.sink.now) (g.K.Sink.written c.write_end.new.sink) (g.K.Sink.room c.args.sink.now)) (sym c.fault_of_device-in-Err-write_end.ensures)
     (ends_at_end c.in-Err-write_end.fault file form c.args.walked.now.index frames.0 _ _ _ _ _ _ _ bytes (c.requires.opened file told) frames.1 front frames.2 stops)
 
+pub returns-in_default-finish-clause-written : goal.returns-in_default-finish-clause-written
+returns-in_default-finish-clause-written g c file told =
+    let form = coded_seen c.args.walked.now.form in
+    let bytes = g.met.S.Source.told_are_bytes c.args.source.now file told in
+    let front = subst (λ n. Adds (decoded_front n file form) (g.K.Sink.written c.args.sink.now) (g.K.Sink.written c.write_front.new.sink) (g.K.Sink.room c.args.sink.now) (g.K.Sink.room c.write_front.new.sink)) c.sound_size-size.ensures.size
+    (c.in_default.ensures.written file told) in
+    let later = c.in_default.ensures.bytes ∙ told in
+    let frames = c.in_default-write_frames.ensures.written file later in
+    let behind = subst (λ n. Adds (decoded_end n file form) (g.K.Sink.written c.write_frames.new.sink) (g.K.Sink.written c.write_end.new.sink) (g.K.Sink.room c.write_frames.new.sink) (g.K.Sink.room c.write_end.new.sink)) c.sound_size-size.ensures.size
+    (c.in_default-write_end.ensures.written file (c.in_default-write_frames.ensures.bytes ∙ later)) in
+    ends_unsettled file form c.args.walked.now.index frames.0 _ _ _ _ _ _ _ _ _ bytes (c.requires.opened file told) frames.1 front frames.2 behind c.in_default-finish.ensures.written c.in_default-finish.ensures.sure
+
 pub returns-clause-written : goal.returns-clause-written
 returns-clause-written g c file told =
     let form = coded_seen c.args.walked.now.form in
@@ -52,4 +64,5 @@ returns-clause-written g c file told =
     let frames = c.in_default-write_frames.ensures.written file later in
     let behind = subst (λ n. Adds (decoded_end n file form) (g.K.Sink.written c.write_frames.new.sink) (g.K.Sink.written c.write_end.new.sink) (g.K.Sink.room c.write_frames.new.sink) (g.K.Sink.room c.write_end.new.sink)) c.sound_size-size.ensures.size
     (c.in_default-write_end.ensures.written file (c.in_default-write_frames.ensures.bytes ∙ later)) in
-    ends_done (record { frames = c.args.walked.now.form.frames; bytes = c.sound_size-size.result }) file form c.args.walked.now.index frames.0 _ _ _ _ _ _ _ _ (c.requires.opened file told) frames.1 front frames.2 behind refl c.sound_size-size.ensures.size
+    ends_done (record { frames = c.args.walked.now.form.frames; bytes = c.sound_size-size.result }) file form c.args.walked.now.index frames.0 _ _ _ _ _ _ _ _ _ (c.requires.opened file told) frames.1 front frames.2 behind
+    c.finish.ensures.written refl c.sound_size-size.ensures.size

@@ -11,7 +11,7 @@ use Rattle.dsdiff_chunks.specs.declared.open.OpenFault.{OpenFault}
 use Rattle.dsdiff_chunks.specs.Opening as opening
 use Rattle.frame_index.specs.Entries.{entry_seen}
 use Rattle.dst_commands.specs.Commands.{OutcomeOf}
-use Rattle.dst_commands.proofs.Writing.{cut_off, stops_same}
+use Rattle.dst_commands.proofs.Writing.{stops_same}
 use Rattle.dst_read.specs.declared.faults.DecodeFault.{DecodeFault}
 use Rattle.dst_read.specs.declared.faults.DecodeFault.TheVariants.{Source}
 use Rattle.dst_read.specs.declared.faults.FrameWritten.{FrameWritten}
@@ -46,8 +46,8 @@ returns-in-Err-read_sound-clause-frame g c k fault e file told =
     (sound_is_refused file (coded_seen found.form) c.args.frame c.args.by_index found.form.channels (frame_at file (entry_seen found.entry)) fault
     (record { accepts = c.in-Ok.ensures.accepted file told; form_is = is.form_is }) found.form.shape (ap (frame_at file) is.entry_is) (refused.1 file (c.in-Ok.ensures.bytes ∙ told)))
 
-pub returns-in-Ok-append-clause-written : goal.returns-in-Ok-append-clause-written
-returns-in-Ok-append-clause-written g c file told =
+pub returns-in-Ok-write_sound-clause-written : goal.returns-in-Ok-write_sound-clause-written
+returns-in-Ok-write_sound-clause-written g c file told =
     let found = c.in-Ok.found in
     let is = c.in-Ok.ensures.found file told in
     let sound = c.in-Ok-read_sound.sound.items in
@@ -55,7 +55,7 @@ returns-in-Ok-append-clause-written g c file told =
       sound,
       sound_is_written file (coded_seen found.form) c.args.frame c.args.by_index found.form.channels (frame_at file (entry_seen found.entry)) sound c.len.result
           (record { accepts = c.in-Ok.ensures.accepted file told; form_is = is.form_is }) found.form.shape (ap (frame_at file) is.entry_is) (c.in-Ok-read_sound.ensures.sound file (c.in-Ok.ensures.bytes ∙ told)) count,
-      c.in-Ok-append.ensures.written ∙ ap (and_then (g.K.Sink.written c.args.sink.now)) c.deref.ensures.value,
+      c.in-Ok-write_sound.ensures.written ∙ ap (and_then (g.K.Sink.written c.args.sink.now)) c.deref.ensures.value,
     )
 
 pub returns-clause-cut_short : goal.returns-clause-cut_short
@@ -66,7 +66,7 @@ returns-clause-cut_short g c e file told =
       done sound (frame_line c.args.frame (length sound) ∷ []),
       sound_is_written file (coded_seen found.form) c.args.frame c.args.by_index found.form.channels (frame_at file (entry_seen found.entry)) sound (length sound)
           (record { accepts = c.in-Ok.ensures.accepted file told; form_is = is.form_is }) found.form.shape (ap (frame_at file) is.entry_is) (c.in-Ok-read_sound.ensures.sound file (c.in-Ok.ensures.bytes ∙ told)) refl,
-      subst (λ w. IsCutShort (g.K.Sink.written c.args.sink.now) w (g.K.Sink.written c.append.new.self)) c.deref.ensures.value c.in-Err-append.ensures.written,
+      subst (λ w. IsCutShort (g.K.Sink.written c.args.sink.now) w (g.K.Sink.written c.write_sound.new.sink)) c.deref.ensures.value c.in-Err-write_sound.ensures.written.cut,
     )
 
 pub returns-clause-sure : goal.returns-clause-sure
@@ -77,4 +77,4 @@ returns-clause-sure g c e file told =
     let outcome = sound_is_written file (coded_seen found.form) c.args.frame c.args.by_index found.form.channels (frame_at file (entry_seen found.entry)) sound (length sound)
     (record { accepts = c.in-Ok.ensures.accepted file told; form_is = is.form_is }) found.form.shape (ap (frame_at file) is.entry_is) (c.in-Ok-read_sound.ensures.sound file (c.in-Ok.ensures.bytes ∙ told)) refl in
     sink_is_sure (frame c.args.frame c.args.by_index) file sound (frame_line c.args.frame (length sound) ∷ []) _ _ _ tt (g.met.S.Source.told_are_bytes c.args.source.now file told) outcome
-    (stops_same (Unit {0}) _ sound _ _ _ c.deref.ensures.value (cut_off _ c.deref.result.now _ _ _ _ c.in-Err-append.ensures.sure c.in-Err-append.ensures.written))
+    (stops_same (Unit {0}) _ sound _ _ _ c.deref.ensures.value c.in-Err-write_sound.ensures.written)

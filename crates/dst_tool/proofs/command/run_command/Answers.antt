@@ -11,13 +11,14 @@ use Rattle.dst_tool.specs.declared.answers.Numbers.{Numbers}
 use Rattle.dst_tool.specs.declared.answers.Fault.{Fault}
 use Rattle.dst_tool.specs.declared.answers.Fault.TheVariants.{Read, Write, Memory, Report, File, Frame}
 use Rattle.dst_commands.specs.Commands.{OutcomeOf, shown}
-use Rattle.dst_tool.proofs.OneLine.{few_given, most_for_any, IsAnswer, TellsLine, HasCauses, run_of_answer, at_file, same_run, nothing_added, nothing_cut, finished_alone, cut_or_nothing, decoding_is_no_frame, checking_is_no_frame, showing_is_no_frame, showing_one_is_no_frame, listing_is_no_frame}
+use Rattle.dst_tool.proofs.OneLine.{few_given, most_for_any, IsAnswer, TellsLine, HasCauses, run_of_answer, at_file, same_run, nothing_added, nothing_cut, finished_alone, cut_or_nothing, encoding_is_no_frame, decoding_is_no_frame, checking_is_no_frame, showing_is_no_frame, showing_one_is_no_frame, listing_is_no_frame}
 use Rattle.dst_read.specs.declared.faults.DecodeFault.{DecodeFault}
 use Rattle.dst_read.specs.declared.faults.DecodeFault.TheVariants as decoding
 use Rattle.dst_read.specs.declared.faults.ShowFault.TheVariants as showing
 use Rattle.dst_read.specs.declared.faults.ListFault.TheVariants as listing
-use Rattle.dst_tool.specs.Answers.{answered, done_line, line_of, status_of, of_check, of_decode, of_list, of_show}
-use Rattle.dst_tool.proofs.Inverting.{back_from, check_again, check_reports, check_writes, decode_again, decode_reports, if_answered, list_again, list_refuses, list_writes, show_again, show_writes, to_check, to_decode, to_list, to_show}
+use Rattle.dst_tool.specs.Answers.{answered, done_line, line_of, status_of, of_check, of_decode, of_encode, of_list, of_show}
+use Rattle.dst_tool.proofs.Inverting.{back_from, encode_again, encode_refuses, encode_reports, to_encode, if_done, check_again, check_reports, check_writes, decode_again, decode_reports, if_answered, list_again, list_refuses, list_writes, show_again, show_writes, to_check, to_decode, to_list, to_show}
+use Rattle.dst_write.specs.declared.faults.Encoded.{Encoded}
 use Rattle.dst_read.specs.declared.faults.Decoded.{Decoded}
 use Rattle.dst_read.specs.declared.faults.FrameWritten.{FrameWritten}
 use Rattle.dst_read.specs.declared.faults.Checked.{Checked}
@@ -26,6 +27,9 @@ use Rattle.dst_tool.proofs.OwnLines.{IsListing, Lists, TellsFault, run_of_listin
 use Rattle.dst_tool.proofs.command.run_command.Goals as goal
 
 -- ---- what each command answers, in the words of the report
+abbrev of_encoded : Encoded → Numbers
+of_encoded d = record { frames = d.frames; bytes = d.bytes; unread = 0 }
+
 abbrev of_decoded : Decoded → Numbers
 of_decoded d = record { frames = d.frames; bytes = d.bytes; unread = 0 }
 
@@ -43,6 +47,44 @@ either f h (inl a) = inl (f a)
 either f h (inr b) = inr (h b)
 
 -- ---- commands that report one line
+pub returns-in-Encode : goal.returns-in-Encode
+returns-in-Encode g c =
+    let d = c.encode_file-answer.result in
+    let e = c.encode_file-answer.ensures in
+    let r = c.encoded.result in
+    let is : r ≡ answered of_encoded of_encode d = c.encoded.ensures in
+    let back : (f : Fault) → r ≡ Err f → d ≡ Err (to_encode f) = λ f h. back_from of_encoded of_encode to_encode encode_again d f (sym is ∙ h) in
+    let t = c.tell-in-Encode.ensures in
+    let bytes = g.S.Source.bytes c.args.source.now in
+    let written = g.K.Sink.written c.args.sink.now in
+    let same = ap command_seen c.in-Encode.is in
+    let level = c.in-Encode.level in
+    let asks = asked.encode level in
+    let one : (file : List ℕ) → bytes ≡ Some file → One (OutcomeOf asks file) = λ file told. command_has_one_outcome asks file tt (g.met.S.Source.told_are_bytes c.args.source.now file told) in
+    same_run same (run_of_answer asks r c.tell-in-Encode.result bytes _ _ _ _ _ _ _ _ tt (λ file told. g.met.S.Source.told_are_bytes c.args.source.now file told)
+    (λ file told. record {
+      finished = ?;
+      file_is = λ fault h. e.file fault (back (File fault) h) file told level;
+      untouched = λ fault h. ap g.K.Sink.written (e.untouched fault (back (File fault) h));
+      frame_is = λ k fault h. absurd (encode_refuses of_encoded d k fault (sym is ∙ h));
+      cut_short = ?;
+      memory = λ h. ap g.K.Sink.written (e.memory (back Memory h));
+      no_report = λ h. encode_reports of_encoded d (sym is ∙ h);
+    })
+    (record {
+      read = λ h. e.read (back Read h);
+      write = λ h. e.write (back Write h);
+      sure = ?;
+      memory = λ h. e.memory (back Memory h);
+      untouched = λ fault h. e.untouched fault (back (File fault) h);
+      idle = λ w. absurd w;
+      settled = λ w s h. if_done of_encoded of_encode d s (sym is ∙ h) e.settled;
+      by_index = λ k h. absurd (encoding_is_no_frame level k h);
+      any_source = λ k h. absurd (encoding_is_no_frame level k h);
+      no_report = λ h. encode_reports of_encoded d (sym is ∙ h);
+    })
+    (subst (λ q. TellsLine (status_of r) (line_of q r) c.tell-in-Encode.result (record { before = g.R.Sink.faults c.args.report.now; now = g.R.Sink.faults c.tell-in-Encode.new.report }) (record { old = g.R.Sink.written c.args.report.now; new = g.R.Sink.written c.tell-in-Encode.new.report; room = g.R.Sink.room c.args.report.now })) same (record { reported = t.reported; whole = t.whole; cut_short = t.cut_short; cause = t.cause; sure = t.sure })))
+
 pub returns-in-Decode : goal.returns-in-Decode
 returns-in-Decode g c =
     let d = c.decode_file-answer.result in
@@ -55,7 +97,7 @@ returns-in-Decode g c =
     let written = g.K.Sink.written c.args.sink.now in
     let same = ap command_seen c.in-Decode.is in
     let asks = asked.decode in
-    same_run same (run_of_answer asks r c.tell.result bytes _ _ _ _ _ _ _ tt (λ file told. g.met.S.Source.told_are_bytes c.args.source.now file told)
+    same_run same (run_of_answer asks r c.tell.result bytes _ _ _ _ _ _ _ _ tt (λ file told. g.met.S.Source.told_are_bytes c.args.source.now file told)
     (λ file told. record {
       finished = subst (λ r. IfOk r (λ s. (out : List ℕ) × OutcomeOf asks file (done out (done_line asks s ∷ [])) × (g.K.Sink.written c.decode_file-answer.new.sink ≡ and_then written out))) (sym is)
           (if_answered of_decoded of_decode d _ (at_file d (λ s file. (out : List ℕ) × OutcomeOf asks file (done out (done_line asks (of_decoded s) ∷ [])) × (g.K.Sink.written c.decode_file-answer.new.sink ≡ and_then written out)) bytes file told e.decoded));
@@ -73,6 +115,7 @@ returns-in-Decode g c =
       memory = λ h. e.memory (back Memory h);
       untouched = λ fault h. e.untouched fault (back (File fault) h);
       idle = λ w. absurd w;
+      settled = λ w s h. if_done of_decoded of_decode d s (sym is ∙ h) e.settled;
       by_index = λ k h. absurd (decoding_is_no_frame k h);
       any_source = λ k h. absurd (decoding_is_no_frame k h);
       no_report = λ h. decode_reports of_decoded d (sym is ∙ h);
@@ -92,7 +135,7 @@ returns-in-Frame g c =
     let same = ap command_seen c.in-Frame.is in
     let asks = asked.frame c.in-Frame.frame c.in-Frame.by_index in
     let other : (f : DecodeFault) → d ≡ Err f → (f ≢ decoding.Write) → g.K.Sink.written c.frame_out-answer.new.sink ≡ written = λ f h other. ap g.K.Sink.written (e.untouched f h other) in
-    same_run same (run_of_answer asks r c.tell-in-Frame.result bytes _ _ _ _ _ _ _ tt (λ file told. g.met.S.Source.told_are_bytes c.args.source.now file told)
+    same_run same (run_of_answer asks r c.tell-in-Frame.result bytes _ _ _ _ _ _ _ _ tt (λ file told. g.met.S.Source.told_are_bytes c.args.source.now file told)
     (λ file told. record {
       finished = subst (λ r. IfOk r (λ s. (out : List ℕ) × OutcomeOf asks file (done out (done_line asks s ∷ [])) × (g.K.Sink.written c.frame_out-answer.new.sink ≡ and_then written out))) (sym is)
           (if_answered of_written of_decode d _ (at_file d (λ s file. (out : List ℕ) × OutcomeOf asks file (done out (done_line asks (of_written s) ∷ [])) × (g.K.Sink.written c.frame_out-answer.new.sink ≡ and_then written out)) bytes file told e.written));
@@ -110,6 +153,7 @@ returns-in-Frame g c =
       memory = λ h. e.untouched _ (back Memory h) (λ w. absurd cc);
       untouched = λ fault h. e.untouched _ (back (File fault) h) (λ w. absurd cc);
       idle = λ w. absurd w;
+      settled = λ w s h. if_done of_written of_decode d s (sym is ∙ h) e.settled;
       by_index = λ k h file told. few_given _ _ _ (e.given (by_index_is c.in-Frame.frame k c.in-Frame.by_index h) file told);
       any_source = λ k h. most_for_any _ _ (e.given_any (by_index_is c.in-Frame.frame k c.in-Frame.by_index h));
       no_report = λ h. decode_reports of_written d (sym is ∙ h);
@@ -132,7 +176,7 @@ returns-in-Check g c =
     let same = ap command_seen c.in-Check.is in
     let asks = asked.check in
     let one : (file : List ℕ) → bytes ≡ Some file → One (OutcomeOf asks file) = λ file told. command_has_one_outcome asks file tt (g.met.S.Source.told_are_bytes c.args.source.now file told) in
-    same_run same (run_of_answer asks r c.tell-in-Check.result bytes _ _ _ _ _ _ _ tt (λ file told. g.met.S.Source.told_are_bytes c.args.source.now file told)
+    same_run same (run_of_answer asks r c.tell-in-Check.result bytes _ _ _ _ _ _ _ _ tt (λ file told. g.met.S.Source.told_are_bytes c.args.source.now file told)
     (λ file told. record {
       finished = finished_alone asks r written file (subst (λ r. IfOk r (λ s. OutcomeOf asks file (done [] (done_line asks s ∷ [])))) (sym is)
           (if_answered of_checked of_check d _ (at_file d (λ s file. OutcomeOf asks file (done [] (check_line s.frames s.unread ∷ []))) bytes file told e.sound)));
@@ -150,6 +194,7 @@ returns-in-Check g c =
       memory = λ h. refl;
       untouched = λ fault h. refl;
       idle = λ w. refl;
+      settled = λ w. absurd w;
       by_index = λ k h. absurd (checking_is_no_frame k h);
       any_source = λ k h. absurd (checking_is_no_frame k h);
       no_report = λ h. check_reports of_checked d (sym is ∙ h);
@@ -170,7 +215,7 @@ returns-in-Show g c =
     let same = ap command_seen c.in-Show.is in
     let asks = asked.show in
     same_run same (run_of_listing asks r c.tell_fault.result bytes _ _ _ (record { before = g.R.Sink.faults c.show_file-answer.new.report; now = g.R.Sink.faults c.tell_fault.new.report }) _ _ _
-    (record { old = g.R.Sink.written c.show_file-answer.new.report; new = g.R.Sink.written c.tell_fault.new.report; room = g.R.Sink.room c.show_file-answer.new.report }) _ tt (λ k h. showing_is_no_frame k h)
+    (record { old = g.R.Sink.written c.show_file-answer.new.report; new = g.R.Sink.written c.tell_fault.new.report; room = g.R.Sink.room c.show_file-answer.new.report }) _ _ tt tt (λ k h. showing_is_no_frame k h)
     (λ file told. g.met.S.Source.told_are_bytes c.args.source.now file told) refl refl refl refl
     (λ file told. record {
       lines = subst (λ r. IfOk r (λ s. (lines : List Line) × OutcomeOf asks file (done [] lines) × (g.R.Sink.written c.show_file-answer.new.report ≡ and_then (g.R.Sink.written c.args.report.now) (report lines)))) (sym is)
@@ -218,7 +263,7 @@ returns-in-ShowFrame g c =
     let same = ap command_seen c.in-ShowFrame.is in
     let asks = asked.show_frame c.in-ShowFrame.frame in
     same_run same (run_of_listing asks r c.tell_fault-in-ShowFrame.result bytes _ _ _ (record { before = g.R.Sink.faults c.show_file-answer-in-ShowFrame.new.report; now = g.R.Sink.faults c.tell_fault-in-ShowFrame.new.report }) _ _ _
-    (record { old = g.R.Sink.written c.show_file-answer-in-ShowFrame.new.report; new = g.R.Sink.written c.tell_fault-in-ShowFrame.new.report; room = g.R.Sink.room c.show_file-answer-in-ShowFrame.new.report }) _ tt (λ k h. showing_one_is_no_frame c.in-ShowFrame.frame k h)
+    (record { old = g.R.Sink.written c.show_file-answer-in-ShowFrame.new.report; new = g.R.Sink.written c.tell_fault-in-ShowFrame.new.report; room = g.R.Sink.room c.show_file-answer-in-ShowFrame.new.report }) _ _ tt tt (λ k h. showing_one_is_no_frame c.in-ShowFrame.frame k h)
     (λ file told. g.met.S.Source.told_are_bytes c.args.source.now file told) refl refl refl refl
     (λ file told. record {
       lines = subst (λ r. IfOk r (λ s. (lines : List Line) × OutcomeOf asks file (done [] lines) × (g.R.Sink.written c.show_file-answer-in-ShowFrame.new.report ≡ and_then (g.R.Sink.written c.args.report.now) (report lines)))) (sym is)
@@ -266,7 +311,7 @@ returns-in-Index g c =
     let same = ap command_seen c.in-Index.is in
     let asks = asked.index in
     same_run same (run_of_listing asks r c.tell_fault-in-Index.result bytes _ _ _ (record { before = g.R.Sink.faults c.index_file-answer.new.report; now = g.R.Sink.faults c.tell_fault-in-Index.new.report }) _ _ _
-    (record { old = g.R.Sink.written c.index_file-answer.new.report; new = g.R.Sink.written c.tell_fault-in-Index.new.report; room = g.R.Sink.room c.index_file-answer.new.report }) _ tt (λ k h. listing_is_no_frame k h)
+    (record { old = g.R.Sink.written c.index_file-answer.new.report; new = g.R.Sink.written c.tell_fault-in-Index.new.report; room = g.R.Sink.room c.index_file-answer.new.report }) _ _ tt tt (λ k h. listing_is_no_frame k h)
     (λ file told. g.met.S.Source.told_are_bytes c.args.source.now file told) refl refl refl refl
     (λ file told. record {
       lines = subst (λ r. IfOk r (λ s. (lines : List Line) × OutcomeOf asks file (done [] lines) × (g.R.Sink.written c.index_file-answer.new.report ≡ and_then (g.R.Sink.written c.args.report.now) (report lines)))) (sym is)

@@ -31,7 +31,7 @@ returns-in-Some-clause-headline g c file told no_read no_write no_report =
     let asks = command_seen c.in-Some.field-0.command in
     let e : command_of words ≡ Some asks = sym (command_from _ _ c.in-Some.ensures.task) in
     let r = c.run_command.ensures in
-    run_headline words asks file c.run_command.result _ _ _ _ _ _ _ _ e r told no_read no_write no_report
+    run_headline words asks file c.run_command.result _ _ _ _ _ _ _ _ _ e r told no_read no_write no_report
 
 pub returns-in-Some-clause-complete : goal.returns-in-Some-clause-complete
 returns-in-Some-clause-complete g c file told none no_read no_write no_report =
@@ -39,7 +39,7 @@ returns-in-Some-clause-complete g c file told none no_read no_write no_report =
     let asks = command_seen c.in-Some.field-0.command in
     let e : command_of words ≡ Some asks = sym (command_from _ _ c.in-Some.ensures.task) in
     let r = c.run_command.ensures in
-    run_completes words asks file c.run_command.result _ _ _ _ e none (run_headline words asks file c.run_command.result _ _ _ _ _ _ _ _ e r told no_read no_write no_report)
+    run_completes words asks file c.run_command.result _ _ _ _ e none (run_headline words asks file c.run_command.result _ _ _ _ _ _ _ _ _ e r told no_read no_write no_report)
 
 pub returns-in-Some-clause-ends : goal.returns-in-Some-clause-ends
 returns-in-Some-clause-ends g c file told =
@@ -72,7 +72,7 @@ returns-in-Some-clause-refused g c five file told =
     let asks = command_seen c.in-Some.field-0.command in
     let e : command_of words ≡ Some asks = sym (command_from _ _ c.in-Some.ensures.task) in
     let r = c.run_command.ensures in
-    run_refused words asks file c.run_command.result _ _ _ _ _ _ _ _ e r told five
+    run_refused words asks file c.run_command.result _ _ _ _ _ _ _ _ _ e r told five
 
 pub returns-in-Some-clause-frame : goal.returns-in-Some-clause-frame
 returns-in-Some-clause-frame g c six file told =
@@ -80,7 +80,7 @@ returns-in-Some-clause-frame g c six file told =
     let asks = command_seen c.in-Some.field-0.command in
     let e : command_of words ≡ Some asks = sym (command_from _ _ c.in-Some.ensures.task) in
     let r = c.run_command.ensures in
-    run_refused_frame words asks file c.run_command.result _ _ _ _ _ _ _ _ e r told six
+    run_refused_frame words asks file c.run_command.result _ _ _ _ _ _ _ _ _ e r told six
 
 pub returns-in-Some-clause-by_index : goal.returns-in-Some-clause-by_index
 returns-in-Some-clause-by_index g c k is file told =

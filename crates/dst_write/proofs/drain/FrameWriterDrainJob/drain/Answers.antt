@@ -1,5 +1,5 @@
 -- The frame is written whole.
-use Rattle.std.proofs.Common.{◌≡◌, List, Ok, length, take, refl, ap, subst, ◌∙◌, arith}
+use Rattle.std.proofs.Common.{Ok, length, take, refl, ap, subst, ◌∙◌}
 use Rattle.std.proofs.Math.ListN.{length-set}
 use Rattle.dsdiff_spec.specs.Written.{dstf}
 use Rattle.dst_commands.specs.Writing.{Adds}

@@ -1,5 +1,5 @@
 -- The source has the form, and the job has room for the next piece.
-use Rattle.std.proofs.Common.{◌≡◌, ◌<◌, length, refl, ap, sym, ◌∙◌, arith}
+use Rattle.std.proofs.Common.{length, refl, ap, ◌∙◌, arith}
 use Rattle.std.proofs.lemmas.List.{with_items_is}
 use Rattle.dst_write.proofs.Shapes.{can_fill}
 use Rattle.dst_write.proofs.feed.SoundPiecesFeedJob.fill.Goals as goal

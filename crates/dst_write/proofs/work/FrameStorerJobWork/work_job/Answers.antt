@@ -1,5 +1,5 @@
 -- The stored bytes stand at the front of the job's frame.
-use Rattle.std.proofs.Common.{◌≡◌, ℕ, ◌+◌, ◌≤◌, List, length, take, refl, ap, sym, subst, ◌∙◌, arith, length-take}
+use Rattle.std.proofs.Common.{◌≡◌, ℕ, List, length, take, refl, ap, sym, ◌∙◌, arith, length-take}
 use Rattle.std.proofs.lemmas.List.{with_items_is}
 use Rattle.dst_spec.specs.Spell.{stored}
 use Rattle.dst_write.proofs.Shapes.{room_for}
