@@ -1,67 +1,35 @@
 -- What encoding writes is accepted for decoding, its frames are the stored ones, and its index is its walk.
-use Rattle.std.proofs.Common.{◌≡◌, ℕ, zero, suc, ◌+◌, ◌%◌, ◌^◌, ◌<◌, ◌≤◌, ◌==◌, nat_lt, Bool, true, false, if◌then◌else◌, List, [], ◌∷◌, ◌++◌, length}
-use Rattle.std.proofs.Common.{drop, get_or, flat_map, Option, Some, None, Ok, refl, sym, ap, ap₂, subst, ◌∙◌, arith, length-append, append_assoc}
-use Rattle.std.specs.Prelude.{codes, ◌||◌}
-use Rattle.std.proofs.lemmas.Bool.{lt-ltb}
+use Rattle.std.proofs.Common.{◌≡◌, ℕ, ◌+◌, ◌%◌, ◌^◌, ◌<◌, ◌≤◌, ◌==◌, Bool, true, false, if◌then◌else◌, List, [], ◌∷◌, ◌++◌, length}
+use Rattle.std.proofs.Common.{drop, get_or, flat_map, None, refl, sym, ap, ap₂, subst, ◌∙◌, arith, length-append, append_assoc}
+use Rattle.std.specs.Prelude.{codes}
 use Rattle.byteorder.specs.Endian.{big_bytes}
-use Rattle.byteorder.specs.Numbers.{length-bytes_high_first}
 use Rattle.dst_spec.specs.Bits.{AreBytes}
 use Rattle.dst_spec.specs.Sample.{IsShape}
 use Rattle.dst_spec.proofs.Lists.{AreBytes-take, AreBytes-drop, all_append}
 use Rattle.dsdiff_spec.specs.Bytes.{◌is◌}
-use Rattle.dsdiff_spec.specs.Faults.{◌otherwise◌}
 use Rattle.dsdiff_spec.specs.Chunks.{Chunk, bytes_of_chunk, Head, Found, body_place, body_end, body_of, named}
 use Rattle.dsdiff_spec.specs.Form.{Kind, plain, coded, is_plain, Form, shape, sound_bytes_of, longest_frame, frames_for}
 use Rattle.dsdiff_spec.specs.Parts.{sound_head, form_end, pad_byte, sound_bytes_in}
 use Rattle.dsdiff_spec.specs.Rules.{form_fault, form_of_kind, accepted}
-use Rattle.dsdiff_spec.specs.Walk.{entries, walk_fault, compare_fault, index_heads, check_index_fault}
+use Rattle.dsdiff_spec.specs.Walk.{entries, compare_fault, index_heads}
 use Rattle.dsdiff_spec.specs.Written.{frte, dstf, entries_from}
 use Rattle.dsdiff_spec.specs.Coded.{Picks, pieces, stored_frames}
-use Rattle.dsdiff_spec.specs.Words.{Command, decode, frame, check, index}
-use Rattle.dsdiff_spec.specs.Refusal.{not_walked, walked_if_coded, not_compared, command_fault, refusal}
 use Rattle.dsdiff_spec.specs.Laws.{IsPlainFile, ArePicks, coded_file, AcceptanceLaw}
-use Rattle.dsdiff_spec.specs.declared.faults.FileFault.{FileFault}
 use Rattle.dsdiff_spec.proofs.Lawful.{form_has_a_shape}
-use Rattle.dsdiff_spec.proofs.CodedFiles.{form_by, refused_by, longest_sound_of_frame}
-use Rattle.dsdiff_spec.proofs.ByIndex.{found_by_index}
+use Rattle.dsdiff_spec.proofs.CodedFiles.{longest_sound_of_frame}
 use Rattle.dsdiff_spec.proofs.Tiling.{heads_from}
-use Rattle.dsdiff_laws.proofs.Filed.{IsFile, body_bytes, opening_bytes, found_is, either_false}
-use Rattle.dsdiff_laws.proofs.Places.{Lacks, head_behind, stands_behind, one_named}
-use Rattle.dsdiff_laws.proofs.PlainParts.{PlainParts, plain_parts, plain_rules}
+use Rattle.dsdiff_laws.proofs.Filed.{IsFile, body_bytes, found_is}
+use Rattle.dsdiff_laws.proofs.Places.{either_lacks, Lacks, head_behind, stands_behind, one_named}
+use Rattle.dsdiff_laws.proofs.PlainParts.{PlainParts, plain_parts, plain_rules, added_id}
 use Rattle.dsdiff_laws.proofs.CodedChunks.{coded_prop, coded_pre, coded_chunks, dst_body, dst_chunk, dsti_chunk, entries_of, origin_of_parts, coded_is}
-use Rattle.dsdiff_laws.proofs.CodedFile.{AreShort, AreFrames, coded_is_file, length-frte, length-body, length-cons, length-entries}
+use Rattle.dsdiff_laws.proofs.CodedFile.{AreShort, AreFrames, coded_is_file, length-body, length-cons, length-entries}
 use Rattle.dsdiff_laws.proofs.CodedRules.{AreExact, form_rules, kind_is, count_is, sound_head_is, same_sound_bytes}
-use Rattle.dsdiff_laws.proofs.CodedWalk.{Walked, IsWalk, walk_is}
-use Rattle.dsdiff_laws.proofs.CodedIndex.{HasIndex, index_is_walk, entries_are_numbers}
+use Rattle.dsdiff_laws.proofs.BehindFrte.{behind_frte}
+use Rattle.dsdiff_laws.proofs.CodedWalk.{Walked, IsWalk, walk_is, entries_are_numbers}
+use Rattle.dsdiff_laws.proofs.CodedIndex.{HasIndex, index_is_walk}
 use Rattle.dsdiff_laws.proofs.StoredBytes.{AreStored, stored_are, pieces_are, length-pieces}
-use Rattle.dsdiff_laws.proofs.Accepting.{coded_is_bytes}
-
-abbrev if_coded : Kind → Option FileFault → Option FileFault
-if_coded k a = elim k [ plain ↦ None | coded ↦ a ]
-
-by_kind : (k : Kind) → k ≡ coded → (a : Option FileFault) → a ≡ None → if_coded k a ≡ None
-by_kind plain e a n = absurd cc
-by_kind coded e a n = n
-
-walked_by : (file : List ℕ) (form : Form) → form.kind ≡ coded → walk_fault file form ≡ None → walked_if_coded file form ≡ None
-walked_by file form e n = by_kind form.kind e (walk_fault file form) n
-
-compared_by : (file : List ℕ) (form : Form) → form.kind ≡ coded → check_index_fault file form ≡ None → not_compared file form ≡ None
-compared_by file form e n = by_kind form.kind e (check_index_fault file form) n
-
-abbrev of_heads : List Head → Option FileFault → Option FileFault
-of_heads hs a = elim hs [ [] ↦ None | i ∷ more ↦ a ]
-
-indexed_by : (file : List ℕ) (form : Form) (h : Head) → index_heads form ≡ h ∷ [] → compare_fault file form ≡ None → check_index_fault file form ≡ None
-indexed_by file form h e n = by_heads (index_heads form) e
-  where
-    by_heads : (hs : List Head) → hs ≡ h ∷ [] → of_heads hs (compare_fault file form) ≡ None
-    by_heads [] q = absurd cc
-    by_heads (i ∷ hs) q = n
-
-both_none : (a b : Option FileFault) → a ≡ None → b ≡ None → (a otherwise b) ≡ None
-both_none None b p q = q
-both_none (Some f) b p q = absurd cc
+use Rattle.dsdiff_laws.proofs.Answered.{IsAnswered, decodes, checks, lists, writes}
+use Rattle.dsdiff_laws.proofs.Accepting.{coded_is_bytes, byte_at_place}
 
 more_short : (m n : ℕ) (frames : List (List ℕ)) → m ≤ n → AreShort m frames → AreShort n frames
 more_short m n [] le all = tt
@@ -88,17 +56,17 @@ encoded_is file picks plain_file are =
     let is_form : form ≡ form_of_kind plain file = ap (λ k. form_of_kind k file) rules.1 in
     let lawful = form_has_a_shape file rules.0 in
     let n = sound_bytes_of form in
-    let same : n ≡ sound_bytes_in p.prop.body = ap sound_bytes_in p.prop_is in
+    let same : n ≡ sound_bytes_in p.parts.prop.body = ap sound_bytes_in p.parts.prop_is in
     let sound = body_of file form.sound in
-    let body : sound ≡ p.sound.body = ap (body_of file) p.sound_head_is ∙ p.sound_holds.body in
+    let body : sound ≡ p.parts.sound.body = ap (body_of file) p.parts.sound_head_is ∙ p.parts.sound_holds.body in
     let bytes : AreBytes sound = AreBytes-take form.sound.size (drop (body_place form.sound) file) (AreBytes-drop (body_place form.sound) file plain_file.0) in
     let list = pieces n sound in
     let stored = stored_are (shape form) picks list lawful (λ s h. (are s (shape form) lawful h).1) (pieces_are n sound bytes) in
-    let exact : length (stored_frames picks file form) ≡ frames_for (sound_bytes_in p.prop.body) (length p.sound.body) =
+    let exact : length (stored_frames picks file form) ≡ frames_for (sound_bytes_in p.parts.prop.body) (length p.parts.sound.body) =
     stored.count ∙ length-pieces n sound ∙ ap₂ frames_for same (ap length body) in
-    let size : form.sound.size ≡ length p.sound.body = ap (λ (h : Head). h.size) p.sound_head_is in
-    let frames : form.frames ≡ frames_for (sound_bytes_in p.prop.body) (length p.sound.body) =
-    ap (λ (f : Form). f.frames) is_form ∙ ap₂ frames_for (ap sound_bytes_in p.prop_is) size in
+    let size : form.sound.size ≡ length p.parts.sound.body = ap (λ (h : Head). h.size) p.parts.sound_head_is in
+    let frames : form.frames ≡ frames_for (sound_bytes_in p.parts.prop.body) (length p.parts.sound.body) =
+    ap (λ (f : Form). f.frames) is_form ∙ ap₂ frames_for (ap sound_bytes_in p.parts.prop_is) size in
     let few : AreFrames file p form (stored_frames picks file form) = record {
       is_form = is_form;
       count = omega (arith, exact, p.frames);
@@ -139,56 +107,22 @@ module _ (file : List ℕ) (picks : Picks) (e : IsEncoded file picks)
     same_frames = ap (λ (f : Form). f.frames) coded_form ∙ count_is file e.p (accepted file) stored e.frames e.exact g e.made ∙ e.count
 
     pub same_bytes : sound_bytes_of (accepted g) ≡ sound_bytes_of (accepted file)
-    same_bytes = same_sound_bytes file e.p (accepted file) stored e.frames e.exact g e.made ∙ sym (ap sound_bytes_in e.p.prop_is)
-
-    last_chunks : List Chunk
-    last_chunks = dsti_chunk (entries_of e.p stored) ∷ origin_of_parts e.p (accepted file) ∷ e.p.last
+    same_bytes = same_sound_bytes file e.p (accepted file) stored e.frames e.exact g e.made ∙ sym (ap sound_bytes_in e.p.parts.prop_is)
 
     pub walked : Walked g (body_end (accepted g).sound) (body_place (accepted g).sound + 18) stored
-    unfolding last_chunks
     walked =
-        let cs = coded_chunks e.p (accepted file) stored in
-        let pre = coded_pre e.p in
-        let dst = dst_chunk stored in
-        let front = opening_bytes cs ++ body_bytes pre ++ codes "DST " ++ big_bytes 8 (length (dst_body stored)) ++ frte (length stored) in
-        let n = 4 + length (body_bytes cs) in
-        let o : length (opening_bytes cs) ≡ 16 = omega (
-          arith,
-          length-append (codes "FRM8" ++ big_bytes 8 n) (codes "DSD "),
-          length-append (codes "FRM8") (big_bytes 8 n),
-          length-bytes_high_first 8 n,
-        ) in
-        let long : length front ≡ 16 + length (body_bytes pre) + 12 + 18 =
-        omega (
-          arith,
-          o,
-          length-append (opening_bytes cs ++ body_bytes pre ++ codes "DST " ++ big_bytes 8 (length (dst_body stored))) (frte (length stored)),
-          length-append (opening_bytes cs ++ body_bytes pre ++ codes "DST ") (big_bytes 8 (length (dst_body stored))),
-          length-append (opening_bytes cs ++ body_bytes pre) (codes "DST "),
-          length-append (opening_bytes cs) (body_bytes pre),
-          length-bytes_high_first 8 (length (dst_body stored)),
-          length-frte (length stored),
-        ) in
-        let place : body_place (accepted g).sound ≡ 16 + length (body_bytes pre) + 12 = ap body_place sound_is in
-        let end : body_end (accepted g).sound ≡ 16 + length (body_bytes pre) + 12 + length (dst_body stored) = ap body_end sound_is in
+        let b = behind_frte g (coded_pre e.p) (dsti_chunk (entries_of e.p stored) ∷ origin_of_parts e.p (accepted file) ∷ e.p.parts.last) (length stored)
+        (flat_map dstf stored) e.made in
+        let end = ap body_end sound_is in
+        let place = ap body_place sound_is in
         record {
-          front = front;
-          rest = dst.pad ++ body_bytes last_chunks ++ [];
-          bytes = e.made.bytes ∙ ap (λ w. opening_bytes cs ++ w ++ []) (body_split pre dst last_chunks)
-              ∙ regroup (opening_bytes cs) (body_bytes pre) (codes "DST ") (big_bytes 8 (length (dst_body stored))) (frte (length stored))
-              (flat_map dstf stored) dst.pad (body_bytes last_chunks);
-          at_place = omega (arith, long, place);
-          ends = omega (arith, end, place, length-append (frte (length stored)) (flat_map dstf stored), length-frte (length stored));
+          front = b.front;
+          rest = b.rest;
+          bytes = b.bytes;
+          at_place = omega (arith, b.at_place, place);
+          ends = omega (arith, b.ends, end, place);
           few = e.frames.count;
         }
-      where
-        body_split : (pre : List Chunk) (c : Chunk) (post : List Chunk) → body_bytes (pre ++ c ∷ post) ≡ body_bytes pre ++ (bytes_of_chunk c ++ body_bytes post)
-        body_split [] c post = refl
-        body_split (d ∷ pre) c post = ap (λ w. bytes_of_chunk d ++ w) (body_split pre c post)
-            ∙ sym (append_assoc (bytes_of_chunk d) (body_bytes pre) (bytes_of_chunk c ++ body_bytes post))
-
-        regroup : (o b d s f w p l : List ℕ) → o ++ (b ++ ((d ++ s ++ (f ++ w) ++ p) ++ l)) ++ [] ≡ (o ++ b ++ d ++ s ++ f) ++ w ++ (p ++ l ++ [])
-        regroup o b d s f w p l = simp append_assoc refl
 
     pub walk_of_coded : IsWalk g (accepted g) stored
     walk_of_coded =
@@ -200,28 +134,26 @@ module _ (file : List ℕ) (picks : Picks) (e : IsEncoded file picks)
     index_id : List ℕ → Bool
     index_id id = id is "DSTI"
 
-    first_lacks : (q r : List ℕ → Bool) (cs : List Chunk) → Lacks (λ id. q id || r id) cs → Lacks q cs
-    first_lacks q r [] all = tt
-    first_lacks q r (c ∷ cs) all = ((either_false (q c.id) (r c.id) all.0).0, first_lacks q r cs all.1)
-
     index_parts : coded_chunks e.p (accepted file) stored ≡ (coded_pre e.p ++ dst_chunk stored ∷ []) ++ dsti_chunk (entries_of e.p stored)
-        ∷ origin_of_parts e.p (accepted file) ∷ e.p.last
+        ∷ origin_of_parts e.p (accepted file) ∷ e.p.parts.last
     index_parts = sym (append_assoc (coded_pre e.p) (dst_chunk stored ∷ [])
-        (dsti_chunk (entries_of e.p stored) ∷ origin_of_parts e.p (accepted file) ∷ e.p.last))
+        (dsti_chunk (entries_of e.p stored) ∷ origin_of_parts e.p (accepted file) ∷ e.p.parts.last))
 
     pub has_index : HasIndex g (accepted g) (entries_of e.p stored)
     has_index =
         let p = e.p in
-        let none = first_lacks (λ id. id is "DSTI") (λ id. id is "KEPT") in
+        let none : (cs : List Chunk) → Lacks added_id cs → Lacks (λ id. id is "DSTI") cs =
+        λ cs l. (either_lacks (λ id. id is "DSTI") (λ id. id is "KEPT") cs l).0 in
         let pre : Lacks (λ id. id is "DSTI") (coded_pre p ++ dst_chunk stored ∷ []) =
         all_append (λ (d : Chunk). (d.id is "DSTI") ≡ false) (coded_pre p) (dst_chunk stored ∷ [])
-        (all_append (λ (d : Chunk). (d.id is "DSTI") ≡ false) (p.version ∷ p.front) (coded_prop p ∷ p.middle) (none (p.version ∷ p.front) p.others_front.added)
-        (refl, none p.middle p.others_middle.added))
+        (all_append (λ (d : Chunk). (d.id is "DSTI") ≡ false) (p.parts.version ∷ p.parts.front) (coded_prop p ∷ p.parts.middle)
+        (none (p.parts.version ∷ p.parts.front) p.added_front)
+        (refl, none p.parts.middle p.added_middle))
         (refl, tt) in
         let heads = ap (λ (x : Found). x.heads) (found_is g (coded_chunks p (accepted file) stored) [] e.made) in
         let size = e.made.size in
-        let long = length-body (coded_pre p) (dst_chunk stored ∷ dsti_chunk (entries_of p stored) ∷ origin_of_parts p (accepted file) ∷ p.last) in
-        let first = length-cons (dst_chunk stored) (dsti_chunk (entries_of p stored) ∷ origin_of_parts p (accepted file) ∷ p.last) in
+        let long = length-body (coded_pre p) (dst_chunk stored ∷ dsti_chunk (entries_of p stored) ∷ origin_of_parts p (accepted file) ∷ p.parts.last) in
+        let first = length-cons (dst_chunk stored) (dsti_chunk (entries_of p stored) ∷ origin_of_parts p (accepted file) ∷ p.parts.last) in
         let inside : length (dst_body stored) ≤ length (bytes_of_chunk (dst_chunk stored)) =
         omega (
           arith,
@@ -233,10 +165,11 @@ module _ (file : List ℕ) (picks : Picks) (e : IsEncoded file picks)
           head = head_behind (coded_pre p ++ dst_chunk stored ∷ []) (dsti_chunk (entries_of p stored));
           end = form_end g;
           one = ap (λ (f : Form). named "DSTI" f.chunks) coded_form ∙ ap (named "DSTI") (heads ∙ ap (heads_from 16) index_parts)
-              ∙ one_named (λ id. id is "DSTI") (coded_pre p ++ dst_chunk stored ∷ []) (origin_of_parts p (accepted file) ∷ p.last)
+              ∙ one_named (λ id. id is "DSTI") (coded_pre p ++ dst_chunk stored ∷ []) (origin_of_parts p (accepted file) ∷ p.parts.last)
               (dsti_chunk (entries_of p stored)) pre refl
-              (refl, none p.last p.others_last.added);
-          holds = stands_behind g (coded_pre p ++ dst_chunk stored ∷ []) (origin_of_parts p (accepted file) ∷ p.last) (dsti_chunk (entries_of p stored)) []
+              (refl, none p.parts.last p.added_last);
+          holds = stands_behind g (coded_pre p ++ dst_chunk stored ∷ []) (origin_of_parts p (accepted file) ∷ p.parts.last)
+              (dsti_chunk (entries_of p stored)) []
               (subst (λ cs. IsFile g cs []) index_parts e.made);
           numbers = entries_are_numbers (16 + length (body_bytes (coded_pre p)) + 12 + 18) (2 ^ 50 + 100) 112897 stored (omega arith) e.frames.short
               (omega (arith, size, long, first, inside, body)) (omega arith);
@@ -252,48 +185,16 @@ module _ (file : List ℕ) (picks : Picks) (e : IsEncoded file picks)
     one_index : length (index_heads (accepted g)) ≡ 1
     one_index = ap length has_index.one
 
-    -- ---- what each command answers
-    is_coded : is_plain (accepted g).kind ≡ false
-    is_coded = ap (λ (f : Form). is_plain f.kind) coded_form
-
-    pub not_refused : (c : Command) → command_fault c g (accepted g) ≡ None → form_by (form_fault g) g ≡ Ok (accepted g) →
-        refused_by (form_by (form_fault g) g) c g ≡ None
-    not_refused c none o = ap (λ r. refused_by r c g) o ∙ none
-
-    opened : form_by (form_fault g) g ≡ Ok (accepted g)
-    opened = ap (λ o. form_by o g) rules_kept
-
-    walks : not_walked g (accepted g) ≡ None
-    walks = let none = walk_of_coded.none in rw (is_coded, none) refl
-
-    pub decodes : refusal decode g ≡ None
-    unfolding refusal
-    decodes = not_refused decode walks opened
-
-    pub lists : refusal index g ≡ None
-    unfolding refusal
-    lists = not_refused index walks opened
-
-    pub writes : (k : ℕ) → k < (accepted file).frames → (b : Bool) → refusal (frame k b) g ≡ None
-    unfolding refusal
-    writes k l false =
-        let there : nat_lt k (accepted g).frames ≡ true = lt-ltb k (accepted g).frames (omega (arith, l, same_frames)) in
-        not_refused (frame k false) (let none = walks in rw (none, there) refl) opened
-    writes k l true =
-        let there : nat_lt k (accepted g).frames ≡ true = lt-ltb k (accepted g).frames (omega (arith, l, same_frames)) in
-        let found = found_by_index g (accepted g) k walk_of_coded.none compared (omega (arith, one_index)) walk_of_coded.heads
-        (omega (arith, l, same_frames)) in
-        not_refused (frame k true) (rw (is_coded, there) found) opened
-
-    pub checks : refusal check g ≡ None
-    unfolding refusal
-    checks =
-        let is_kind : (accepted g).kind ≡ coded = ap (λ (f : Form). f.kind) coded_form in
-        let indexed = indexed_by g (accepted g) has_index.head has_index.one compared in
-        not_refused check
-        (both_none (walked_if_coded g (accepted g)) (not_compared g (accepted g)) (walked_by g (accepted g) is_kind walk_of_coded.none)
-        (compared_by g (accepted g) is_kind indexed))
-        opened
+    pub is_answered : IsAnswered g
+    is_answered = record {
+      rules = rules_kept;
+      is_coded = kind_is file e.p (accepted file) stored e.frames e.exact g e.made;
+      walked = walk_of_coded.none;
+      found = walk_of_coded.heads;
+      head = has_index.head;
+      one = has_index.one;
+      compared = compared;
+    }
 
 pub acceptance : AcceptanceLaw
 acceptance file picks plain_file are =
@@ -303,20 +204,15 @@ acceptance file picks plain_file are =
     let bytes = coded_is_bytes file e.p (accepted file) (stored_frames picks file (accepted file)) g
     (subst (λ (f : Form). f.pad < 256) (sym e.is_form) pad)
     (subst (λ (f : Form). AreBytes f.behind) (sym e.is_form) (AreBytes-drop (form_end file) file plain_file.0)) e.stored.bytes e.made.bytes in (
-      (bytes, decodes file picks e),
-      (bytes, checks file picks e),
-      (bytes, lists file picks e),
-      (λ k l b. (bytes, writes file picks e k l b)),
+      (bytes, decodes g (is_answered file picks e)),
+      (bytes, checks g (is_answered file picks e)),
+      (bytes, lists g (is_answered file picks e)),
+      (λ k l b. (bytes, writes g (is_answered file picks e) k (omega (arith, l, same_frames file picks e)) b)),
       (walk_of_coded file picks e).stored,
       e.stored.short,
       (ap length (has_index file picks e).one, compared file picks e),
     )
   where
-    byte_at_place : (w : List ℕ) (i : ℕ) → AreBytes w → get_or w i 0 < 256
-    byte_at_place [] i all = omega arith
-    byte_at_place (x ∷ w) zero all = all.0
-    byte_at_place (x ∷ w) (suc i) all = byte_at_place w i all.1
-
     pad_is_byte : (file : List ℕ) → AreBytes file → pad_byte file < 256
     pad_is_byte file all = either ((sound_head file).size % 2 == 1)
       where

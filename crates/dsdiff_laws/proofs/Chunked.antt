@@ -38,7 +38,7 @@ number_again file place n bytes le =
     ap (big_bytes n) (number_of_drop file place n (omega (arith, le)))
     ∙ bytes_again n (drop place file) (AreBytes-drop place file bytes) (omega (arith, le, length-drop place file))
 
-number_fits : (file : List ℕ) (place : ℕ) → AreBytes file → number_at file place 8 < 2 ^ 64
+pub number_fits : (file : List ℕ) (place : ℕ) → AreBytes file → number_at file place 8 < 2 ^ 64
 number_fits file place bytes = big_from-lt place 8 file (byte_below file bytes)
 
 -- a list from one place to a second and from there to a third

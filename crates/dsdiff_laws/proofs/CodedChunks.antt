@@ -21,14 +21,15 @@ use Rattle.dsdiff_laws.proofs.Filed.{may_lack, body_bytes, concat_bytes}
 use Rattle.dsdiff_laws.proofs.Props.{locals, chunk_of, body_with, prop_with_is, fields_are_read}
 use Rattle.dsdiff_laws.proofs.Order.{those_before, those_behind}
 use Rattle.dsdiff_laws.proofs.Places.{Lacks, parts_hold, copy_of, copied_of, copy_without}
-use Rattle.dsdiff_laws.proofs.PlainParts.{PlainParts, added_id, prop_id}
+use Rattle.dsdiff_laws.proofs.FormParts.{prop_id}
+use Rattle.dsdiff_laws.proofs.PlainParts.{PlainParts, added_id}
 
 -- ---- the chunks
 abbrev pub coded_cmpr : Chunk
 coded_cmpr = chunk_of "CMPR" (codes "DST " ++ 11 ∷ codes "DST Encoded") 0
 
 abbrev pub coded_prop : {file : List ℕ} → PlainParts file → Chunk
-coded_prop p = chunk_of "PROP" (body_with coded_cmpr (locals p.prop.body)) 0
+coded_prop p = chunk_of "PROP" (body_with coded_cmpr (locals p.parts.prop.body)) 0
 
 abbrev pub frte_chunk : ℕ → Chunk
 frte_chunk n = chunk_of "FRTE" (big_bytes 4 n ++ big_bytes 2 75) 0
@@ -56,19 +57,19 @@ origin_piece sound pad cmpr kept = chunk_of "KEPT" (origin_body sound pad cmpr k
 
 -- before the sound, and all of them
 abbrev pub coded_pre : {file : List ℕ} → PlainParts file → List Chunk
-coded_pre p = p.version ∷ p.front ++ coded_prop p ∷ p.middle
+coded_pre p = p.parts.version ∷ p.parts.front ++ coded_prop p ∷ p.parts.middle
 
 abbrev pub plain_pre : {file : List ℕ} → PlainParts file → List Chunk
-plain_pre p = p.version ∷ p.front ++ p.prop ∷ p.middle
+plain_pre p = p.parts.version ∷ p.parts.front ++ p.parts.prop ∷ p.parts.middle
 
 abbrev pub entries_of : {file : List ℕ} → PlainParts file → List (List ℕ) → List Entry
 entries_of p frames = entries_from (16 + length (body_bytes (coded_pre p)) + 12 + 18) frames
 
 abbrev pub origin_of_parts : {file : List ℕ} → PlainParts file → Form → Chunk
-origin_of_parts p form = origin_piece (length p.sound.body) form.pad (bytes_of_chunk p.lawful.cmpr) form.behind
+origin_of_parts p form = origin_piece (length p.parts.sound.body) form.pad (bytes_of_chunk p.parts.lawful.cmpr) form.behind
 
 abbrev pub coded_chunks : {file : List ℕ} → PlainParts file → Form → List (List ℕ) → List Chunk
-coded_chunks p form frames = coded_pre p ++ dst_chunk frames ∷ dsti_chunk (entries_of p frames) ∷ origin_of_parts p form ∷ p.last
+coded_chunks p form frames = coded_pre p ++ dst_chunk frames ∷ dsti_chunk (entries_of p frames) ∷ origin_of_parts p form ∷ p.parts.last
 
 -- ---- the chunks that are passed on
 pub kept_named : (f : List ℕ → Bool) (n : ℕ) (cs : List Chunk) → Lacks f cs → filter (λ h. not (f h.id)) (heads_from n cs) ≡ heads_from n cs
@@ -84,66 +85,74 @@ lacks_append f (c ∷ cs) ds p q = (p.0, lacks_append f cs ds p.1 q)
 module _ (file : List ℕ) (p : PlainParts file) (form : Form) (is_form : form ≡ form_of_kind plain file)
   where
     pre_lacks_added : Lacks added_id (plain_pre p)
-    pre_lacks_added = lacks_append added_id (p.version ∷ p.front) (p.prop ∷ p.middle) p.others_front.added (ap added_id p.is_prop, p.others_middle.added)
+    pre_lacks_added = lacks_append added_id (p.parts.version ∷ p.parts.front) (p.parts.prop ∷ p.parts.middle) p.added_front
+        (ap added_id p.parts.is_prop, p.added_middle)
 
-    heads_are : form.chunks ≡ heads_from 16 (plain_pre p ++ p.sound ∷ p.last)
-    heads_are = ap (λ (f : Form). f.chunks) is_form ∙ p.heads
+    heads_are : form.chunks ≡ heads_from 16 (plain_pre p ++ p.parts.sound ∷ p.parts.last)
+    heads_are = ap (λ (f : Form). f.chunks) is_form ∙ p.parts.heads
 
     place_is : form.sound.place ≡ 16 + length (body_bytes (plain_pre p))
-    place_is = ap (λ (f : Form). f.sound.place) is_form ∙ ap (λ (h : Head). h.place) p.sound_head_is
+    place_is = ap (λ (f : Form). f.sound.place) is_form ∙ ap (λ (h : Head). h.place) p.parts.sound_head_is
 
     end_is : form_end file ≡ form.end
     end_is = sym (ap (λ (f : Form). f.end) is_form)
 
-    prop_is : form.prop ≡ p.prop.body
-    prop_is = ap (λ (f : Form). f.prop) is_form ∙ p.prop_is
+    prop_is : form.prop ≡ p.parts.prop.body
+    prop_is = ap (λ (f : Form). f.prop) is_form ∙ p.parts.prop_is
 
     hold : AllZip (Holds file form.end) (heads_from 16 (plain_pre p)) (plain_pre p)
-    hold = subst (λ n. AllZip (Holds file n) (heads_from 16 (plain_pre p)) (plain_pre p)) end_is (parts_hold file (plain_pre p) (p.sound ∷ p.last) _ p.formed).0
+    hold = subst (λ n. AllZip (Holds file n) (heads_from 16 (plain_pre p)) (plain_pre p)) end_is
+        (parts_hold file (plain_pre p) (p.parts.sound ∷ p.parts.last) _ p.parts.formed).0
 
     before_is : before_sound form ≡ heads_from 16 (plain_pre p)
     before_is =
         ap₂ (λ (n : ℕ) (hs : List Head). filter (λ (h : Head). h.place below n && not (added_id h.id)) hs) place_is heads_are
-        ∙ those_before may_lack (λ h. not (added_id h.id)) 16 (plain_pre p) p.last p.sound p.formed.are
+        ∙ those_before may_lack (λ h. not (added_id h.id)) 16 (plain_pre p) p.parts.last p.parts.sound p.parts.formed.are
         ∙ kept_named added_id 16 (plain_pre p) pre_lacks_added
 
-    behind_is : behind_sound form ≡ heads_from (16 + length (body_bytes (plain_pre p)) + length (bytes_of_chunk p.sound)) p.last
+    behind_is : behind_sound form ≡ heads_from (16 + length (body_bytes (plain_pre p)) + length (bytes_of_chunk p.parts.sound)) p.parts.last
     behind_is =
         ap₂ (λ (n : ℕ) (hs : List Head). filter (λ (h : Head). h.place above n && not (added_id h.id)) hs) place_is heads_are
-        ∙ those_behind may_lack (λ h. not (added_id h.id)) 16 (plain_pre p) p.last p.sound p.formed.are
-        ∙ kept_named added_id _ p.last p.others_last.added
+        ∙ those_behind may_lack (λ h. not (added_id h.id)) 16 (plain_pre p) p.parts.last p.parts.sound p.parts.formed.are
+        ∙ kept_named added_id _ p.parts.last p.added_last
 
-    hold_last : AllZip (Holds file form.end) (heads_from (16 + length (body_bytes (plain_pre p)) + length (bytes_of_chunk p.sound)) p.last) p.last
+    hold_last : AllZip (Holds file form.end) (heads_from (16 + length (body_bytes (plain_pre p)) + length (bytes_of_chunk p.parts.sound)) p.parts.last)
+        p.parts.last
     hold_last =
-        subst (λ n. AllZip (Holds file n) (heads_from (16 + length (body_bytes (plain_pre p)) + length (bytes_of_chunk p.sound)) p.last) p.last) end_is
-        ((parts_hold file (plain_pre p) (p.sound ∷ p.last) _ p.formed).1.1)
+        subst
+        (λ n. AllZip (Holds file n) (heads_from (16 + length (body_bytes (plain_pre p)) + length (bytes_of_chunk p.parts.sound)) p.parts.last) p.parts.last)
+        end_is
+        ((parts_hold file (plain_pre p) (p.parts.sound ∷ p.parts.last) _ p.parts.formed).1.1)
 
     new_prop : prop_with form.prop cmpr_coded ≡ bytes_of_chunk (coded_prop p)
-    new_prop = ap (λ w. prop_with w cmpr_coded) prop_is ∙ prop_with_is coded_cmpr p.prop.body (locals p.prop.body) p.lawful.made
+    new_prop = ap (λ w. prop_with w cmpr_coded) prop_is ∙ prop_with_is coded_cmpr p.parts.prop.body (locals p.parts.prop.body) p.parts.lawful.made
 
     pub before_copied : encoding.coded_before file form ≡ map bytes_of_chunk (coded_pre p)
     before_copied =
         let new = prop_with form.prop cmpr_coded in
-        let here : copy_of new p.prop ≡ bytes_of_chunk (coded_prop p) = ap (λ (b : Bool). if b then new else bytes_of_chunk p.prop) (ap prop_id p.is_prop)
+        let here : copy_of new p.parts.prop ≡ bytes_of_chunk (coded_prop p) =
+        ap (λ (b : Bool). if b then new else bytes_of_chunk p.parts.prop) (ap prop_id p.parts.is_prop)
         ∙ new_prop in
         ap (copied_with cmpr_coded file form) before_is
         ∙ copied_of cmpr_coded file form (heads_from 16 (plain_pre p)) (plain_pre p) hold
-        ∙ map-append (copy_of new) (p.version ∷ p.front) (p.prop ∷ p.middle)
-        ∙ ap₂ (λ (a b : List (List ℕ)). a ++ b) (copy_without new (p.version ∷ p.front) p.others_front.props)
-        (ap₂ (λ (a : List ℕ) (b : List (List ℕ)). a ∷ b) here (copy_without new p.middle p.others_middle.props))
-        ∙ sym (map-append bytes_of_chunk (p.version ∷ p.front) (coded_prop p ∷ p.middle))
+        ∙ map-append (copy_of new) (p.parts.version ∷ p.parts.front) (p.parts.prop ∷ p.parts.middle)
+        ∙ ap₂ (λ (a b : List (List ℕ)). a ++ b) (copy_without new (p.parts.version ∷ p.parts.front) p.parts.apart_front.props)
+        (ap₂ (λ (a : List ℕ) (b : List (List ℕ)). a ∷ b) here (copy_without new p.parts.middle p.parts.apart_middle.props))
+        ∙ sym (map-append bytes_of_chunk (p.parts.version ∷ p.parts.front) (coded_prop p ∷ p.parts.middle))
 
-    pub behind_copied : copied_with cmpr_coded file form (behind_sound form) ≡ map bytes_of_chunk p.last
+    pub behind_copied : copied_with cmpr_coded file form (behind_sound form) ≡ map bytes_of_chunk p.parts.last
     behind_copied =
         ap (copied_with cmpr_coded file form) behind_is
-        ∙ copied_of cmpr_coded file form _ p.last hold_last
-        ∙ copy_without (prop_with form.prop cmpr_coded) p.last p.others_last.props
+        ∙ copied_of cmpr_coded file form _ p.parts.last hold_last
+        ∙ copy_without (prop_with form.prop cmpr_coded) p.parts.last p.parts.apart_last.props
 
-    cmpr_is : cmpr_in form.prop ≡ bytes_of_chunk p.lawful.cmpr
-    cmpr_is = ap cmpr_in prop_is ∙ (fields_are_read p.prop.body (locals p.prop.body) p.lawful.fs p.lawful.chnl p.lawful.cmpr p.lawful.made p.lawful.has).part
+    cmpr_is : cmpr_in form.prop ≡ bytes_of_chunk p.parts.lawful.cmpr
+    cmpr_is =
+        let l = p.parts.lawful in
+        ap cmpr_in prop_is ∙ (fields_are_read p.parts.prop.body (locals p.parts.prop.body) l.fs l.chnl l.cmpr l.made l.has).part
 
-    size_is : form.sound.size ≡ length p.sound.body
-    size_is = ap (λ (f : Form). f.sound.size) is_form ∙ ap (λ (h : Head). h.size) p.sound_head_is
+    size_is : form.sound.size ≡ length p.parts.sound.body
+    size_is = ap (λ (f : Form). f.sound.size) is_form ∙ ap (λ (h : Head). h.size) p.parts.sound_head_is
 
     origin_is : encoding.origin_of_plain form ≡ bytes_of_chunk (origin_of_parts p form)
     origin_is = ap₂ (λ (n : ℕ) (w : List ℕ). origin_chunk n form.pad w form.behind) size_is cmpr_is
@@ -166,6 +175,6 @@ module _ (file : List ℕ) (p : PlainParts file) (form : Form) (is_form : form �
       where
         joined : (pre : List Chunk) (frames : List (List ℕ)) →
             map bytes_of_chunk pre ++ bytes_of_chunk (dst_chunk frames) ∷ bytes_of_chunk (dsti_chunk (entries_of p frames)) ∷ bytes_of_chunk
-            (origin_of_parts p form) ∷ [] ++ map bytes_of_chunk p.last
-            ≡ map bytes_of_chunk (pre ++ dst_chunk frames ∷ dsti_chunk (entries_of p frames) ∷ origin_of_parts p form ∷ p.last)
-        joined pre frames = append_assoc (map bytes_of_chunk pre) _ (map bytes_of_chunk p.last) ∙ sym (map-append bytes_of_chunk pre _)
+            (origin_of_parts p form) ∷ [] ++ map bytes_of_chunk p.parts.last
+            ≡ map bytes_of_chunk (pre ++ dst_chunk frames ∷ dsti_chunk (entries_of p frames) ∷ origin_of_parts p form ∷ p.parts.last)
+        joined pre frames = append_assoc (map bytes_of_chunk pre) _ (map bytes_of_chunk p.parts.last) ∙ sym (map-append bytes_of_chunk pre _)

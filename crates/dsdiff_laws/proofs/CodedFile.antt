@@ -52,7 +52,7 @@ pub split_whole : (cs ds : List Chunk) → AllByRecursion IsChunk (cs ++ ds) →
 split_whole [] ds all = (tt, all)
 split_whole (c ∷ cs) ds all = let later = split_whole cs ds all.1 in ((all.0, later.0), later.1)
 
-join_whole : (cs ds : List Chunk) → AllByRecursion IsChunk cs → AllByRecursion IsChunk ds → AllByRecursion IsChunk (cs ++ ds)
+pub join_whole : (cs ds : List Chunk) → AllByRecursion IsChunk cs → AllByRecursion IsChunk ds → AllByRecursion IsChunk (cs ++ ds)
 join_whole [] ds p q = q
 join_whole (c ∷ cs) ds p q = (p.0, join_whole cs ds p.1 q)
 
@@ -110,10 +110,10 @@ length-origin sound pad cmpr kept =
     )
 
 -- ---- the `PROP` that is written
-cmpr_of : {file : List ℕ} (p : PlainParts file) → AroundOne (locals p.prop.body) p.lawful.cmpr
-cmpr_of p = around_cmpr (locals p.prop.body) p.lawful.cmpr p.lawful.has.one_cmpr
+cmpr_of : {file : List ℕ} (p : PlainParts file) → AroundOne (locals p.parts.prop.body) p.parts.lawful.cmpr
+cmpr_of p = around_cmpr (locals p.parts.prop.body) p.parts.lawful.cmpr p.parts.lawful.has.one_cmpr
 
-length-parts : (c : Chunk) → length (bytes_of_chunk c) ≡ length c.id + 8 + length c.body + length c.pad
+pub length-parts : (c : Chunk) → length (bytes_of_chunk c) ≡ length c.id + 8 + length c.body + length c.pad
 length-parts c =
     omega (
       arith,
@@ -123,23 +123,23 @@ length-parts c =
       length-bytes_high_first 8 (length c.body),
     )
 
-pub cmpr_least : {file : List ℕ} (p : PlainParts file) → 16 ≤ length (bytes_of_chunk p.lawful.cmpr)
-cmpr_least p = omega (arith, length-parts p.lawful.cmpr, ap length (cmpr_of p).name, p.lawful.has.cmpr_least)
+pub cmpr_least : {file : List ℕ} (p : PlainParts file) → 16 ≤ length (bytes_of_chunk p.parts.lawful.cmpr)
+cmpr_least p = omega (arith, length-parts p.parts.lawful.cmpr, ap length (cmpr_of p).name, p.parts.lawful.has.cmpr_least)
 
-pub prop_size : {file : List ℕ} (p : PlainParts file) → length (coded_prop p).body ≤ length p.prop.body + 12
+pub prop_size : {file : List ℕ} (p : PlainParts file) → length (coded_prop p).body ≤ length p.parts.prop.body + 12
 prop_size p =
-    let ls = locals p.prop.body in
-    let long = length-replaced coded_cmpr ls p.lawful.cmpr p.lawful.has.one_cmpr in
+    let ls = locals p.parts.prop.body in
+    let long = length-replaced coded_cmpr ls p.parts.lawful.cmpr p.parts.lawful.has.one_cmpr in
     let body : length (body_with coded_cmpr ls) ≡ 4 + length (body_bytes (replaced coded_cmpr ls)) =
     length-append (codes "SND ") (body_bytes (replaced coded_cmpr ls)) in
     let new : length (bytes_of_chunk coded_cmpr) ≡ 28 = refl in
-    omega (arith, long, body, new, length-prop p.prop.body ls p.lawful.made, cmpr_least p)
+    omega (arith, long, body, new, length-prop p.parts.prop.body ls p.parts.lawful.made, cmpr_least p)
 
-pub cmpr_size : {file : List ℕ} (p : PlainParts file) → length (bytes_of_chunk p.lawful.cmpr) ≤ length p.prop.body
+pub cmpr_size : {file : List ℕ} (p : PlainParts file) → length (bytes_of_chunk p.parts.lawful.cmpr) ≤ length p.parts.prop.body
 cmpr_size p =
     let a = cmpr_of p in
-    let whole = ap (λ ls. length (body_bytes ls)) a.parts ∙ length-body a.before (p.lawful.cmpr ∷ a.behind) in
-    omega (arith, length-prop p.prop.body (locals p.prop.body) p.lawful.made, whole, length-cons p.lawful.cmpr a.behind)
+    let whole = ap (λ ls. length (body_bytes ls)) a.parts ∙ length-body a.before (p.parts.lawful.cmpr ∷ a.behind) in
+    omega (arith, length-prop p.parts.prop.body (locals p.parts.prop.body) p.parts.lawful.made, whole, length-cons p.parts.lawful.cmpr a.behind)
 
 pub record AreFrames (file : List ℕ) (p : PlainParts file) (form : Form) (frames : List (List ℕ)) : Type 0 where
   pub is_form : form ≡ form_of_kind plain file
@@ -163,19 +163,19 @@ module _ (file : List ℕ) (p : PlainParts file) (form : Form) (frames : List (L
     pub index_size : length (flat_map entry_bytes (entries_of p frames)) ≡ 12 * length frames
     index_size = length-index (entries_of p frames) ∙ ap (λ n. 12 * n) (length-entries (16 + length (body_bytes (coded_pre p)) + 12 + 18) frames)
 
-    pub origin_size : length (origin_of_parts p form).body ≡ 14 + length (bytes_of_chunk p.lawful.cmpr) + length form.behind
-    origin_size = length-origin (length p.sound.body) form.pad (bytes_of_chunk p.lawful.cmpr) form.behind
+    pub origin_size : length (origin_of_parts p form).body ≡ 14 + length (bytes_of_chunk p.parts.lawful.cmpr) + length form.behind
+    origin_size = length-origin (length p.parts.sound.body) form.pad (bytes_of_chunk p.parts.lawful.cmpr) form.behind
 
-    plain_whole : AllByRecursion IsChunk (plain_pre p) × AreChunks may_lack (p.sound ∷ p.last)
-    plain_whole = whole_before may_lack (plain_pre p) p.last p.sound p.formed.are
+    plain_whole : AllByRecursion IsChunk (plain_pre p) × AreChunks may_lack (p.parts.sound ∷ p.parts.last)
+    plain_whole = whole_before may_lack (plain_pre p) p.parts.last p.parts.sound p.parts.formed.are
 
     prop_whole : IsChunk (coded_prop p)
     prop_whole = is_whole "PROP" (coded_prop p).body 0 refl (omega (arith, prop_size p, p.prop_most))
 
     pub coded_are : AreChunks may_lack (coded_chunks p form frames)
     coded_are =
-        let parts = split_whole (p.version ∷ p.front) (p.prop ∷ p.middle) plain_whole.0 in
-        let pre = join_whole (p.version ∷ p.front) (coded_prop p ∷ p.middle) parts.0 (prop_whole, parts.1.1) in
+        let parts = split_whole (p.parts.version ∷ p.parts.front) (p.parts.prop ∷ p.parts.middle) plain_whole.0 in
+        let pre = join_whole (p.parts.version ∷ p.parts.front) (coded_prop p ∷ p.parts.middle) parts.0 (prop_whole, parts.1.1) in
         let three : AllByRecursion IsChunk (dst_chunk frames ∷ dsti_chunk (entries_of p frames) ∷ origin_of_parts p form ∷ []) = (
           is_whole "DST " (dst_body frames) 0 refl (omega (arith, dst_size, f.count)),
           (
@@ -184,33 +184,33 @@ module _ (file : List ℕ) (p : PlainParts file) (form : Form) (frames : List (L
           ),
         ) in
         are_joined may_lack (coded_pre p) _ pre
-        (are_joined may_lack (dst_chunk frames ∷ dsti_chunk (entries_of p frames) ∷ origin_of_parts p form ∷ []) p.last three
-        (others_are may_lack p.sound p.last plain_whole.1))
+        (are_joined may_lack (dst_chunk frames ∷ dsti_chunk (entries_of p frames) ∷ origin_of_parts p form ∷ []) p.parts.last three
+        (others_are may_lack p.parts.sound p.parts.last plain_whole.1))
 
     -- they have room: the plain form has at most 2 ^ 49 bytes
     pub coded_size : 4 + length (body_bytes (coded_chunks p form frames)) ≤ 2 ^ 50
     coded_size =
-        let plain = end_is file (plain_pre p ++ p.sound ∷ p.last) _ p.formed in
+        let plain = end_is file (plain_pre p ++ p.parts.sound ∷ p.parts.last) _ p.parts.formed in
         omega (
           arith,
           plain,
           p.size_most,
           f.count,
-          length-body (plain_pre p) (p.sound ∷ p.last),
-          length-cons p.sound p.last,
-          length-body (p.version ∷ p.front) (p.prop ∷ p.middle),
-          length-cons p.prop p.middle,
-          length-parts p.prop,
-          ap length p.is_prop,
-          length-body (coded_pre p) (dst_chunk frames ∷ dsti_chunk (entries_of p frames) ∷ origin_of_parts p form ∷ p.last),
-          length-body (p.version ∷ p.front) (coded_prop p ∷ p.middle),
-          length-cons (coded_prop p) p.middle,
+          length-body (plain_pre p) (p.parts.sound ∷ p.parts.last),
+          length-cons p.parts.sound p.parts.last,
+          length-body (p.parts.version ∷ p.parts.front) (p.parts.prop ∷ p.parts.middle),
+          length-cons p.parts.prop p.parts.middle,
+          length-parts p.parts.prop,
+          ap length p.parts.is_prop,
+          length-body (coded_pre p) (dst_chunk frames ∷ dsti_chunk (entries_of p frames) ∷ origin_of_parts p form ∷ p.parts.last),
+          length-body (p.parts.version ∷ p.parts.front) (coded_prop p ∷ p.parts.middle),
+          length-cons (coded_prop p) p.parts.middle,
           length_of_chunk (coded_prop p) prop_whole,
           prop_size p,
           p.prop_most,
-          length-cons (dst_chunk frames) (dsti_chunk (entries_of p frames) ∷ origin_of_parts p form ∷ p.last),
-          length-cons (dsti_chunk (entries_of p frames)) (origin_of_parts p form ∷ p.last),
-          length-cons (origin_of_parts p form) p.last,
+          length-cons (dst_chunk frames) (dsti_chunk (entries_of p frames) ∷ origin_of_parts p form ∷ p.parts.last),
+          length-cons (dsti_chunk (entries_of p frames)) (origin_of_parts p form ∷ p.parts.last),
+          length-cons (origin_of_parts p form) p.parts.last,
           length_written "DST " (dst_body frames) 0 refl (omega (arith, dst_size, f.count)),
           dst_size,
           length_written "DSTI" (flat_map entry_bytes (entries_of p frames)) 0 refl (omega (arith, index_size, f.count)),
@@ -226,10 +226,10 @@ module _ (file : List ℕ) (p : PlainParts file) (form : Form) (frames : List (L
         omega (
           arith,
           p.few,
-          length-append (plain_pre p) (p.sound ∷ p.last),
-          length-append (p.version ∷ p.front) (p.prop ∷ p.middle),
-          length-append (coded_pre p) (dst_chunk frames ∷ dsti_chunk (entries_of p frames) ∷ origin_of_parts p form ∷ p.last),
-          length-append (p.version ∷ p.front) (coded_prop p ∷ p.middle),
+          length-append (plain_pre p) (p.parts.sound ∷ p.parts.last),
+          length-append (p.parts.version ∷ p.parts.front) (p.parts.prop ∷ p.parts.middle),
+          length-append (coded_pre p) (dst_chunk frames ∷ dsti_chunk (entries_of p frames) ∷ origin_of_parts p form ∷ p.parts.last),
+          length-append (p.parts.version ∷ p.parts.front) (coded_prop p ∷ p.parts.middle),
         )
 
     -- so what is written is a form of them, with nothing behind

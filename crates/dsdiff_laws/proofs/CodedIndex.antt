@@ -1,25 +1,27 @@
 -- The entries that are written in `DSTI` are read back.
-use Rattle.std.proofs.Common.{◌≡◌, ℕ, zero, suc, ◌+◌, ◌*◌, ◌^◌, ◌<◌, ◌≤◌, ◌==◌, true, List, [], ◌∷◌, ◌++◌, length, flat_map, None, refl, sym, ap, ap₂}
+use Rattle.std.proofs.Common.{◌≡◌, ℕ, zero, suc, ◌+◌, ◌*◌, ◌^◌, ◌<◌, ◌≤◌, ◌==◌, Bool, true, false, if◌then◌else◌, List, [], ◌∷◌, ◌++◌, length}
+use Rattle.std.proofs.Common.{flat_map, map, None, refl, sym, ap, ap₂}
 use Rattle.std.proofs.Common.{◌∙◌, arith, length-append, append_assoc, append-nil, Option}
 use Rattle.std.specs.Prelude.{not}
 use Rattle.std.specs.List.{AllByRecursion, enumerate_from}
 use Rattle.std.proofs.lemmas.Bool.{eq-eqb}
 use Rattle.byteorder.specs.Endian.{big_from, big_bytes}
 use Rattle.byteorder.specs.Numbers.{big_number-reads_back, length-bytes_high_first}
-use Rattle.dsdiff_spec.specs.Bytes.{number_at}
+use Rattle.dsdiff_spec.specs.Bytes.{number_at, ◌is◌}
 use Rattle.dsdiff_spec.specs.Faults.{◌when◌, first_some}
-use Rattle.dsdiff_spec.specs.Chunks.{Head, body_place, the_first}
+use Rattle.dsdiff_spec.specs.Chunks.{Chunk, bytes_of_chunk, Head, body_place, named, the_first}
 use Rattle.dsdiff_spec.specs.Form.{Form}
-use Rattle.dsdiff_spec.specs.Walk.{Entry, entry, entries, index_heads, index_head, indexed, has_index_of, same_entry, compare_fault}
-use Rattle.dsdiff_spec.specs.Written.{dstf, entries_from}
+use Rattle.dsdiff_spec.specs.Walk.{Entry, entry_of, entry, entries, index_heads, index_head, indexed, has_index_of, same_entry, compare_fault}
 use Rattle.dsdiff_spec.specs.declared.faults.FileFault.{FileFault}
 use Rattle.dsdiff_spec.specs.declared.faults.FileFault.TheVariants.{IndexBad}
-use Rattle.dsdiff_spec.proofs.Tiling.{big_from-behind}
+use Rattle.dsdiff_spec.proofs.Tiling.{heads_from, head_of, big_from-behind}
 use Rattle.dsdiff_laws.proofs.Standing.{Holds}
 use Rattle.dsdiff_laws.proofs.CodedChunks.{entry_bytes, dsti_chunk}
-use Rattle.dsdiff_laws.proofs.CodedFile.{length-index, AreShort, length_written}
-use Rattle.dsdiff_laws.proofs.CodedRules.{number_inside}
-use Rattle.dsdiff_laws.proofs.CodedWalk.{none_first}
+use Rattle.dsdiff_laws.proofs.CodedFile.{length-index}
+use Rattle.dsdiff_laws.proofs.Places.{number_inside}
+use Rattle.dsdiff_laws.proofs.Composed.{AreChunks, first_ends, others_are, length_of_ending}
+use Rattle.dsdiff_laws.proofs.Filed.{body_bytes}
+use Rattle.dsdiff_laws.proofs.ChunkWalk.{none_first, frames_among, entries_among, AreShortBodies}
 
 abbrev pub AreNumbers : List Entry → Type 0
 AreNumbers = AllByRecursion (λ e. (e.offset < 2 ^ 64) × (e.size < 2 ^ 32))
@@ -116,15 +118,20 @@ index_is_walk g form es h walked =
     rw (offset, size) refl) in
     rw sized rules
 
--- ---- the entries are numbers of eight and of four bytes
-pub entries_are_numbers : (place most n : ℕ) (frames : List (List ℕ)) → n < 2 ^ 32 → AreShort n frames → place + length (flat_map dstf frames) ≤ most →
-    most < 2 ^ 63 →
-    AreNumbers (entries_from place frames)
-entries_are_numbers place most n [] small short p q = tt
-entries_are_numbers place most n (w ∷ ws) small short p q =
-    let here = short.0 in
-    let long = length_written "DSTF" w 0 refl (omega (arith, here, small)) in
-    let both = length-append (dstf w) (flat_map dstf ws) in (
-      (omega (arith, p, q, long, both), omega (arith, here, small)),
-      entries_are_numbers (place + length (dstf w)) most n ws small short.1 (omega (arith, p, both)) q,
-    )
+-- ---- entries of frames among chunks are numbers of eight and of four bytes
+pub entries_among_are_numbers : (place most n : ℕ) (cs : List Chunk) → AreChunks (λ id. true) cs → AreShortBodies n (frames_among cs) → n < 2 ^ 32 →
+    place + length (body_bytes cs) ≤ most → most < 2 ^ 63 → AreNumbers (entries_among place cs)
+entries_among_are_numbers place most n [] are short small p q = tt
+entries_among_are_numbers place most n (c ∷ cs) are short small p q =
+    let long = length_of_ending (λ id. true) c (first_ends (λ id. true) c cs are) in
+    let both = length-append (bytes_of_chunk c) (body_bytes cs) in
+    go (c.id is "DSTF") (omega (arith, p, q, long, both)) short
+    (λ later. entries_among_are_numbers (place + length (bytes_of_chunk c)) most n cs (others_are (λ id. true) c cs are) later small
+    (omega (arith, p, both)) q)
+  where
+    go : (b : Bool) → place + 12 < 2 ^ 64 → AreShortBodies n (if b then c ∷ frames_among cs else frames_among cs) →
+        (AreShortBodies n (frames_among cs) → AreNumbers (map entry_of (named "DSTF" (heads_from (place + length (bytes_of_chunk c)) cs)))) →
+        AreNumbers (map entry_of (if b then head_of c.id place (length c.body) ∷ named "DSTF" (heads_from (place + length (bytes_of_chunk c)) cs)
+        else named "DSTF" (heads_from (place + length (bytes_of_chunk c)) cs)))
+    go true l all later = let here = all.0 in ((l, omega (arith, here, small)), later all.1)
+    go false l all later = later all

@@ -1,22 +1,37 @@
 -- One chunk of a form among others: its head is found by its id, and its body stands behind that head.
-use Rattle.std.proofs.Common.{◌≡◌, ℕ, ◌+◌, ◌<◌, Bool, true, false, if◌then◌else◌, List, [], ◌∷◌, ◌++◌, length, drop, get_or, map, filter, refl, sym}
+use Rattle.std.proofs.Common.{◌≡◌, ℕ, zero, suc, ◌+◌, ◌*◌, ◌^◌, ◌<◌, ◌≤◌, Bool, true, false, if◌then◌else◌, List, [], ◌∷◌, ◌++◌, length, drop, get_or}
+use Rattle.std.proofs.Common.{map, filter, refl, sym}
 use Rattle.std.proofs.Common.{ap, ap₂, subst, ◌∙◌, arith}
+use Rattle.std.specs.Prelude.{◌||◌}
 use Rattle.std.specs.List.{AllByRecursion, AllZip}
 use Rattle.std.proofs.lemmas.List.{get_or-drop, get_or-take}
 use Rattle.std.proofs.lemmas.List.Elements.{filter-append}
-use Rattle.dsdiff_spec.specs.Bytes.{◌is◌}
+use Rattle.byteorder.specs.Endian.{big_from}
+use Rattle.dsdiff_spec.specs.Bytes.{number_at, ◌is◌}
 use Rattle.dsdiff_spec.specs.Chunks.{Chunk, bytes_of_chunk, Head, body_place}
 use Rattle.dsdiff_spec.specs.Form.{Form, whole_chunk}
 use Rattle.dsdiff_spec.specs.Parts.{form_end}
 use Rattle.dsdiff_spec.specs.Written.{prop_with, copied_with}
 use Rattle.dsdiff_spec.proofs.Tiling.{heads_from, head_of}
 use Rattle.dsdiff_laws.proofs.Standing.{Holds}
-use Rattle.dsdiff_laws.proofs.Filed.{IsFile, body_bytes, file_holds}
+use Rattle.dsdiff_laws.proofs.Filed.{IsFile, body_bytes, file_holds, either_false}
 use Rattle.dsdiff_laws.proofs.Order.{heads-append}
 
 -- ---- heads by their ids
 abbrev pub Lacks : (List ℕ → Bool) → List Chunk → Type 0
 Lacks f cs = AllByRecursion (λ c. f c.id ≡ false) cs
+
+pub lacks_parts : (f : List ℕ → Bool) (cs ds : List Chunk) → Lacks f (cs ++ ds) → Lacks f cs × Lacks f ds
+lacks_parts f [] ds all = (tt, all)
+lacks_parts f (c ∷ cs) ds all = let later = lacks_parts f cs ds all.1 in ((all.0, later.0), later.1)
+
+-- ids of two kinds
+pub either_lacks : (q r : List ℕ → Bool) (cs : List Chunk) → Lacks (λ id. q id || r id) cs → Lacks q cs × Lacks r cs
+either_lacks q r [] all = (tt, tt)
+either_lacks q r (c ∷ cs) all =
+    let both = either_false (q c.id) (r c.id) all.0 in
+    let later = either_lacks q r cs all.1 in
+    ((both.0, later.0), (both.1, later.1))
 
 pub none_named : (f : List ℕ → Bool) (n : ℕ) (cs : List Chunk) → Lacks f cs → filter (λ h. f h.id) (heads_from n cs) ≡ []
 none_named f n [] all = refl
@@ -57,6 +72,16 @@ pub byte_in_body : (file : List ℕ) (end : ℕ) (h : Head) (c : Chunk) (i : ℕ
 byte_in_body file end h c i k l =
     let there : get_or file (body_place h + i) 0 ≡ get_or (drop (body_place h) file) i 0 = sym (get_or-drop (body_place h) file i 0) in
     there ∙ sym (get_or-take h.size (drop (body_place h) file) i 0 (omega (arith, l, k.size))) ∙ ap (λ w. get_or w i 0) k.body
+
+-- numbers within a body
+pub number_inside : (file : List ℕ) (end : ℕ) (h : Head) (c : Chunk) (i n : ℕ) → Holds file end h c → i + n ≤ length c.body →
+    number_at file (body_place h + i) n ≡ number_at c.body i n
+number_inside file end h c i zero k le = refl
+number_inside file end h c i (suc n) k le =
+    let here = byte_in_body file end h c i k (omega (arith, le)) in
+    let next : suc (body_place h + i) ≡ body_place h + suc i = omega arith in
+    let later = ap (λ p. big_from p n file) next ∙ number_inside file end h c (suc i) n k (omega (arith, le)) in
+    ap₂ (λ (a b : ℕ). a * 256 ^ n + b) here later
 
 -- ---- chunks that are copied, with another `CMPR` in `PROP`
 abbrev pub copy_of : List ℕ → Chunk → List ℕ

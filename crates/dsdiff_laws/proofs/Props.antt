@@ -102,18 +102,18 @@ number_in_body file end h c n k le =
     number_there file place zero le = refl
     number_there file place (suc n) le = number_of_drop file place (suc n) (omega (arith, le, length-drop place file))
 
+pub take_less : (n m : ℕ) (w : List ℕ) → n ≤ m → take n (take m w) ≡ take n w
+take_less zero m w le = refl
+take_less (suc n) zero w le = absurd (omega (arith, le))
+take_less (suc n) (suc m) [] le = refl
+take_less (suc n) (suc m) (x ∷ w) le = ap (λ v. x ∷ v) (take_less n m w (omega (arith, le)))
+
 pub bytes_in_body : (file : List ℕ) (end : ℕ) (h : Head) (c : Chunk) (n : ℕ) → Holds file end h c → n ≤ length c.body →
     bytes_at file (body_place h) n ≡ take n c.body
 bytes_in_body file end h c n k le =
     let w = drop (body_place h) file in
     let least : min n h.size ≡ n = omega (arith, le, k.size) in
     sym (ap (take n) (sym k.body) ∙ take_less n h.size w (omega (arith, le, k.size)))
-  where
-    take_less : (n m : ℕ) (w : List ℕ) → n ≤ m → take n (take m w) ≡ take n w
-    take_less zero m w le = refl
-    take_less (suc n) zero w le = absurd (omega (arith, le))
-    take_less (suc n) (suc m) [] le = refl
-    take_less (suc n) (suc m) (x ∷ w) le = ap (λ v. x ∷ v) (take_less n m w (omega (arith, le)))
 
 -- ---- the fields that the rules ask for
 pub record HasFields (ls : List Chunk) (fs chnl cmpr : Chunk) : Type 0 where
@@ -207,7 +207,7 @@ lawful_prop start body ls fs chnl cmpr h f =
 abbrev pub locals : List ℕ → List Chunk
 locals body = map (chunk_at body (length body)) (in_prop body).heads
 
-all_whole : (ls : List Chunk) → AreChunks (λ id. false) ls → AllByRecursion IsChunk ls
+pub all_whole : (ls : List Chunk) → AreChunks (λ id. false) ls → AllByRecursion IsChunk ls
 all_whole [] h = tt
 all_whole (c ∷ []) h = (whole_by h.pad, tt)
   where

@@ -29,7 +29,7 @@ body_stands front id size body pad rest p q =
     regrouped : front ++ (id ++ size ++ body ++ pad) ++ rest ≡ (front ++ (id ++ size)) ++ (body ++ (pad ++ rest))
     regrouped = simp append_assoc refl
 
-part_stands : (front part rest : List ℕ) (end : ℕ) → end ≡ length front + length part → between (front ++ part ++ rest) (length front) end ≡ part
+pub part_stands : (front part rest : List ℕ) (end : ℕ) → end ≡ length front + length part → between (front ++ part ++ rest) (length front) end ≡ part
 part_stands front part rest end e =
     let n : end - length front ≡ length part = omega (arith, e) in
     ap (λ k. take k (drop (length front) (front ++ part ++ rest))) n

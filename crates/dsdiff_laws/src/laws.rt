@@ -1,5 +1,5 @@
 // Laws of files. The functions do nothing: their clauses are what is proved.
-ghost use Rattle.dsdiff_spec.specs.Laws.{AcceptanceLaw, RestoringLaw, PiecesLaw};
+ghost use Rattle.dsdiff_spec.specs.Laws.{AcceptanceLaw, RestoringLaw, PiecesLaw, CuttingLaw};
 
 /// What encoding writes of an accepted plain file is accepted for decoding, checking and listing, and each of its frames for
 /// writing its sound, by the walk and by the index. Its frames are the stored ones in order, none of them longer than its
@@ -17,4 +17,12 @@ pub fn restoring()
 /// to its size.
 pub fn pieces()
     ensures { PiecesLaw }
+{}
+
+/// What cutting writes of an accepted coded file, frames `first` to `last` of it, is accepted for decoding, checking and listing,
+/// and each of its frames for writing its sound, by the walk and by the index. Its frames are those frames byte for byte, and its
+/// one index is its walk. It is decoded to their sounds, one after the other: the sound ends where it ended in the file that was
+/// cut, with the same pad byte, if the last frame is among them, and else behind the last of them.
+pub fn cutting()
+    ensures { CuttingLaw }
 {}

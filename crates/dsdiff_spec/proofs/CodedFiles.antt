@@ -57,7 +57,7 @@ kind_gives_none file p =
     (later_gives_none (version_fault file) (prop_fault file otherwise sound_fault file otherwise kind_fault (kind file) file)
     (later_gives_none (opening_fault file) (version_fault file otherwise prop_fault file otherwise sound_fault file otherwise kind_fault (kind file) file) p)))
 
-is_coded_kind : (k : Kind) → is_plain k ≡ false → k ≡ coded
+pub is_coded_kind : (k : Kind) → is_plain k ≡ false → k ≡ coded
 is_coded_kind plain e = absurd cc
 is_coded_kind coded e = refl
 
@@ -81,7 +81,7 @@ length-frames : (file : List ℕ) (form : Form) → length (frames_of file form)
 length-frames file form = length-map (entries file form) (frame_at file) ∙ length-map (frame_heads file form) entry_of
 
 -- ---- the sound needs them all
-needed : (n size frames : ℕ) → 0 < n → frames_for n size ≡ frames → (size ≤ frames * n) × ((k : ℕ) → k < frames → k * n ≤ size)
+pub needed : (n size frames : ℕ) → 0 < n → frames_for n size ≡ frames → (size ≤ frames * n) × ((k : ℕ) → k < frames → k * n ≤ size)
 needed n size frames h e =
     let whole : n * frames + (size + n - 1) % n ≡ size + n - 1 = ap (λ m. n * m + (size + n - 1) % n) (sym e) ∙ div-add-mod (size + n - 1) n in
     (omega arith, λ k l. let more = mul-le-mul_right n l in omega arith)
@@ -130,6 +130,14 @@ sound_is_needed file h coded e none =
     let n = sound_bytes_in (prop file) in
     size_is_needed (origin_in file (all "KEPT" file)) n (frame_count file) h (λ kept is. origin_is_lawful file (all "KEPT" file) kept is (no_bad_origin file none))
 
+-- a frame has some sound
+pub some_bytes : (f : Shape) → IsShape f → 0 < sound_bytes f
+some_bytes f s = elim s.rate [
+  | inl e ↦ let least = s.least in rw e (omega arith)
+  | inr (inl e) ↦ let least = s.least in rw e (omega arith)
+  | inr (inr e) ↦ let least = s.least in rw e (omega arith)
+]
+
 pub is_decodable : (file : List ℕ) → refusal decode file ≡ None → IsDecodable file (accepted file)
 is_decodable file h =
     let none = no_rule_fails file h in
@@ -138,13 +146,6 @@ is_decodable file h =
     let shape = form_has_a_shape file none.0 in
     let size = sound_is_needed file (some_bytes (shape_of (channel_count (prop file)) (multiple (prop file))) shape) (kind file) is_coded (kind_gives_none file none.0) in
     record { coded = is_coded; shape = shape; most = at_most_a_million (kind file) file is_coded (kind_gives_none file none.0); frames = length-frames file (accepted file) ∙ count_is_right file (accepted file) walked; fits = size.0; reached = size.1 }
-  where
-    some_bytes : (f : Shape) → IsShape f → 0 < sound_bytes f
-    some_bytes f s = elim s.rate [
-      | inl e ↦ let least = s.least in rw e (omega arith)
-      | inr (inl e) ↦ let least = s.least in rw e (omega arith)
-      | inr (inr e) ↦ let least = s.least in rw e (omega arith)
-    ]
 
 -- so no sound is longer than a million frames of six channels at the greatest rate
 pub longest_sound_of_frame : (f : Shape) → IsShape f → sound_bytes f ≤ 112896

@@ -14,6 +14,7 @@ pub mod Limits
 pub mod Walks
 pub mod Keeping
 pub mod Restoring
+pub mod Cuts
 pub mod Passing
 pub mod Commands
 pub mod Texts

@@ -1,15 +1,17 @@
 -- The laws of files, as statements.
-use Rattle.std.specs.Prelude.{◌≡◌, ◌↔◌, ℕ, ◌+◌, ◌-◌, ◌<◌, ◌≤◌, Bool, true, false, List, ◌∷◌, ◌++◌, length, take, drop, Some, None}
-use Rattle.std.specs.List.{AllByRecursion, concat}
+use Rattle.std.specs.Prelude.{◌≡◌, ◌↔◌, ℕ, ◌+◌, ◌-◌, ◌*◌, ◌<◌, ◌≤◌, Bool, true, false, if◌then◌else◌, List, [], ◌∷◌, ◌++◌, length, take, drop, Some, None}
+use Rattle.std.specs.List.{AllByRecursion, AllZip, concat}
 use Rattle.dst_spec.specs.Bits.{AreBytes}
 use Rattle.dst_spec.specs.Sample.{Shape, IsShape, IsSound}
 use Rattle.dst_spec.specs.Header.{IsParams}
-use Rattle.dsdiff_spec.specs.Form.{sound_bytes_of}
+use Rattle.dst_spec.specs.Means.{Means}
+use Rattle.dsdiff_spec.specs.Form.{Form, shape, sound_bytes_of, size_of_sound}
 use Rattle.dsdiff_spec.specs.Rules.{accepted}
 use Rattle.dsdiff_spec.specs.Walk.{index_heads, compare_fault}
 use Rattle.dsdiff_spec.specs.Coded.{Picks, pieces, stored_frames, coded}
-use Rattle.dsdiff_spec.specs.Decoded.{Plain, frames_of}
+use Rattle.dsdiff_spec.specs.Decoded.{Plain, frames_of, plain_cmpr, plain_pad, kept_bytes, decoded_with}
 use Rattle.dsdiff_spec.specs.Cut as cutting
+use Rattle.dsdiff_spec.specs.Cut.{is_last}
 use Rattle.dsdiff_spec.specs.Dsf.{dsf_fault, dsdiff, ToDsf, bare}
 use Rattle.dsdiff_spec.specs.Words.{Word, Command, Task, encode, decode, cut, frame, check, index}
 use Rattle.dsdiff_spec.specs.Rows.{Row, rows, row_task}
@@ -67,16 +69,41 @@ RestoringLaw =
 abbrev pub PiecesLaw : Type 0
 PiecesLaw = (n : ℕ) (sound : List ℕ) → 0 < n → take (length sound) (concat (pieces n sound)) ≡ sound
 
--- what cutting writes is accepted for decoding, and its frames are those that were asked for
+-- What cutting writes is accepted for decoding, checking and listing, and each frame of it for writing its sound, by the
+-- walk and by the index. Its frames are those that were asked for, byte for byte, and its one index is its walk. It is
+-- decoded to the sounds of these frames: if the last frame is among them up to where the old sound ended, with the pad byte
+-- of that sound. The plain file's `CMPR` is the old one, and no bytes are kept.
 abbrev pub cut_file : List ℕ → ℕ → ℕ → List ℕ
 cut_file file first last = cutting.cut file (accepted file) first last
 
+abbrev pub those_from_to : ℕ → ℕ → List (List ℕ) → List (List ℕ)
+those_from_to first last frames = take (last + 1 - first) (drop first frames)
+
+abbrev pub cut_size : Form → ℕ → ℕ → ℕ
+cut_size form first last =
+    if is_last form last then size_of_sound form - sound_bytes_of form * first else sound_bytes_of form * (last + 1 - first)
+
+abbrev pub cut_pad : Form → ℕ → ℕ
+cut_pad form last = if is_last form last then plain_pad form.origin else 0
+
+pub record IsCut (file : List ℕ) (first last : ℕ) (g : List ℕ) : Type 0 where
+  pub decoded : IsCodedFile g
+  pub checked : IsAccepted check g
+  pub listed : IsAccepted index g
+  pub each_written : (k : ℕ) → k < last + 1 - first → FrameIsAccepted g k
+  pub frames : frames_of g (accepted g) ≡ those_from_to first last (frames_of file (accepted file))
+  pub index_of_walk : HasIndexOfWalk g
+  pub size : size_of_sound (accepted g) ≡ cut_size (accepted file) first last
+  pub pad : plain_pad (accepted g).origin ≡ cut_pad (accepted file) last
+  pub cmpr : plain_cmpr (accepted g).origin ≡ plain_cmpr (accepted file).origin
+  pub nothing_kept : kept_bytes (accepted g).origin ≡ []
+  pub sound : (sounds : List (List ℕ)) →
+      AllZip (Means (shape (accepted file))) (those_from_to first last (frames_of file (accepted file))) sounds →
+      Plain g (accepted g) (decoded_with (take (cut_size (accepted file) first last) (concat sounds)) g (accepted g))
+
 abbrev pub CuttingLaw : Type 0
 CuttingLaw =
-    (file : List ℕ) (first last : ℕ) → first ≤ last → IsAccepted (cut first last) file →
-    IsCodedFile (cut_file file first last)
-    × (frames_of (cut_file file first last) (accepted (cut_file file first last))
-    ≡ take (last + 1 - first) (drop first (frames_of file (accepted file))))
+    (file : List ℕ) (first last : ℕ) → first ≤ last → IsAccepted (cut first last) file → IsCut file first last (cut_file file first last)
 
 -- what encoding writes of a DSF file is decoded to one DSF file, the same with its sound alone
 abbrev pub DsfLaw : Type 0

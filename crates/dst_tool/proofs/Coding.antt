@@ -1,5 +1,5 @@
 -- What encoding a file answers is its outcome.
-use Rattle.std.proofs.Common.{◌≡◌, ◌⊎◌, inl, inr, ℕ, ◌≤◌, List, [], ◌∷◌, length, Option, Some, None, Result, Ok, Err, IfOk, refl, ap, sym, subst, ◌∙◌}
+use Rattle.std.proofs.Common.{◌≡◌, ◌⊎◌, inl, inr, ℕ, ◌≤◌, List, [], ◌∷◌, length, Option, Some, None, Result, Ok, Err, IfOk, refl, ap, sym, subst, ◌∙◌, arith}
 use Rattle.dst_streams.specs.Told.{and_then}
 use Rattle.level_spec.specs.Picks.{level_picks}
 use Rattle.dsdiff_spec.specs.Coded.{coded, stored_bytes}
@@ -51,3 +51,27 @@ pub accepted_out : (level : ℕ) (file : List ℕ) (o : Answer) → refusal (enc
 accepted_out level file o accepts is one =
     let coded_is = coded_outcome level file (accepted file).frames (stored_at level file (accepted file)) accepts refl refl in
     ap (λ (a : Answer). a.out) (one.2 o is ∙ sym (one.2 _ coded_is))
+
+holds_nothing_yet : (place : ℕ) (old new : Option (List ℕ)) → new ≡ old → HoldsNothing old → HoldsUnfinished place [] new
+holds_nothing_yet place old new same nothing = subst (HoldsUnfinished place []) (sym same) (go old nothing)
+  where
+    go : (held : Option (List ℕ)) → HoldsNothing held → HoldsUnfinished place [] held
+    go None h = tt {0}
+    go (Some held) h = inl (0, omega arith, h)
+
+pub part_of_encoding : (level picker : ℕ) (file : List ℕ) (old new : Option (List ℕ)) → picker ≡ level →
+    ((fault : FileFault) → refusal (encode level) file ≡ Some fault → new ≡ old) →
+    (HoldsNothing old → HoldsUnfinished (sound_size_place file (accepted file)) (coded (level_picks picker) file (accepted file)) new) → IsPartly level file old new
+part_of_encoding level picker file old new is refused unfinished = go (refusal (encode level) file) refl
+  where
+    go : (q : Option FileFault) → refusal (encode level) file ≡ q → IsPartly level file old new
+    go (Some fault) e = (
+      file_refused fault,
+      subst (λ q. OfCommand (encode level) file q (file_refused fault)) (sym e) refl,
+      holds_nothing_yet (sound_size_place file (accepted file)) old new (refused fault e),
+    )
+    go None e = (
+      done (coded_at level file (accepted file)) (coded_line (accepted file).frames (stored_at level file (accepted file)) ∷ []),
+      coded_outcome level file (accepted file).frames (stored_at level file (accepted file)) e refl refl,
+      λ nothing. subst (λ n. HoldsUnfinished (sound_size_place file (accepted file)) (coded_at n file (accepted file)) new) is (unfinished nothing),
+    )

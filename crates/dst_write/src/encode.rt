@@ -61,6 +61,7 @@ pub fn encode_file<R: Threads + Sync, S: Source, K: Sink, P: Picker + Sync, G: G
         HoldsUnfinished (sound_size_place file (accepted file)) (coded (P.picks picker.now) file (accepted file)) (K.written sink.new) }
     ensures sure { result ≡ Err EncodeFault.Write → (file : List ℕ) → S.bytes source.old ≡ Some file → (room : ℕ) → K.room sink.old ≡ Some room →
         length (coded (P.picks picker.now) file (accepted file)) ≤ room → ⊥ }
+    ensures write_accepted { result ≡ Err EncodeFault.Write → (file : List ℕ) → S.bytes source.old ≡ Some file → (level : ℕ) → refusal (encode level) file ≡ None }
     // want of memory, before anything is written; and so it is of a file that is refused, whatever fails
     ensures memory { result ≡ Err (EncodeFault.Source OpenFault.Memory) → sink.new ≡ sink.old }
     ensures refused { (file : List ℕ) → S.bytes source.old ≡ Some file → (level : ℕ) (fault : FileFault) → refusal (encode level) file ≡ Some fault → sink.new ≡ sink.old }

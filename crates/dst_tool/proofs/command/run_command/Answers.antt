@@ -1,8 +1,9 @@
 -- Each command by what it answered.
-use Rattle.std.proofs.Common.{◌≡◌, ◌≢◌, ◌⊎◌, inl, inr, ℕ, ◌≤◌, Bool, true, List, [], ◌∷◌, Option, Some, None, Result, Ok, Err, IfOk, refl, ap, sym, subst, ◌∙◌}
+use Rattle.std.proofs.Common.{◌≡◌, ◌≢◌, ◌⊎◌, inl, inr, ℕ, ◌≤◌, Bool, true, List, [], ◌∷◌, length, Option, Some, None, Result, Ok, Err, IfOk, refl, ap, sym, subst, ◌∙◌}
 use Rattle.dst_streams.specs.Told.{and_then, IsCutShort}
 use Rattle.dsdiff_spec.specs.Words as asked
-use Rattle.dsdiff_spec.specs.Outcome.{Answer, done}
+use Rattle.dsdiff_spec.specs.Rules.{accepted}
+use Rattle.dsdiff_spec.specs.Outcome.{Answer, done, coded_at}
 use Rattle.dsdiff_spec.specs.Lines.{Line, report, check_line}
 use Rattle.dsdiff_spec.proofs.Stopping.{One}
 use Rattle.dsdiff_spec.proofs.OneAnswer.{command_has_one_outcome}
@@ -16,6 +17,7 @@ use Rattle.dst_read.specs.declared.faults.DecodeFault.{DecodeFault}
 use Rattle.dst_read.specs.declared.faults.DecodeFault.TheVariants as decoding
 use Rattle.dst_read.specs.declared.faults.ShowFault.TheVariants as showing
 use Rattle.dst_read.specs.declared.faults.ListFault.TheVariants as listing
+use Rattle.dst_tool.specs.Runs.{WholeOf}
 use Rattle.dst_tool.specs.Answers.{answered, done_line, line_of, status_of, of_check, of_decode, of_encode, of_list, of_show}
 use Rattle.dst_tool.proofs.Inverting.{back_from, encode_again, encode_refuses, encode_reports, to_encode, if_done, check_again, check_reports, check_writes, decode_again, decode_reports, if_answered, list_again, list_refuses, list_writes, show_again, show_writes, to_check, to_decode, to_list, to_show}
 use Rattle.dst_write.specs.declared.faults.Encoded.{Encoded}
@@ -23,6 +25,7 @@ use Rattle.dst_read.specs.declared.faults.Decoded.{Decoded}
 use Rattle.dst_read.specs.declared.faults.FrameWritten.{FrameWritten}
 use Rattle.dst_read.specs.declared.faults.Checked.{Checked}
 use Rattle.dst_read.specs.declared.faults.Reported.{Reported}
+use Rattle.dst_tool.proofs.Coding.{encoded_whole, part_of_encoding, accepted_out}
 use Rattle.dst_tool.proofs.OwnLines.{IsListing, Lists, TellsFault, run_of_listing}
 use Rattle.dst_tool.proofs.command.run_command.Goals as goal
 
@@ -47,34 +50,41 @@ either f h (inl a) = inl (f a)
 either f h (inr b) = inr (h b)
 
 -- ---- commands that report one line
-pub returns-in-Encode : goal.returns-in-Encode
-returns-in-Encode g c =
+pub returns-in-Some : goal.returns-in-Some
+returns-in-Some g c =
     let d = c.encode_file-answer.result in
     let e = c.encode_file-answer.ensures in
     let r = c.encoded.result in
     let is : r ≡ answered of_encoded of_encode d = c.encoded.ensures in
     let back : (f : Fault) → r ≡ Err f → d ≡ Err (to_encode f) = λ f h. back_from of_encoded of_encode to_encode encode_again d f (sym is ∙ h) in
-    let t = c.tell-in-Encode.ensures in
+    let t = c.tell.ensures in
     let bytes = g.S.Source.bytes c.args.source.now in
     let written = g.K.Sink.written c.args.sink.now in
     let same = ap command_seen c.in-Encode.is in
     let level = c.in-Encode.level in
     let asks = asked.encode level in
+    let new = g.K.Sink.written c.encode_file-answer.new.sink in
+    let picker = c.in-Some.picker in
+    let picker_is : picker ≡ level = c.in-Some.ensures.level in
     let one : (file : List ℕ) → bytes ≡ Some file → One (OutcomeOf asks file) = λ file told. command_has_one_outcome asks file tt (g.met.S.Source.told_are_bytes c.args.source.now file told) in
-    same_run same (run_of_answer asks r c.tell-in-Encode.result bytes _ _ _ _ _ _ _ _ tt (λ file told. g.met.S.Source.told_are_bytes c.args.source.now file told)
+    same_run same (run_of_answer asks r c.tell.result bytes _ _ _ _ _ _ _ _ tt (λ file told. g.met.S.Source.told_are_bytes c.args.source.now file told)
     (λ file told. record {
-      finished = ?;
+      finished = subst (λ r. IfOk r (λ s. (out : List ℕ) × OutcomeOf asks file (done out (done_line asks s ∷ [])) × WholeOf (Some asks) out written new)) (sym is)
+          (if_answered of_encoded of_encode d _ (encoded_whole d level picker file bytes written new picker_is told e.accepted e.encoded e.frames e.stored));
       file_is = λ fault h. e.file fault (back (File fault) h) file told level;
       untouched = λ fault h. ap g.K.Sink.written (e.untouched fault (back (File fault) h));
       frame_is = λ k fault h. absurd (encode_refuses of_encoded d k fault (sym is ∙ h));
-      cut_short = ?;
+      cut_short = λ h. part_of_encoding level picker file written new picker_is (λ fault refused. ap g.K.Sink.written (e.refused file told level fault refused))
+          (λ nothing. e.unfinished (either (back Read) (back Write) h) file told nothing);
       memory = λ h. ap g.K.Sink.written (e.memory (back Memory h));
       no_report = λ h. encode_reports of_encoded d (sym is ∙ h);
     })
     (record {
       read = λ h. e.read (back Read h);
       write = λ h. e.write (back Write h);
-      sure = ?;
+      sure = λ h file told o outcome n room fits.
+          let out = accepted_out level file o (e.write_accepted (back Write h) file told level) outcome (one file told) ∙ ap (λ n. coded_at n file (accepted file)) (sym picker_is) in
+          e.sure (back Write h) file told n room (subst (λ w. length w ≤ n) out fits);
       memory = λ h. e.memory (back Memory h);
       untouched = λ fault h. e.untouched fault (back (File fault) h);
       idle = λ w. absurd w;
@@ -83,7 +93,7 @@ returns-in-Encode g c =
       any_source = λ k h. absurd (encoding_is_no_frame level k h);
       no_report = λ h. encode_reports of_encoded d (sym is ∙ h);
     })
-    (subst (λ q. TellsLine (status_of r) (line_of q r) c.tell-in-Encode.result (record { before = g.R.Sink.faults c.args.report.now; now = g.R.Sink.faults c.tell-in-Encode.new.report }) (record { old = g.R.Sink.written c.args.report.now; new = g.R.Sink.written c.tell-in-Encode.new.report; room = g.R.Sink.room c.args.report.now })) same (record { reported = t.reported; whole = t.whole; cut_short = t.cut_short; cause = t.cause; sure = t.sure })))
+    (record { reported = t.reported; whole = t.whole; cut_short = t.cut_short; cause = t.cause; sure = t.sure }))
 
 pub returns-in-Decode : goal.returns-in-Decode
 returns-in-Decode g c =
@@ -92,12 +102,12 @@ returns-in-Decode g c =
     let r = c.decoded.result in
     let is : r ≡ answered of_decoded of_decode d = c.decoded.ensures in
     let back : (f : Fault) → r ≡ Err f → d ≡ Err (to_decode f) = λ f h. back_from of_decoded of_decode to_decode decode_again d f (sym is ∙ h) in
-    let t = c.tell.ensures in
+    let t = c.tell-in-Decode.ensures in
     let bytes = g.S.Source.bytes c.args.source.now in
     let written = g.K.Sink.written c.args.sink.now in
     let same = ap command_seen c.in-Decode.is in
     let asks = asked.decode in
-    same_run same (run_of_answer asks r c.tell.result bytes _ _ _ _ _ _ _ _ tt (λ file told. g.met.S.Source.told_are_bytes c.args.source.now file told)
+    same_run same (run_of_answer asks r c.tell-in-Decode.result bytes _ _ _ _ _ _ _ _ tt (λ file told. g.met.S.Source.told_are_bytes c.args.source.now file told)
     (λ file told. record {
       finished = subst (λ r. IfOk r (λ s. (out : List ℕ) × OutcomeOf asks file (done out (done_line asks s ∷ [])) × (g.K.Sink.written c.decode_file-answer.new.sink ≡ and_then written out))) (sym is)
           (if_answered of_decoded of_decode d _ (at_file d (λ s file. (out : List ℕ) × OutcomeOf asks file (done out (done_line asks (of_decoded s) ∷ [])) × (g.K.Sink.written c.decode_file-answer.new.sink ≡ and_then written out)) bytes file told e.decoded));
@@ -120,7 +130,7 @@ returns-in-Decode g c =
       any_source = λ k h. absurd (decoding_is_no_frame k h);
       no_report = λ h. decode_reports of_decoded d (sym is ∙ h);
     })
-    (subst (λ q. TellsLine (status_of r) (line_of q r) c.tell.result (record { before = g.R.Sink.faults c.args.report.now; now = g.R.Sink.faults c.tell.new.report }) (record { old = g.R.Sink.written c.args.report.now; new = g.R.Sink.written c.tell.new.report; room = g.R.Sink.room c.args.report.now })) same (record { reported = t.reported; whole = t.whole; cut_short = t.cut_short; cause = t.cause; sure = t.sure })))
+    (subst (λ q. TellsLine (status_of r) (line_of q r) c.tell-in-Decode.result (record { before = g.R.Sink.faults c.args.report.now; now = g.R.Sink.faults c.tell-in-Decode.new.report }) (record { old = g.R.Sink.written c.args.report.now; new = g.R.Sink.written c.tell-in-Decode.new.report; room = g.R.Sink.room c.args.report.now })) same (record { reported = t.reported; whole = t.whole; cut_short = t.cut_short; cause = t.cause; sure = t.sure })))
 
 pub returns-in-Frame : goal.returns-in-Frame
 returns-in-Frame g c =

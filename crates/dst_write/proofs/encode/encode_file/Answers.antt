@@ -92,3 +92,6 @@ not_refused a fault e h = absurd (let never : None ≡ Some fault = cc in cc)
 pub returns-clause-refused : goal.returns-clause-refused
 returns-clause-refused g c file told level fault e =
     absurd (not_refused (form_refusal (encode 1) file) fault (c.in-Ok.ensures.accepted file told) (sym (rules_of_encode level file) ∙ e))
+
+pub returns-clause-write_accepted : goal.returns-clause-write_accepted
+returns-clause-write_accepted g c e file told level = rules_of_encode level file ∙ c.in-Ok.ensures.accepted file told
