@@ -7,7 +7,9 @@ use crate::{EncodeFault, Encoded, encode_file};
 use dsdiff_chunks::{FileFault, OpenFault};
 use dst_num::Channels;
 use dst_streams::{HonestSource, MemorySink};
-use files::{CODED_SILENT, CODED_SILENT_AND_THREE, SILENT, SILENT_AND_THREE, odd_plain, two_frames};
+use files::{
+    CODED_SILENT, CODED_SILENT_AND_THREE, SILENT, SILENT_AND_THREE, odd_plain, two_frames,
+};
 use frame_crew::OpenGate;
 use frame_predictions::Predictions;
 use frame_store::{Candidates, Picker};
@@ -41,7 +43,13 @@ fn a_file_without_sound_is_coded(rt: HostRuntime) -> Result<(), Fail> {
         let mut source = HonestSource::new(plain);
         let mut sink = MemorySink::new(alloc, 300, &[])?;
         let answer = encode_file(&rt, alloc, &mut source, &mut sink, &NoPick, 1, &OpenGate);
-        assert_eq!(rt; answer, Ok(Encoded { frames: 0, bytes: 0 }));
+        assert_eq!(rt;
+            answer,
+            Ok(Encoded {
+                frames: 0,
+                bytes: 0
+            })
+        );
         assert!(rt; sink.written() == coded);
     }
     Ok(())
@@ -64,7 +72,13 @@ fn two_frames_are_coded_by_some_workers(rt: HostRuntime) -> Result<(), Fail> {
             workers,
             &OpenGate,
         );
-        assert_eq!(rt; answer, Ok(Encoded { frames: 2, bytes: 9410 }));
+        assert_eq!(rt;
+            answer,
+            Ok(Encoded {
+                frames: 2,
+                bytes: 9410
+            })
+        );
         assert!(rt; sink.written() == coded.as_slice());
     }
     Ok(())
