@@ -22,6 +22,8 @@ mod frames;
 mod jobs;
 mod make;
 mod sizes;
+#[cfg(test)]
+mod tests;
 mod work;
 
 pub use encode::encode_file;
