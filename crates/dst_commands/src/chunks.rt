@@ -11,7 +11,9 @@ ghost use Rattle.dst_commands.specs.Passing as passing;
 ghost use Rattle.dst_commands.specs.Passing.{form_of, bytes_of, all_of, goes, ref_seen, whole_end, FailedBy, IsCmprIfAny};
 ghost use Rattle.dst_commands.specs.Writing.{Adds, Stops};
 
-use dsdiff_chunks::{ChunkHead, CodedForm, CopyFault, PlainForm, copy_range, prop_length, write_prop};
+use dsdiff_chunks::{
+    ChunkHead, CodedForm, CopyFault, PlainForm, copy_range, prop_length, write_prop,
+};
 use dst_streams::{Sink, Source};
 
 /// The side of the sound on which chunks stand.
@@ -124,7 +126,11 @@ fn passes(passed: &Passed<'_>, side: Side, head: &ChunkHead) -> bool
 fn cmpr_for<'a>(passed: &Passed<'a>, head: &ChunkHead) -> Option<&'a [u8]>
     ensures { option_copied result ≡ passing.cmpr_for (passing.cmpr_of passed.now) (head_seen head.now) }
 {
-    if head.id == *b"PROP" { passed.cmpr } else { None }
+    if head.id == *b"PROP" {
+        passed.cmpr
+    } else {
+        None
+    }
 }
 
 // The place behind a chunk: behind its pad byte, which the last one may lack.

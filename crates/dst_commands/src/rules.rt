@@ -104,12 +104,7 @@ impl Rules for PlainFile {
 
     ghost most = { λ _. 0 };
 
-    fn keep<S: Source>(
-        &self,
-        _: Global,
-        _: &mut S,
-        form: Form,
-    ) -> Result<PlainForm, OpenFault> {
+    fn keep<S: Source>(&self, _: Global, _: &mut S, form: Form) -> Result<PlainForm, OpenFault> {
         match form {
             Form::Plain(form) => Ok(form),
             Form::Coded(_) => Err(OpenFault::File(FileFault::NotPlain)),

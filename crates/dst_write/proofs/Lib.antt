@@ -8,3 +8,4 @@ pub mod Pieces
 pub mod BySize
 pub mod Sized
 pub mod Ending
+pub mod MadeSounds

@@ -5,3 +5,4 @@ pub mod Jobs
 pub mod Feeding
 pub mod Draining
 pub mod Frames
+pub mod Making

@@ -20,8 +20,12 @@ mod faults;
 mod feed;
 mod frames;
 mod jobs;
+mod make;
 mod sizes;
+#[cfg(test)]
+mod tests;
 mod work;
 
 pub use encode::encode_file;
 pub use faults::{EncodeFault, Encoded};
+pub use make::{Made, MakeFault, make_file};

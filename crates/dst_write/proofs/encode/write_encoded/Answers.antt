@@ -33,7 +33,8 @@ returns-in-Err-clause-written g c file told =
     stopped_short frames file form (stored_count picks file form c.args.form.now.lawful.of_kind fits) P _ _ _
     (stops_first P (front file form ++ flat_map dstf frames) (end (map length frames) file form) _ _ _
     (stops_first P (front file form) (flat_map dstf frames) _ _ _
-    (stops_for (c.in-Err.fault ≡ CopyFault.Write) P (front file form) _ _ _ (λ e. of_write c.in-Err.fault (sym c.fault_of_device.ensures ∙ e)) (c.in-Err.ensures.written file told))))
+    (stops_for (c.in-Err.fault ≡ CopyFault.Write) P (front file form) _ _ _ (λ e. of_write c.in-Err.fault (sym c.fault_of_device.ensures ∙ e))
+    (c.in-Err.ensures.written file told))))
 
 pub returns-in-Err-write_frames-clause-written : goal.returns-in-Err-write_frames-clause-written
 returns-in-Err-write_frames-clause-written g c file told =
@@ -61,8 +62,11 @@ returns-in-Err-write_end-clause-written g c file told =
     stopped_short frames file form (stored_count picks file form c.args.form.now.lawful.of_kind fits) P _ _ _
     (stops_then P (front file form ++ flat_map dstf frames) (end (map length frames) file form) _ _ _ _ _
     (adds_then (front file form) (flat_map dstf frames) _ _ _ _ _ _ (c.in_default.ensures.written file told) done.0)
-    (stops_for (c.in-Err-write_end.fault ≡ CopyFault.Write) P (end (map length frames) file form) _ _ _ (λ e. of_write c.in-Err-write_end.fault (sym c.fault_of_device-in-Err-write_end.ensures ∙ e))
-    (stops_same (c.in-Err-write_end.fault ≡ CopyFault.Write) _ (end (map length frames) file form) _ _ _ (ap (λ (w : List ℕ). end w file form) (c.as_slice-sizes.ensures.value ∙ take_at c.write_frames.new.sizes _ _ (c.in_default-write_frames.ensures.long ∙ c.deref_mut-4.ensures.len) ∙ done.1))
+    (stops_for (c.in-Err-write_end.fault ≡ CopyFault.Write) P (end (map length frames) file form) _ _ _
+    (λ e. of_write c.in-Err-write_end.fault (sym c.fault_of_device-in-Err-write_end.ensures ∙ e))
+    (stops_same (c.in-Err-write_end.fault ≡ CopyFault.Write) _ (end (map length frames) file form) _ _ _
+    (ap (λ (w : List ℕ). end w file form) (c.as_slice-sizes.ensures.value ∙ take_at c.write_frames.new.sizes _ _
+    (c.in_default-write_frames.ensures.long ∙ c.deref_mut-4.ensures.len) ∙ done.1))
     (c.in-Err-write_end.ensures.written file (c.in_default-write_frames.ensures.bytes ∙ later)))))
 
 pub write_sizes-requires-clause-appended : goal.write_sizes-requires-clause-appended
@@ -82,10 +86,12 @@ returns-in-Ok-clause-written g c file told =
     let frames = stored_frames picks file form in
     let later = c.in_default.ensures.bytes ∙ told in
     let done = c.in_default-write_frames.ensures.written file later in
-    let sizes = c.as_slice-sizes.ensures.value ∙ take_at c.write_frames.new.sizes _ _ (c.in_default-write_frames.ensures.long ∙ c.deref_mut-4.ensures.len) ∙ done.1 in
+    let sizes = c.as_slice-sizes.ensures.value ∙ take_at c.write_frames.new.sizes _ _ (c.in_default-write_frames.ensures.long ∙ c.deref_mut-4.ensures.len)
+    ∙ done.1 in
     let all = adds_then (front file form ++ flat_map dstf frames) (end (map length frames) file form) _ _ _ _ _ _
     (adds_then (front file form) (flat_map dstf frames) _ _ _ _ _ _ (c.in_default.ensures.written file told) done.0)
-    (adds_same _ (end (map length frames) file form) _ _ _ _ (ap (λ (w : List ℕ). end w file form) sizes) (c.in_default-write_end.ensures.written file (c.in_default-write_frames.ensures.bytes ∙ later))) in
+    (adds_same _ (end (map length frames) file form) _ _ _ _ (ap (λ (w : List ℕ). end w file form) sizes)
+    (c.in_default-write_end.ensures.written file (c.in_default-write_frames.ensures.bytes ∙ later))) in
     let place = ap (λ n. 20 + n) (c.side_length-before.ensures.length file fits) in
     let sound = c.sound_size.ensures.size ∙ ap sound_size sizes in
     let size = c.form_size.ensures file fits ∙ ap (λ (w : List ℕ). form_size w file form) sizes in
@@ -94,7 +100,9 @@ returns-in-Ok-clause-written g c file told =
       bytes = c.stored_size.ensures ∙ ap sum sizes;
       written =
           ended_whole frames file form (stored_count picks file form c.args.form.now.lawful.of_kind fits) _ _ _ _ _ all
-          (c.in-Ok.ensures.written ∙ ap (λ n. sized n c.sound_size.result c.form_size.result old) place ∙ ap (λ n. sized (sound_place file form) n c.form_size.result old) sound ∙ ap (λ n. sized (sound_place file form) (sound_size (map length frames)) n old) size);
+          (c.in-Ok.ensures.written ∙ ap (λ n. sized n c.sound_size.result c.form_size.result old) place ∙ ap
+          (λ n. sized (sound_place file form) n c.form_size.result old) sound ∙ ap
+          (λ n. sized (sound_place file form) (sound_size (map length frames)) n old) size);
     }
 
 pub returns-in-Err-write_sizes-clause-written : goal.returns-in-Err-write_sizes-clause-written
@@ -106,17 +114,20 @@ returns-in-Err-write_sizes-clause-written g c file told =
     let frames = stored_frames picks file form in
     let later = c.in_default.ensures.bytes ∙ told in
     let done = c.in_default-write_frames.ensures.written file later in
-    let sizes = c.as_slice-sizes.ensures.value ∙ take_at c.write_frames.new.sizes _ _ (c.in_default-write_frames.ensures.long ∙ c.deref_mut-4.ensures.len) ∙ done.1 in
+    let sizes = c.as_slice-sizes.ensures.value ∙ take_at c.write_frames.new.sizes _ _ (c.in_default-write_frames.ensures.long ∙ c.deref_mut-4.ensures.len)
+    ∙ done.1 in
     let all = adds_then (front file form ++ flat_map dstf frames) (end (map length frames) file form) _ _ _ _ _ _
     (adds_then (front file form) (flat_map dstf frames) _ _ _ _ _ _ (c.in_default.ensures.written file told) done.0)
-    (adds_same _ (end (map length frames) file form) _ _ _ _ (ap (λ (w : List ℕ). end w file form) sizes) (c.in_default-write_end.ensures.written file (c.in_default-write_frames.ensures.bytes ∙ later))) in
+    (adds_same _ (end (map length frames) file form) _ _ _ _ (ap (λ (w : List ℕ). end w file form) sizes)
+    (c.in_default-write_end.ensures.written file (c.in_default-write_frames.ensures.bytes ∙ later))) in
     let place = ap (λ n. 20 + n) (c.side_length-before.ensures.length file fits) in
     let sound = c.sound_size.ensures.size ∙ ap sound_size sizes in
     let size = c.form_size.ensures file fits ∙ ap (λ (w : List ℕ). form_size w file form) sizes in
     let old = g.K.Sink.written c.write_end.new.sink in
     let new = g.K.Sink.written c.write_sizes.new.sink in
     let result : Result (Unit {0}) Failed = Err c.in-Err-write_sizes.field-0 in
-    stopped_at_sizes frames file form (stored_count picks file form c.args.form.now.lawful.of_kind fits) (Unit {0}) Failed result c.in-Err-write_sizes.field-0 (Write ≡ Write) _ old new _ _ refl all
+    stopped_at_sizes frames file form (stored_count picks file form c.args.form.now.lawful.of_kind fits)
+    (Unit {0}) Failed result c.in-Err-write_sizes.field-0 (Write ≡ Write) _ old new _ _ refl all
     (subst (λ n. SizesEnd result (sound_place file form) (sound_size (map length frames)) n old new) size
     (subst (λ n. SizesEnd result (sound_place file form) n c.form_size.result old new) sound
     (subst (λ n. SizesEnd result n c.sound_size.result c.form_size.result old new) place c.in-Err-write_sizes.ensures.written)))
