@@ -21,7 +21,8 @@ use Rattle.dsdiff_spec.specs.Refusal.{refusal}
 use Rattle.dsdiff_spec.specs.Lines.{coded_line, decoded_line, frame_line}
 use Rattle.dsdiff_spec.specs.Outcome.{Answer, done, coded_at, stored_at, nth_frame, OfCommand}
 use Rattle.dsdiff_spec.specs.Laws.{IsCodedFile, ArePicks, IsTheOutcome, LevelPicksLaw, HeadlineLaw}
-use Rattle.dsdiff_spec.proofs.Verdicts.{NotRefused, NoneOf, one_of_all}
+use Rattle.dsdiff_spec.specs.Progress.{NotRefused, NoneOf}
+use Rattle.dsdiff_spec.proofs.Verdicts.{one_of_all}
 use Rattle.dsdiff_spec.proofs.OneOutcome.{none_numbered}
 use Rattle.dsdiff_spec.proofs.OneAnswer.{HasOutcome, command_has_one_outcome}
 use Rattle.dsdiff_spec.proofs.Progress.{frame_of_entry}

@@ -10,7 +10,8 @@ use Rattle.dsdiff_spec.specs.Words.{decode}
 use Rattle.dsdiff_spec.specs.Refusal.{refusal}
 use Rattle.dsdiff_spec.specs.Outcome.{Answer, OfCommand}
 use Rattle.dsdiff_spec.proofs.PassedOn.{passed, goes_before, goes_behind, passed_chunk, passed_in_front}
-use Rattle.dsdiff_spec.proofs.Progress.{BeginsWith, begins_with_front, AreDecoded, sound_size, head_of, end_of, outcome_begins_with_head, every_outcome_has_sound}
+use Rattle.dsdiff_spec.specs.Progress.{AreDecoded}
+use Rattle.dsdiff_spec.proofs.Progress.{BeginsWith, begins_with_front, sound_size, head_of, end_of, outcome_begins_with_head, every_outcome_has_sound}
 
 -- what is written of the first j chunks of a form, before the sound and behind it
 abbrev pub chunks_before : List ℕ → Form → ℕ → List ℕ

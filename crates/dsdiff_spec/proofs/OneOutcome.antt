@@ -16,7 +16,8 @@ use Rattle.dsdiff_spec.specs.Lines.{decoded_line}
 use Rattle.dsdiff_spec.specs.Outcome.{Answer, done, file_refused, frame_refused, Refuses, NoneRefused, IsStopped, IsDone, OfCommand}
 use Rattle.dsdiff_spec.specs.declared.faults.FileFault.{FileFault}
 use Rattle.dsdiff_spec.proofs.CodedFiles.{is_decodable, frames_are_bytes}
-use Rattle.dsdiff_spec.proofs.Verdicts.{NotRefused, IsAnswered, frame_is_answered, AreAnswered, NoneOf, StopsAt, verdict, all_taken, one_of_all, one_list, one_stop, one_fault}
+use Rattle.dsdiff_spec.specs.Progress.{NotRefused, NoneOf}
+use Rattle.dsdiff_spec.proofs.Verdicts.{IsAnswered, frame_is_answered, AreAnswered, StopsAt, verdict, all_taken, one_of_all, one_list, one_stop, one_fault}
 
 -- ---- the run of a command has each frame with its number
 pub none_of_numbered : (c : Command) (form : Form) (n : ℕ) (frames : List (List ℕ)) → NoneRefused c form (enumerate_from n frames) → NoneOf c (shape form) frames

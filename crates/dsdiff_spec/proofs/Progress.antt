@@ -18,7 +18,8 @@ use Rattle.dsdiff_spec.specs.Lines.{decoded_line}
 use Rattle.dsdiff_spec.specs.Outcome.{Answer, done, frame_refused, Refuses, IsStopped, IsDone, OfCommand}
 use Rattle.dsdiff_spec.proofs.Pieces.{AreWhole, length-sounds, decoded_of_sounds, written_before_frame}
 use Rattle.dsdiff_spec.proofs.CodedFiles.{IsDecodable, is_decodable}
-use Rattle.dsdiff_spec.proofs.Verdicts.{NotRefused, IsAnswered, AreAnswered, NoneOf, all_taken, fewer_sounds, stop_is_not_earlier}
+use Rattle.dsdiff_spec.specs.Progress.{NotRefused, NoneOf, AreDecoded}
+use Rattle.dsdiff_spec.proofs.Verdicts.{IsAnswered, AreAnswered, all_taken, fewer_sounds, stop_is_not_earlier}
 use Rattle.dsdiff_spec.proofs.OneOutcome.{IsStoppedAt, to_number, by_number, none_numbered, frames_are_answered, decoding_has_one_outcome}
 
 -- ---- bytes that begin with others
@@ -39,11 +40,7 @@ length-front whole front h = omega (arith, ap length h.is, length-append front h
 pub take-front : (whole front : List ℕ) → BeginsWith whole front → take (length front) whole ≡ front
 take-front whole front h = ap (take (length front)) h.is ∙ take_at front h.rest (length front) refl
 
--- ---- frames of a form: the first k mean these sounds, and none of them is refused
-pub record AreDecoded (file : List ℕ) (form : Form) (k : ℕ) (sounds : List (List ℕ)) : Type 0 where
-  pub each : AllZip (Means (shape form)) (take k (frames_of file form)) sounds
-  pub none : NoneOf decode (shape form) (take k (frames_of file form))
-
+-- ---- the first frames of a form
 pub none_decoded_yet : (file : List ℕ) (form : Form) → AreDecoded file form 0 []
 none_decoded_yet file form = record { each = tt; none = tt }
 

@@ -20,7 +20,7 @@ use Rattle.dsdiff_spec.specs.Form.{Form, shape}
 use Rattle.dsdiff_spec.specs.Words.{frame, check, show_frame}
 use Rattle.dsdiff_spec.specs.Lines.{Line, frame_line, check_line, plain_frame_line, coded_frame_line}
 use Rattle.dsdiff_spec.specs.Outcome.{Answer, done, Refuses, Shows, WritesSound}
-use Rattle.dsdiff_spec.proofs.Verdicts.{NotRefused}
+use Rattle.dsdiff_spec.specs.Progress.{NotRefused}
 use Rattle.dsdiff_spec.proofs.Stopping.{IsSettled, AreSettled, One}
 use Rattle.dst_spec.proofs.Lists.{same_err}
 

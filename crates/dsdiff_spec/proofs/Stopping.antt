@@ -6,7 +6,8 @@ use Rattle.dst_spec.specs.declared.faults.FrameFault.{FrameFault}
 use Rattle.dsdiff_spec.specs.Form.{Form, shape}
 use Rattle.dsdiff_spec.specs.Words.{Command}
 use Rattle.dsdiff_spec.specs.Outcome.{Answer, frame_refused, Refuses, NoneRefused, run, WrittenBefore, IsStopped, Does, IsDone}
-use Rattle.dsdiff_spec.proofs.Verdicts.{NotRefused, IsRefusedOnce}
+use Rattle.dsdiff_spec.specs.Progress.{NotRefused}
+use Rattle.dsdiff_spec.proofs.Verdicts.{IsRefusedOnce}
 
 -- a frame is refused with one fault, or isn't refused
 abbrev pub IsSettled : Command → Shape → List ℕ → Type 0

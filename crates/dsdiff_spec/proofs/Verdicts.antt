@@ -9,11 +9,9 @@ use Rattle.dst_spec.specs.declared.faults.FrameFault.{FrameFault}
 use Rattle.dst_spec.proofs.Understood.{decoding_law}
 use Rattle.dsdiff_spec.specs.Words.{Command, decode}
 use Rattle.dsdiff_spec.specs.Outcome.{Refuses}
+use Rattle.dsdiff_spec.specs.Progress.{NotRefused, NoneOf}
 
 -- ---- one frame
-abbrev pub NotRefused : Command → Shape → List ℕ → Type 0
-NotRefused c f frame = (fault : FrameFault) → Refuses c f frame fault → ⊥
-
 pub record IsRefusedOnce (c : Command) (f : Shape) (frame : List ℕ) : Type 0 where
   pub fault : FrameFault
   pub refuses : Refuses c f frame fault
@@ -38,9 +36,6 @@ frame_is_answered f frame shape bytes = elim (decoding_law f frame shape bytes) 
 -- ---- frames one after the other, each of which is answered
 abbrev pub AreAnswered : Command → Shape → List (List ℕ) → Type 0
 AreAnswered c f frames = AllByRecursion (IsAnswered c f) frames
-
-abbrev pub NoneOf : Command → Shape → List (List ℕ) → Type 0
-NoneOf c f frames = AllByRecursion (NotRefused c f) frames
 
 -- frame k is the first that is refused
 pub record StopsAt (c : Command) (f : Shape) (frames : List (List ℕ)) (k : ℕ) (fault : FrameFault) : Type 0 where

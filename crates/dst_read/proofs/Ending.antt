@@ -8,7 +8,7 @@ use Rattle.dsdiff_spec.specs.Walk.{Entry}
 use Rattle.dsdiff_spec.specs.Words.{decode}
 use Rattle.dsdiff_spec.specs.Lines.{decoded_line}
 use Rattle.dsdiff_spec.specs.Outcome.{done}
-use Rattle.dsdiff_spec.proofs.Progress.{AreDecoded}
+use Rattle.dsdiff_spec.specs.Progress.{AreDecoded}
 use Rattle.dsdiff_chunks.specs.declared.copy.CopyFault.{CopyFault}
 use Rattle.dst_read.specs.declared.faults.Decoded.{Decoded}
 use Rattle.dst_read.specs.declared.faults.DecodeFault.{DecodeFault}

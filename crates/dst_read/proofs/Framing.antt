@@ -9,7 +9,8 @@ use Rattle.dst_spec.specs.declared.faults.FrameFault.{FrameFault}
 use Rattle.dsdiff_spec.specs.Form.{Form, shape, sound_bytes_of, size_of_sound}
 use Rattle.dsdiff_spec.specs.Walk.{Entry, entry, entries, frame_at}
 use Rattle.dsdiff_spec.specs.Decoded.{frames_of}
-use Rattle.dsdiff_spec.proofs.Progress.{AreDecoded, none_decoded_yet, one_more_decoded, frame_of_entry, sound_of_frame}
+use Rattle.dsdiff_spec.specs.Progress.{AreDecoded}
+use Rattle.dsdiff_spec.proofs.Progress.{none_decoded_yet, one_more_decoded, frame_of_entry, sound_of_frame}
 use Rattle.dst_read.specs.Jobs.{IsHeard}
 use Rattle.dst_read.specs.Decoding.{IsOpened, StopsAt, sound_of}
 use Rattle.dst_commands.specs.Writing.{Adds, Stops}

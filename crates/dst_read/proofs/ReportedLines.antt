@@ -17,7 +17,7 @@ use Rattle.dsdiff_spec.specs.Outcome.{Answer, done, frame_refused, Refuses, Show
 use Rattle.dsdiff_spec.specs.declared.faults.FileFault.{FileFault}
 use Rattle.dst_spec.specs.declared.faults.FrameFault.{FrameFault}
 use Rattle.dsdiff_spec.proofs.OneAnswer.{HasOutcome, command_has_one_outcome}
-use Rattle.dsdiff_spec.proofs.Verdicts.{NotRefused}
+use Rattle.dsdiff_spec.specs.Progress.{NotRefused}
 use Rattle.dsdiff_chunks.specs.declared.open.OpenFault.{OpenFault}
 use Rattle.dsdiff_chunks.specs.declared.open.OpenFault.TheVariants.{Read, Memory, File}
 use Rattle.dst_read.specs.declared.faults.ShowFault.{ShowFault}

@@ -12,7 +12,8 @@ use Rattle.dsdiff_spec.specs.Lines.{decoded_line}
 use Rattle.dsdiff_spec.specs.Outcome.{Answer, done, frame_refused}
 use Rattle.dsdiff_spec.proofs.CodedFiles.{is_decodable}
 use Rattle.dsdiff_spec.proofs.OneOutcome.{decoding_has_one_outcome}
-use Rattle.dsdiff_spec.proofs.Progress.{BeginsWith, AreDecoded, sound_is_whole, stops_at_frame, ends_with_sound, outcome_begins, outcome_begins_with_head, every_outcome_has_sound}
+use Rattle.dsdiff_spec.specs.Progress.{AreDecoded}
+use Rattle.dsdiff_spec.proofs.Progress.{BeginsWith, sound_is_whole, stops_at_frame, ends_with_sound, outcome_begins, outcome_begins_with_head, every_outcome_has_sound}
 use Rattle.dsdiff_chunks.specs.declared.copy.CopyFault.{CopyFault}
 use Rattle.dsdiff_chunks.specs.declared.copy.CopyFault.TheVariants.{Read, Write}
 use Rattle.dst_commands.specs.Commands.{OutcomeOf}

@@ -14,7 +14,7 @@ use Rattle.dsdiff_spec.specs.Walk.{Entry, entry, entries, frame_at}
 use Rattle.dsdiff_spec.specs.Decoded.{frames_of}
 use Rattle.dsdiff_spec.specs.Words.{check}
 use Rattle.dsdiff_spec.proofs.Progress.{zip_push, all_push, frame_of_entry}
-use Rattle.dsdiff_spec.proofs.Verdicts.{NoneOf, NotRefused}
+use Rattle.dsdiff_spec.specs.Progress.{NoneOf, NotRefused}
 use Rattle.frame_crew.specs.Runs.{Ran, FailsAtFeed, FailsAtDrain}
 use Rattle.frame_crew.specs.Laws.{Ran-keep}
 use Rattle.dst_read.specs.declared.jobs.Job.{Job}

@@ -6,7 +6,7 @@ use Rattle.dst_spec.specs.Offends.{Offends}
 use Rattle.dst_streams.proofs.Counts.{Rose-earlier}
 use Rattle.dsdiff_spec.specs.Form.{Form, shape, sound_bytes_of, size_of_sound}
 use Rattle.dsdiff_spec.specs.Walk.{Entry, entry, frame_at}
-use Rattle.dsdiff_spec.proofs.Progress.{AreDecoded}
+use Rattle.dsdiff_spec.specs.Progress.{AreDecoded}
 use Rattle.dst_read.specs.declared.jobs.Job.{Job}
 use Rattle.dsdiff_chunks.specs.declared.open.OpenFault.TheVariants.{Read}
 use Rattle.dst_read.specs.declared.faults.DecodeFault.{DecodeFault}

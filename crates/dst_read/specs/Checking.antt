@@ -12,7 +12,7 @@ use Rattle.dsdiff_spec.specs.Words.{check}
 use Rattle.dsdiff_spec.specs.Refusal.{refusal}
 use Rattle.dsdiff_spec.specs.Lines.{check_line}
 use Rattle.dsdiff_spec.specs.Outcome.{done, frame_refused}
-use Rattle.dsdiff_spec.proofs.Verdicts.{NoneOf}
+use Rattle.dsdiff_spec.specs.Progress.{NoneOf}
 use Rattle.dsdiff_chunks.specs.declared.open.OpenFault.TheVariants.{Read, File}
 use Rattle.dst_read.specs.declared.faults.CheckFault.{CheckFault}
 use Rattle.dst_read.specs.declared.faults.CheckFault.TheVariants.{Source, Frame}
