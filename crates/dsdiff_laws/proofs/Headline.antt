@@ -9,7 +9,7 @@ use Rattle.dst_spec.specs.Laws.{IsRefused, IsUnderstood}
 use Rattle.dst_spec.proofs.Understood.{decoding_law}
 use Rattle.level_spec.specs.Picks.{level_picks}
 use Rattle.level_spec.proofs.Lawful.{picks_are_lawful}
-use Rattle.dst_spec.proofs.Lists.{AreBytes-take, AreBytes-drop}
+use Rattle.dst_spec.proofs.Lists.{AreBytes-take, AreBytes-drop, get_all}
 use Rattle.dsdiff_spec.specs.Chunks.{body_place, body_of}
 use Rattle.dsdiff_spec.specs.Form.{shape, sound_bytes_of, size_of_sound}
 use Rattle.dsdiff_spec.specs.Rules.{accepted}
@@ -22,7 +22,6 @@ use Rattle.dsdiff_spec.specs.Lines.{coded_line, decoded_line, frame_line}
 use Rattle.dsdiff_spec.specs.Outcome.{Answer, done, coded_at, stored_at, nth_frame, OfCommand}
 use Rattle.dsdiff_spec.specs.Laws.{IsCodedFile, ArePicks, IsTheOutcome, LevelPicksLaw, HeadlineLaw}
 use Rattle.dsdiff_spec.specs.Progress.{NotRefused, NoneOf}
-use Rattle.dsdiff_spec.proofs.Verdicts.{one_of_all}
 use Rattle.dsdiff_spec.proofs.OneOutcome.{none_numbered}
 use Rattle.dsdiff_spec.proofs.OneAnswer.{HasOutcome, command_has_one_outcome}
 use Rattle.dsdiff_spec.proofs.Progress.{frame_of_entry}
@@ -111,9 +110,9 @@ headline file level plain_file =
           let within : k < length (frames_of g form') = omega (arith, l, e.count, ap length a.4) in
           let each = pieces_are (sound_bytes_of form) (body_of file form.sound) (bytes_of_body form.sound.size (body_place form.sound) file plain_file.0) in
           let as_many = length_all_zip (Means (shape form')) (frames_of g form') list means in
-          let long = (one_of_all (λ w. (length w ≡ sound_bytes_of form) × AreBytes w) list k [] each (omega (arith, within, as_many))).0 in
+          let long = (get_all (λ w. (length w ≡ sound_bytes_of form) × AreBytes w) list k [] each (omega (arith, within, as_many))).0 in
           let one = AllZip-get_or (Means (shape form')) (frames_of g form') list k [] [] means within in
-          let unrefused = one_of_all (NotRefused decode (shape form')) (frames_of g form') k [] none within in
+          let unrefused = get_all (NotRefused decode (shape form')) (frames_of g form') k [] none within in
           is_the_outcome (frame k b) g _ tt a.0.0
           (frame_is_written g k (sound_bytes_of form) (get_or list k []) b (frame_of_entry g form' k within) one unrefused long (a.3 k l false).1 a.0 (omega (arith, a.6.0), a.6.1));
     }

@@ -8,6 +8,7 @@ use Rattle.std.proofs.lemmas.List.{length-map}
 use Rattle.std.proofs.Math.Nat.{mul-le-mul, mul-le-mul_right, div-add-mod}
 use Rattle.dst_spec.specs.Bits.{AreBytes}
 use Rattle.dst_spec.specs.Sample.{Shape, IsShape, sound_bytes}
+use Rattle.dst_spec.proofs.Lists.{AreBytes-take, AreBytes-drop}
 use Rattle.dsdiff_spec.specs.Faults.{◌when◌, ◌otherwise◌, first_some}
 use Rattle.dsdiff_spec.specs.Bytes.{◌above◌}
 use Rattle.dsdiff_spec.specs.Chunks.{Head}
@@ -22,7 +23,7 @@ use Rattle.dsdiff_spec.specs.Words.{Command, decode}
 use Rattle.dsdiff_spec.specs.Refusal.{not_walked, not_coded, command_fault, refusal}
 use Rattle.dsdiff_spec.specs.declared.faults.FileFault.{FileFault}
 use Rattle.dsdiff_spec.specs.declared.faults.FileFault.TheVariants.{CountDiffers, TooManyFrames, KeptBad}
-use Rattle.dsdiff_spec.proofs.Lawful.{first_gives_none, later_gives_none, when_not, form_has_a_shape}
+use Rattle.dsdiff_spec.proofs.Lawful.{first_gives_none, later_gives_none, when_not, form_has_a_shape, right_is_false}
 
 pub record IsDecodable (file : List ℕ) (form : Form) : Type 0 where
   pub coded : form.kind ≡ coded
@@ -60,10 +61,6 @@ kind_gives_none file p =
 pub is_coded_kind : (k : Kind) → is_plain k ≡ false → k ≡ coded
 is_coded_kind plain e = absurd cc
 is_coded_kind coded e = refl
-
-last_is_false : (a b : Bool) → (a || b) ≡ false → b ≡ false
-last_is_false true b p = absurd cc
-last_is_false false b p = p
 
 not_false : (b : Bool) → not b ≡ false → b ≡ true
 not_false true q = refl
@@ -119,7 +116,7 @@ origin_is_lawful file [] origin e h = absurd cc
 origin_is_lawful file (a ∷ []) origin e h =
     let same : origin_of (body_of file a) ≡ origin = cc in
     ap (λ k. frames_for (sound_bytes_in (prop file)) k.sound) (sym same)
-    ∙ eqb-true (frames_for (sound_bytes_in (prop file)) (origin_of (body_of file a)).sound) (frame_count file) (not_false _ (last_is_false _ _ h))
+    ∙ eqb-true (frames_for (sound_bytes_in (prop file)) (origin_of (body_of file a)).sound) (frame_count file) (not_false _ (right_is_false _ _ h))
 origin_is_lawful file (a ∷ b ∷ hs) origin e h = absurd cc
 
 sound_is_needed : (file : List ℕ) → 0 < sound_bytes_in (prop file) → (k : Kind) → k ≡ coded → kind_fault k file ≡ None →
@@ -162,19 +159,9 @@ longest_sound file form d =
     omega (arith, d.fits)
 
 -- ---- the frames are bytes, as parts of the file
-pub bytes_taken : (n : ℕ) (xs : List ℕ) → AreBytes xs → AreBytes (take n xs)
-bytes_taken zero xs h = tt
-bytes_taken (suc n) [] h = tt
-bytes_taken (suc n) (x ∷ xs) h = (h.0, bytes_taken n xs h.1)
-
-pub bytes_dropped : (n : ℕ) (xs : List ℕ) → AreBytes xs → AreBytes (drop n xs)
-bytes_dropped zero xs h = h
-bytes_dropped (suc n) [] h = tt
-bytes_dropped (suc n) (x ∷ xs) h = bytes_dropped n xs h.1
-
 pub frames_are_bytes : (file : List ℕ) (form : Form) → AreBytes file → AllByRecursion AreBytes (frames_of file form)
 frames_are_bytes file form h = each (entries file form)
   where
     each : (es : List Entry) → AllByRecursion AreBytes (map (frame_at file) es)
     each [] = tt
-    each (e ∷ es) = (bytes_taken e.size (drop e.offset file) (bytes_dropped e.offset file h), each es)
+    each (e ∷ es) = (AreBytes-take e.size (drop e.offset file) (AreBytes-drop e.offset file h), each es)

@@ -23,11 +23,11 @@ pub when_not : (f : FileFault) (b : Bool) → (f when b) ≡ None → b ≡ fals
 when_not f true p = absurd cc
 when_not f false p = refl
 
-left_is_false : (a b : Bool) → (a || b) ≡ false → a ≡ false
+pub left_is_false : (a b : Bool) → (a || b) ≡ false → a ≡ false
 left_is_false true b p = absurd cc
 left_is_false false b p = refl
 
-right_is_false : (a b : Bool) → (a || b) ≡ false → b ≡ false
+pub right_is_false : (a b : Bool) → (a || b) ≡ false → b ≡ false
 right_is_false true b p = absurd cc
 right_is_false false b p = p
 

@@ -3,6 +3,7 @@ use Rattle.std.proofs.Common.{◌≡◌, ◌⊎◌, ℕ, Bool, true, false, if�
 use Rattle.std.specs.Prelude.{⊤, bytes_eq, codes, option_map}
 use Rattle.std.specs.List.{AllByRecursion}
 use Rattle.dst_spec.specs.Bits.{AreBytes}
+use Rattle.dst_spec.proofs.Lists.{AreBytes-take, AreBytes-drop}
 use Rattle.dsdiff_spec.specs.Faults.{first_some}
 use Rattle.dsdiff_spec.specs.Form.{Form, Kind, plain, coded, shape}
 use Rattle.dsdiff_spec.specs.Rules.{form_fault, accepted}
@@ -13,7 +14,7 @@ use Rattle.dsdiff_spec.specs.Refusal.{form_refusal, refusal}
 use Rattle.dsdiff_spec.specs.Outcome.{not_understood, file_refused, frames_if_coded, nth_frame, indexed_frame, IsStopped, IsDone, OfCommand, OfWords}
 use Rattle.dsdiff_spec.specs.Laws.{OneOutcomeLaw}
 use Rattle.dsdiff_spec.specs.declared.faults.FileFault.{FileFault}
-use Rattle.dsdiff_spec.proofs.CodedFiles.{bytes_taken, bytes_dropped, frames_are_bytes, form_by, refused_by}
+use Rattle.dsdiff_spec.proofs.CodedFiles.{frames_are_bytes, form_by, refused_by}
 use Rattle.dsdiff_spec.proofs.Lawful.{form_has_a_shape}
 use Rattle.dsdiff_spec.proofs.Stopping.{One, one_of_run}
 use Rattle.dsdiff_spec.proofs.Settling.{frame_is_settled, checked_are_settled, shown_is_settled, one_sound, one_list, one_check, one_line}
@@ -123,7 +124,7 @@ answered c file (Some fault) h = (file_refused fault, refl, λ other o. o)
 answered c file None h = h refl
 
 bytes_of_entry : (file : List ℕ) (e : Entry) → AreBytes file → AreBytes (frame_at file e)
-bytes_of_entry file e h = bytes_taken e.size _ (bytes_dropped e.offset file h)
+bytes_of_entry file e h = AreBytes-take e.size _ (AreBytes-drop e.offset file h)
 
 writing_has_one_outcome : (k : ℕ) (b : Bool) (file : List ℕ) → AreBytes file → One (OfCommand (frame k b) file (refusal (frame k b) file))
 unfolding refusal

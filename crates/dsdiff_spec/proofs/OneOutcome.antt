@@ -7,6 +7,7 @@ use Rattle.std.proofs.Math.Seq.{drop-cons}
 use Rattle.dst_spec.specs.Bits.{AreBytes}
 use Rattle.dst_spec.specs.Sample.{Shape, IsShape}
 use Rattle.dst_spec.specs.declared.faults.FrameFault.{FrameFault}
+use Rattle.dst_spec.proofs.Lists.{all_take, get_all}
 use Rattle.dsdiff_spec.specs.Form.{Form, shape, size_of_sound}
 use Rattle.dsdiff_spec.specs.Rules.{accepted}
 use Rattle.dsdiff_spec.specs.Decoded.{Plain, Before, frames_of, decoded, decoded_before_frame}
@@ -17,7 +18,7 @@ use Rattle.dsdiff_spec.specs.Outcome.{Answer, done, file_refused, frame_refused,
 use Rattle.dsdiff_spec.specs.declared.faults.FileFault.{FileFault}
 use Rattle.dsdiff_spec.proofs.CodedFiles.{is_decodable, frames_are_bytes}
 use Rattle.dsdiff_spec.specs.Progress.{NotRefused, NoneOf}
-use Rattle.dsdiff_spec.proofs.Verdicts.{IsAnswered, frame_is_answered, AreAnswered, StopsAt, verdict, all_taken, one_of_all, one_list, one_stop, one_fault}
+use Rattle.dsdiff_spec.proofs.Verdicts.{IsAnswered, frame_is_answered, AreAnswered, StopsAt, verdict, one_list, one_stop, one_fault}
 
 -- ---- the run of a command has each frame with its number
 pub none_of_numbered : (c : Command) (form : Form) (n : ℕ) (frames : List (List ℕ)) → NoneRefused c form (enumerate_from n frames) → NoneOf c (shape form) frames
@@ -97,7 +98,7 @@ pub one_before : (file : List ℕ) (form : Form) (k : ℕ) (out other : List ℕ
     NoneOf decode (shape form) (take k (frames_of file form)) → Before file form k out → Before file form k other → out ≡ other
 one_before file form k out other answered none a b =
     let frames = take k (frames_of file form) in
-    let same = one_list decode (shape form) frames a.sounds b.sounds (all_taken (IsAnswered decode (shape form)) k (frames_of file form) answered) none a.each b.each in
+    let same = one_list decode (shape form) frames a.sounds b.sounds (all_take (IsAnswered decode (shape form)) k (frames_of file form) answered) none a.each b.each in
     a.written ∙ ap (λ sounds. decoded_before_frame sounds file form) same ∙ sym b.written
 
 pub one_plain : (file : List ℕ) (form : Form) (out other : List ℕ) → AreAnswered decode (shape form) (frames_of file form) →
@@ -121,7 +122,7 @@ same_stop file form a b answered s t =
     let frames = frames_of file form in
     let number = one_stop c f frames s.k t.k s.fault t.fault s.stops t.stops in
     let moved = subst (λ k. StopsAt c f frames k s.fault) number s.stops in
-    let fault = one_fault c f (get_or frames t.k []) s.fault t.fault (one_of_all (IsAnswered c f) frames t.k [] answered t.stops.within) moved.refuses t.stops.refuses in
+    let fault = one_fault c f (get_or frames t.k []) s.fault t.fault (get_all (IsAnswered c f) frames t.k [] answered t.stops.within) moved.refuses t.stops.refuses in
     let out = one_before file form t.k s.out t.out answered t.stops.first (subst (λ k. Before file form k s.out) number s.written) t.written in
     s.answer
     ∙ ap (λ k. frame_refused k s.fault s.out) number
@@ -130,7 +131,7 @@ same_stop file form a b answered s t =
     ∙ sym t.answer
 
 never_both : (file : List ℕ) (form : Form) (o : Answer) → IsStoppedAt file form o → NoneOf decode (shape form) (frames_of file form) → ⊥
-never_both file form o s none = one_of_all (NotRefused decode (shape form)) (frames_of file form) s.k [] none s.stops.within s.fault s.stops.refuses
+never_both file form o s none = get_all (NotRefused decode (shape form)) (frames_of file form) s.k [] none s.stops.within s.fault s.stops.refuses
 
 one_outcome_of_form : (file : List ℕ) (form : Form) (a b : Answer) → AreAnswered decode (shape form) (frames_of file form) →
     IsOutcome file form a → IsOutcome file form b → a ≡ b

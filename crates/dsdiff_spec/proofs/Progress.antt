@@ -7,6 +7,7 @@ use Rattle.std.proofs.lemmas.List.Folds.{concat-append}
 use Rattle.dst_spec.specs.Bits.{AreBytes}
 use Rattle.dst_spec.specs.Means.{Means}
 use Rattle.dst_spec.specs.declared.faults.FrameFault.{FrameFault}
+use Rattle.dst_spec.proofs.Lists.{all_take}
 use Rattle.dsdiff_spec.specs.Form.{Form, shape, sound_bytes_of, size_of_sound}
 use Rattle.dsdiff_spec.specs.Rules.{accepted}
 use Rattle.dsdiff_spec.specs.Walk.{entry, entries, frame_at}
@@ -19,7 +20,7 @@ use Rattle.dsdiff_spec.specs.Outcome.{Answer, done, frame_refused, Refuses, IsSt
 use Rattle.dsdiff_spec.proofs.Pieces.{AreWhole, length-sounds, decoded_of_sounds, written_before_frame}
 use Rattle.dsdiff_spec.proofs.CodedFiles.{IsDecodable, is_decodable}
 use Rattle.dsdiff_spec.specs.Progress.{NotRefused, NoneOf, AreDecoded}
-use Rattle.dsdiff_spec.proofs.Verdicts.{IsAnswered, AreAnswered, all_taken, fewer_sounds, stop_is_not_earlier}
+use Rattle.dsdiff_spec.proofs.Verdicts.{IsAnswered, AreAnswered, fewer_sounds, stop_is_not_earlier}
 use Rattle.dsdiff_spec.proofs.OneOutcome.{IsStoppedAt, to_number, by_number, none_numbered, frames_are_answered, decoding_has_one_outcome}
 
 -- ---- bytes that begin with others
@@ -202,7 +203,7 @@ stopped_begins file k sounds o d answered h s =
     let within : s.k < form.frames = omega (arith, s.stops.within, d.frames) in
     let later : k ≤ s.k = not_earlier (cases_order s.k k) in
     let same = take_of_take k s.k frames later in
-    let more = fewer_sounds c f first sounds s.written.sounds k (all_taken (IsAnswered c f) s.k frames answered)
+    let more = fewer_sounds c f first sounds s.written.sounds k (all_take (IsAnswered c f) s.k frames answered)
     (subst (NoneOf c f) (sym same) h.none) (subst (λ fs. AllZip (Means f) fs sounds) (sym same) h.each) s.written.each in
     let there : AreDecoded file form s.k s.written.sounds = record { each = s.written.each; none = s.stops.first } in
     let long = length-decoded file form s.k s.written.sounds there (omega (arith, s.stops.within)) in

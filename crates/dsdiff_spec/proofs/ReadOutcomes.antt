@@ -6,6 +6,7 @@ use Rattle.dst_spec.specs.Sample.{Shape, IsSound, sound_bytes}
 use Rattle.dst_spec.specs.declared.faults.Reason.TheVariants.{FirstCodeBit}
 use Rattle.dst_spec.proofs.Frames.{frame_with_code_of_zeros}
 use Rattle.dst_spec.proofs.Refusals.{fields_open, at}
+use Rattle.dst_spec.proofs.Spelling.{plain_form_means}
 use Rattle.dsdiff_spec.specs.Refusal.{refusal}
 use Rattle.dsdiff_spec.specs.Words.{frame}
 use Rattle.dsdiff_spec.specs.declared.faults.FileFault.TheVariants.{CountDiffers, IndexBad}
@@ -14,7 +15,7 @@ use Rattle.dsdiff_spec.proofs.Files.{example, two, two_coded}
 use Rattle.dsdiff_spec.proofs.OddFiles.{with_checksum, without_pad}
 use Rattle.dsdiff_spec.proofs.Forms.{but}
 use Rattle.dsdiff_spec.proofs.Commands.{words}
-use Rattle.dsdiff_spec.proofs.Restoring.{alternate, filled_up, plain_frame_means}
+use Rattle.dsdiff_spec.proofs.Restoring.{alternate, filled_up}
 use Rattle.dsdiff_spec.proofs.Outcomes.{outcome_open, says, meaning_is_not_refused, plain_is_not_refused, mono_shape, frame_of_ones_is_bytes}
 
 -- ---- one frame's sound
@@ -125,4 +126,4 @@ frame_past_the_last_is_not_shown = refl
 
 pub sound_by_the_index : Outcome (words ("frame" ∷ "a" ∷ "b" ∷ "1" ∷ "--by-index" ∷ [])) two_coded (says 0 (85 ∷ replicate 4703 105) ("frame 1, 4704 bytes" ∷ []))
 unfolding outcome_open
-sound_by_the_index = inr ((plain_is_not_refused _ _ mono_shape filled_up, tt), (85 ∷ replicate 4703 105, plain_frame_means _ _ filled_up, refl))
+sound_by_the_index = inr ((plain_is_not_refused _ _ mono_shape filled_up, tt), (85 ∷ replicate 4703 105, plain_form_means _ _ filled_up, refl))

@@ -18,7 +18,7 @@ use Rattle.dsdiff_spec.specs.Pieces.{decoded_size}
 use Rattle.dsdiff_spec.specs.Words.{decode}
 use Rattle.dsdiff_spec.specs.Refusal.{refusal}
 use Rattle.dsdiff_spec.specs.declared.faults.FileFault.TheVariants.{FormTooLarge, PropTooLong}
-use Rattle.dsdiff_spec.proofs.Lawful.{first_gives_none, later_gives_none, when_not}
+use Rattle.dsdiff_spec.proofs.Lawful.{first_gives_none, later_gives_none, when_not, left_is_false, right_is_false}
 use Rattle.dsdiff_spec.proofs.Finding.{found_at_most}
 use Rattle.dsdiff_spec.proofs.CodedFiles.{is_decodable, no_rule_fails, kind_gives_none, bad_among, no_bad_origin, longest_sound}
 use Rattle.dsdiff_spec.proofs.PassedOn.{passed, passed_chunk, goes_before, goes_behind}
@@ -76,14 +76,6 @@ prop_is_short file p =
     let most = ltb-false 65536 (prop_head file).size (when_not PropTooLong ((prop_head file).size above 65536) none) in
     omega (arith, length-take (prop_head file).size (drop (body_place (prop_head file)) file))
 
-first_is_false : (a b : Bool) → (a || b) ≡ false → a ≡ false
-first_is_false true b p = absurd cc
-first_is_false false b p = refl
-
-last_is_false : (a b : Bool) → (a || b) ≡ false → b ≡ false
-last_is_false true b p = absurd cc
-last_is_false false b p = p
-
 either_is_short : (b : Bool) (x y : Origin) (n : ℕ) → length x.cmpr ≤ n → length y.cmpr ≤ n → length (if b then x else y).cmpr ≤ n
 either_is_short true x y n p q = p
 either_is_short false x y n p q = q
@@ -99,15 +91,15 @@ cmpr_in_body body =
 
 body_is_short : (one two : Bool) (body : List ℕ) → not (one || two) ≡ false → (one && bad_version_1 body) ≡ false → (two && bad_version_2 body) ≡ false → length body ≤ 131086
 body_is_short true two body neither first second =
-    let long = ltb-false 65545 (length body) (last_is_false _ _ first) in
+    let long = ltb-false 65545 (length body) (right_is_false _ _ first) in
     omega arith
-body_is_short false true body neither first second = ltb-false 131086 (length body) (last_is_false _ _ (first_is_false _ _ (first_is_false _ _ (first_is_false _ _ second))))
+body_is_short false true body neither first second = ltb-false 131086 (length body) (right_is_false _ _ (left_is_false _ _ (left_is_false _ _ (left_is_false _ _ second))))
 body_is_short false false body neither first second = absurd cc
 
 cmpr_is_short : (channels bytes frame_count : ℕ) (body : List ℕ) → is_bad_origin channels bytes frame_count body ≡ false → length (origin_of body).cmpr ≤ 131086
 cmpr_is_short channels bytes frame_count body h =
-    let three = first_is_false _ _ (first_is_false _ _ (first_is_false _ _ (first_is_false _ _ (first_is_false _ _ h)))) in
-    let short = body_is_short (origin_version body == 1) (origin_version body == 2) body (first_is_false _ _ (first_is_false _ _ three)) (last_is_false _ _ (first_is_false _ _ three)) (last_is_false _ _ three) in
+    let three = left_is_false _ _ (left_is_false _ _ (left_is_false _ _ (left_is_false _ _ (left_is_false _ _ h)))) in
+    let short = body_is_short (origin_version body == 1) (origin_version body == 2) body (left_is_false _ _ (left_is_false _ _ three)) (right_is_false _ _ (left_is_false _ _ three)) (right_is_false _ _ three) in
     let inside = cmpr_in_body body in
     omega arith
 

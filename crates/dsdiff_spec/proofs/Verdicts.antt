@@ -71,16 +71,6 @@ verdict c f (x ∷ xs) (inr u, more) = elim (verdict c f xs more) [
 ]
 
 -- ---- there is one
-pub all_taken : {X : Type 0} (P : X → Type 0) (k : ℕ) (xs : List X) → AllByRecursion P xs → AllByRecursion P (take k xs)
-all_taken P zero xs h = tt
-all_taken P (suc k) [] h = tt
-all_taken P (suc k) (x ∷ xs) h = (h.0, all_taken P k xs h.1)
-
-pub one_of_all : {X : Type 0} (P : X → Type 0) (xs : List X) (i : ℕ) (d : X) → AllByRecursion P xs → i < length xs → P (get_or xs i d)
-one_of_all P [] i d h l = absurd (omega arith)
-one_of_all P (x ∷ xs) zero d h l = h.0
-one_of_all P (x ∷ xs) (suc i) d h l = one_of_all P xs i d h.1 (omega arith)
-
 one_of_taken : {X : Type 0} (P : X → Type 0) (k : ℕ) (xs : List X) (i : ℕ) (d : X) → AllByRecursion P (take k xs) → i < k → i < length xs → P (get_or xs i d)
 one_of_taken P zero xs i d h l m = absurd (omega arith)
 one_of_taken P (suc k) [] i d h l m = absurd (omega arith)
