@@ -10,10 +10,10 @@ use Rattle.dsdiff_spec.specs.declared.faults.FileFault.TheVariants.{Overrun}
 use Rattle.dsdiff_spec.specs.Bytes.{bytes_at}
 use Rattle.dsdiff_spec.specs.Rules.{moved}
 use Rattle.dsdiff_spec.specs.Chunks.{Head, Found, head_at, body_of, next_place}
+use Rattle.dsdiff_spec.proofs.Sizes.{length-bytes_at}
 use Rattle.chunk_view.specs.Placed.{placed_at, placed_in, head_behind, heads_behind, StandsIn, AreFoundWherever, OverrunsWherever}
 use Rattle.chunk_view.proofs.Reading.{big_from-drop}
 use Rattle.chunk_view.proofs.Walking.{whole_from, all_from, with_head, stops, cuts, goes, three_ways, room, plenty}
-use Rattle.chunk_view.proofs.Tiling.{length_at}
 
 -- ---- the same bytes and numbers are read there
 abbrev IsIn : List ℕ → List ℕ → ℕ → Type 0
@@ -67,7 +67,7 @@ moved_head_is bytes file start place same le = by_size (head_at bytes place).siz
         head_by (bytes_at bytes place 4) (start + place) (length (bytes_at bytes (place + 12) size)) ≡ head_at file (start + place)
     by_size size le e =
         same_head (bytes_at bytes place 4) (bytes_at bytes place 4) (start + place) (length (bytes_at bytes (place + 12) size)) (big_from (place + 4) 8 bytes) refl
-        (length_at bytes (place + 12) size (omega (arith, le)) ∙ e)
+        (length-bytes_at bytes (place + 12) size (omega (arith, le)) ∙ e)
         ∙ head_in bytes file start place same (omega (arith, le))
 
 -- a chunk that passes the end passes it there too
@@ -138,7 +138,7 @@ body_in bytes file start place same le = by_size (head_at bytes place).size le
     by_size : (size : ℕ) → place + 12 + size + size % 2 ≤ length bytes →
         bytes_at file (start + place + 12) (length (bytes_at bytes (place + 12) size)) ≡ bytes_at bytes (place + 12) size
     by_size size le =
-        ap (λ n. bytes_at file (start + place + 12) n) (length_at bytes (place + 12) size (omega (arith, le)))
+        ap (λ n. bytes_at file (start + place + 12) n) (length-bytes_at bytes (place + 12) size (omega (arith, le)))
         ∙ ap (λ n. bytes_at file n size) (sym (add_assoc_of start place 12))
         ∙ sym (bytes_in bytes file start (place + 12) size same (omega (arith, le)))
 

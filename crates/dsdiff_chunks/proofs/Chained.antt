@@ -8,6 +8,7 @@ use Rattle.dsdiff_spec.specs.declared.faults.FileFault.TheVariants.{Overrun, Too
 use Rattle.dsdiff_spec.specs.Bytes.{between, ◌is◌}
 use Rattle.dsdiff_spec.specs.Chunks.{Head, Found, head_at, fits, next_place, chunks_from, named}
 use Rattle.dsdiff_spec.specs.Written.{part_of_prop}
+use Rattle.dsdiff_spec.proofs.Sizes.{between-joined}
 
 -- from a place on up to an end, each with its pad byte
 abbrev pub Chain : ℕ → ℕ → List Head → Type 0
@@ -80,14 +81,6 @@ part_first prop from to le =
     ap (λ w. between prop from to ++ w) (sym (drop-drop (to - from) from prop ∙ ap (λ n. drop n prop) e))
     ∙ take-append-drop (to - from) (drop from prop)
 
-pub part_before : (prop : List ℕ) (from mid to : ℕ) → from ≤ mid → mid ≤ to → between prop from mid ++ between prop mid to ≡ between prop from to
-part_before prop from mid to p q =
-    let e : from + (mid - from) ≡ mid = omega arith in
-    let n : mid - from + (to - mid) ≡ to - from = omega arith in
-    ap (λ w. between prop from mid ++ take (to - mid) w) (sym (drop-drop (mid - from) from prop ∙ ap (λ n. drop n prop) e))
-    ∙ sym (take-add (mid - from) (to - mid) (drop from prop))
-    ∙ ap (λ k. take k (drop from prop)) n
-
 no_name : (b : Bool) (h : Head) (rest : List Head) → cond b (h ∷ rest) rest ≡ [] → (b ≡ false) × (rest ≡ [])
 no_name true h rest e = absurd cc
 no_name false h rest e = (refl, e)
@@ -135,7 +128,7 @@ exchanged_later prop cmpr place h c bytes p later =
       whole =
           ap (λ w. part_of_prop prop h ++ w) later.whole
           ∙ sym (append_assoc (part_of_prop prop h) (between prop (next_place h) c.place) (cmpr ++ drop (next_place c) prop))
-          ∙ ap (λ w. w ++ (cmpr ++ drop (next_place c) prop)) (part_before prop h.place (next_place h) c.place to from)
+          ∙ ap (λ w. w ++ (cmpr ++ drop (next_place c) prop)) (between-joined prop h.place (next_place h) c.place to from)
           ∙ ap (λ n. between prop n c.place ++ (cmpr ++ drop (next_place c) prop)) p;
     }
 

@@ -17,9 +17,9 @@ use Rattle.chunk_view.proofs.Reading.{big_from-drop}
 use Rattle.dsdiff_chunks.specs.Local.{is_bad_rate, is_bad_count, is_bad_compression}
 
 -- rules in order
-pub here : (a b : Option FileFault) (f : FileFault) → a ≡ Some f → (a otherwise b) ≡ Some f
-here (Some x) b f e = e
-here None b f e = absurd cc
+pub first_refuses : (a b : Option FileFault) (f : FileFault) → a ≡ Some f → (a otherwise b) ≡ Some f
+first_refuses (Some x) b f e = e
+first_refuses None b f e = absurd cc
 
 pub later : (a b r : Option FileFault) → a ≡ None → b ≡ r → (a otherwise b) ≡ r
 later (Some x) b r e p = absurd cc
@@ -27,7 +27,7 @@ later None b r e p = p
 
 pub both_here : (a b c : Option FileFault) (f : FileFault) → (a otherwise b) ≡ Some f → (a otherwise b otherwise c) ≡ Some f
 both_here (Some x) b c f e = e
-both_here None b c f e = here b c f e
+both_here None b c f e = first_refuses b c f e
 
 -- ---- what is read of a chunk's body, and where it stands in the body of `PROP`
 -- the number behind so many bytes, as a slice of them shows it

@@ -38,13 +38,6 @@ pieces_at f xs i d h =
     ∙ flat_map-append f (take i xs) (drop i xs)
     ∙ ap (λ w. flat_map f (take i xs) ++ flat_map f w) (drop_more xs i d h)
 
-pub piece_more : {X : Type 0} (f : X → List ℕ) (xs : List X) (i : ℕ) (d : X) → i < length xs →
-    flat_map f (take (i + 1) xs) ≡ flat_map f (take i xs) ++ f (get_or xs i d)
-piece_more f xs i d h =
-    ap (flat_map f) (take_more xs i d h)
-    ∙ flat_map-append f (take i xs) (get_or xs i d ∷ [])
-    ∙ ap (λ w. flat_map f (take i xs) ++ w) (append-nil (f (get_or xs i d)))
-
 -- a piece behind others that is cut short
 pub cut_piece : (old mid new : Option (List ℕ)) (done piece rest all : List ℕ) → all ≡ done ++ (piece ++ rest) →
     mid ≡ and_then old done → IsCutShort mid piece new → IsCutShort old all new

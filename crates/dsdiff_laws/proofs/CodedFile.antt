@@ -13,6 +13,7 @@ use Rattle.dsdiff_spec.specs.Rules.{form_of_kind}
 use Rattle.dsdiff_spec.specs.Walk.{Entry}
 use Rattle.dsdiff_spec.specs.Written.{form_of, frte, dstf, entries_from}
 use Rattle.dsdiff_spec.proofs.Tiling.{length_of_chunk}
+use Rattle.dsdiff_spec.proofs.Pieces.{pad_is_long}
 use Rattle.dsdiff_laws.proofs.Composed.{AreChunks, others_are, is_ending}
 use Rattle.dsdiff_laws.proofs.Filed.{IsFile, may_lack, body_bytes, written_is_file, end_is}
 use Rattle.dsdiff_laws.proofs.Props.{locals, replaced, chunk_of, body_with, length-replaced, length-prop, AroundOne, around_cmpr}
@@ -22,13 +23,6 @@ use Rattle.dsdiff_laws.proofs.CodedChunks.{entries_of, origin_of_parts, coded_ch
 use Prim.Native.String.{String}
 
 -- ---- chunks that are written are whole
-pad_is_long : (n pad : ℕ) → length (if n % 2 == 1 then pad ∷ [] else []) ≡ n % 2
-pad_is_long n pad = go (n % 2 == 1) refl
-  where
-    go : (b : Bool) → (n % 2 == 1) ≡ b → length (if b then pad ∷ [] else []) ≡ n % 2
-    go true e = let one = eqb-true (n % 2) 1 e in omega arith
-    go false e = let not_one = eqb-false (n % 2) 1 e in omega arith
-
 pub is_whole : (name : String) (body : List ℕ) (pad : ℕ) → length (codes name) ≡ 4 → length body < 2 ^ 64 → IsChunk (chunk_of name body pad)
 is_whole name body pad id size = record { id = id; size = size; pad = pad_is_long (length body) pad }
 

@@ -9,6 +9,7 @@ use Rattle.dsdiff_spec.specs.Form.{shape, shape_of}
 use Rattle.dsdiff_spec.specs.Parts.{prop_head, prop, in_prop, rate, channel_count, multiple, kind}
 use Rattle.dsdiff_spec.specs.Rules.{opening_fault, version_fault, prop_chunk_fault, local_fault, type_fault, moved, rate_fault, channels_fault, compression_fault, prop_fault, sound_fault, kind_fault, form_fault, accepted, is_rate}
 use Rattle.dsdiff_spec.specs.declared.faults.FileFault.{FileFault}
+use Rattle.dsdiff_spec.specs.declared.faults.FileFault.TheVariants.{Overrun}
 
 -- where a chain of rules gives no fault, no rule of it does, and nothing at which a rule's fault comes holds
 pub first_gives_none : (a b : Option FileFault) → a otherwise b ≡ None → a ≡ None
@@ -30,6 +31,11 @@ left_is_false false b p = refl
 pub right_is_false : (a b : Bool) → (a || b) ≡ false → b ≡ false
 right_is_false true b p = absurd cc
 right_is_false false b p = p
+
+pub moved_none : (start : ℕ) (fault : Option FileFault) → moved start fault ≡ None → fault ≡ None
+moved_none start None e = refl
+moved_none start (Some (Overrun place)) e = absurd cc
+moved_none start (Some fault) e = absurd cc
 
 prop_gives_none : (file : List ℕ) → form_fault file ≡ None → prop_fault file ≡ None
 unfolding form_fault

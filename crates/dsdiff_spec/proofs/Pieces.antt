@@ -16,7 +16,7 @@ use Rattle.dsdiff_spec.proofs.Files.{two, two_coded}
 use Rattle.dsdiff_spec.proofs.Restoring.{written_open}
 
 -- ---- of any sound
-pad_is_long : (n pad : ℕ) → length (if n % 2 == 1 then pad ∷ [] else []) ≡ n % 2
+pub pad_is_long : (n pad : ℕ) → length (if n % 2 == 1 then pad ∷ [] else []) ≡ n % 2
 pad_is_long n pad = go (n % 2 == 1) refl
   where
     go : (b : Bool) → (n % 2 == 1) ≡ b → length (if b then pad ∷ [] else []) ≡ n % 2

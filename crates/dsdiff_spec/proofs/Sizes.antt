@@ -1,12 +1,13 @@
 -- How large the plain file may be that a coded one is decoded to.
-use Rattle.std.proofs.Common.{◌≡◌, ℕ, ◌+◌, ◌-◌, ◌*◌, ◌%◌, ◌^◌, ◌<◌, ◌≤◌, ◌==◌, Bool, true, false, if◌then◌else◌, List, [], ◌∷◌, ◌++◌, length, drop, get_or, map, flat_map, filter, refl, arith, length-append, length-drop, None, ltb-false}
+use Rattle.std.proofs.Common.{◌≡◌, ℕ, ◌+◌, ◌-◌, ◌*◌, ◌%◌, ◌^◌, ◌<◌, ◌≤◌, ◌==◌, Bool, true, false, if◌then◌else◌, List, [], ◌∷◌, ◌++◌, length, take, drop, get_or, map, flat_map, filter, refl, sym, ap, ◌∙◌, arith, length-append, length-drop, None, ltb-false}
 use Rattle.std.specs.Prelude.{not, ◌&&◌, ◌||◌, min, codes}
 use Rattle.std.specs.List.{concat, AllByRecursion}
-use Rattle.std.proofs.lemmas.List.{length-take}
+use Rattle.std.proofs.lemmas.List.{length-take, drop-drop}
+use Rattle.std.proofs.Math.Seq.{take-add}
 use Rattle.byteorder.specs.Endian.{big_bytes}
 use Rattle.byteorder.specs.Numbers.{length-bytes_high_first}
 use Rattle.dsdiff_spec.specs.Faults.{◌when◌}
-use Rattle.dsdiff_spec.specs.Bytes.{number_at, between, ◌is◌, ◌above◌}
+use Rattle.dsdiff_spec.specs.Bytes.{number_at, bytes_at, between, ◌is◌, ◌above◌}
 use Rattle.dsdiff_spec.specs.Chunks.{Head, next_place, body_place, body_of}
 use Rattle.dsdiff_spec.specs.Form.{Kind, plain, coded, Origin, Form, whole_chunk, size_of_sound}
 use Rattle.dsdiff_spec.specs.Parts.{kind, form_size, form_end, all, prop_head, prop, in_prop, frame_count, channel_count, sound_bytes_in}
@@ -26,6 +27,18 @@ use Rattle.dsdiff_spec.proofs.PassedOn.{passed, passed_chunk, goes_before, goes_
 -- ---- bytes between places of a list
 pub length-between : (w : List ℕ) (place end : ℕ) → length (between w place end) ≤ end - place
 length-between w place end = omega (arith, length-take (end - place) (drop place w))
+
+pub length-bytes_at : (w : List ℕ) (place n : ℕ) → place + n ≤ length w → length (bytes_at w place n) ≡ n
+length-bytes_at w place n le = omega (arith, le, length-take n (drop place w), length-drop place w)
+
+-- from one place to a second, and from there to a third
+pub between-joined : (w : List ℕ) (from mid to : ℕ) → from ≤ mid → mid ≤ to → between w from mid ++ between w mid to ≡ between w from to
+between-joined w from mid to p q =
+    let e : from + (mid - from) ≡ mid = omega arith in
+    let n : mid - from + (to - mid) ≡ to - from = omega arith in
+    ap (λ v. between w from mid ++ take (to - mid) v) (sym (drop-drop (mid - from) from w ∙ ap (λ n. drop n w) e))
+    ∙ sym (take-add (mid - from) (to - mid) (drop from w))
+    ∙ ap (λ k. take k (drop from w)) n
 
 pub length-between_all : (w : List ℕ) (place end : ℕ) → length (between w place end) ≤ length w
 length-between_all w place end = omega (arith, length-take (end - place) (drop place w), length-drop place w)

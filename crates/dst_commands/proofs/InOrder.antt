@@ -18,9 +18,6 @@ use Rattle.dsdiff_chunks.specs.declared.open.OpenFault.{OpenFault}
 use Rattle.dsdiff_chunks.specs.declared.open.OpenFault.TheVariants.{Read, Memory, File}
 use Rattle.dsdiff_chunks.specs.Opening.{Stops}
 
-pub first_refuses : (a b : Option FileFault) (fault : FileFault) → a ≡ Some fault → (a otherwise b) ≡ Some fault
-first_refuses a b fault e = ap (λ a. a otherwise b) e
-
 pub then_is : (a b : Option FileFault) → a ≡ None → (a otherwise b) ≡ b
 then_is a b e = ap (λ a. a otherwise b) e
 

@@ -12,7 +12,7 @@ use Rattle.dsdiff_spec.specs.Form.{shape_of}
 use Rattle.dsdiff_spec.specs.Parts.{local, rate, channel_count}
 use Rattle.dsdiff_spec.specs.Rules.{rate_fault, channels_fault, compression_fault}
 use Rattle.dsdiff_chunks.specs.Local.{is_bad_rate, is_bad_count, is_bad_compression}
-use Rattle.dsdiff_chunks.proofs.Fields.{here, later, rate_of_one, count_of_one, compression_of_one, count_of_others, compression_of_others, rate_reads, count_reads}
+use Rattle.dsdiff_chunks.proofs.Fields.{first_refuses, later, rate_of_one, count_of_one, compression_of_one, count_of_others, compression_of_others, rate_reads, count_reads}
 use Rattle.dsdiff_chunks.proofs.prop.read_fields.Goals as goal
 
 -- a chunk that is the only one of its name, and what is said of its body
@@ -34,19 +34,19 @@ behind_rate body = channels_fault body otherwise compression_fault body
 pub returns-in_default-rate_in-clause-refused : goal.returns-in_default-rate_in-clause-refused
 returns-in_default-rate_in-clause-refused c =
     let body = c.args.body.now in
-    here (rate_fault body) (behind_rate body) Rate (rate_said body c.in-Some.fs true c.in-Some.ensures.one c.in-Some.ensures.body c.in_default-rate_in.ensures.none)
+    first_refuses (rate_fault body) (behind_rate body) Rate (rate_said body c.in-Some.fs true c.in-Some.ensures.one c.in-Some.ensures.body c.in_default-rate_in.ensures.none)
 
 pub returns-in_default-local-clause-refused : goal.returns-in_default-local-clause-refused
 returns-in_default-local-clause-refused c =
     let body = c.args.body.now in
     later (rate_fault body) (behind_rate body) (Some Channels) (rate_said body c.in-Some.fs false c.in-Some.ensures.one c.in-Some.ensures.body c.in-Some-rate_in.ensures.some)
-    (here (channels_fault body) (compression_fault body) Channels (count_of_others body c.in_default-local.ensures.none))
+    (first_refuses (channels_fault body) (compression_fault body) Channels (count_of_others body c.in_default-local.ensures.none))
 
 pub returns-in_default-count_in-clause-refused : goal.returns-in_default-count_in-clause-refused
 returns-in_default-count_in-clause-refused c =
     let body = c.args.body.now in
     later (rate_fault body) (behind_rate body) (Some Channels) (rate_said body c.in-Some.fs false c.in-Some.ensures.one c.in-Some.ensures.body c.in-Some-rate_in.ensures.some)
-    (here (channels_fault body) (compression_fault body) Channels (count_said body c.in-Some-local.chnl true c.in-Some-local.ensures.one c.in-Some-local.ensures.body c.in_default-count_in.ensures.none))
+    (first_refuses (channels_fault body) (compression_fault body) Channels (count_said body c.in-Some-local.chnl true c.in-Some-local.ensures.one c.in-Some-local.ensures.body c.in_default-count_in.ensures.none))
 
 pub returns-in_default-local-2-clause-refused : goal.returns-in_default-local-2-clause-refused
 returns-in_default-local-2-clause-refused c =

@@ -5,7 +5,8 @@ use Rattle.std.proofs.lemmas.List.Folds.{length-flat_map-take}
 use Rattle.std.proofs.lemmas.Result.{MatchResult-from_err}
 use Rattle.dst_streams.specs.Told.{and_then}
 use Rattle.dst_streams.proofs.Told.{and_then-twice}
-use Rattle.dsdiff_chunks.proofs.Pieces.{pieces_at, piece_more, cut_piece, room_more, room_taken}
+use Rattle.dsdiff_chunks.proofs.Pieces.{pieces_at, cut_piece, room_more, room_taken}
+use Rattle.dst_spec.proofs.Lists.{flat_map-next}
 use Rattle.dsdiff_chunks.proofs.write.append_all.Goals as goal
 
 abbrev none : Bor (List ℕ)
@@ -40,7 +41,7 @@ loop-piece-preserved g c =
     let i = c.loop-piece.piece-index in
     let pieces = c.args.pieces.now in
     let piece = (get_or pieces i none).now in
-    let more = piece_more bytes_of pieces i none c.loop-piece-test.true in
+    let more = flat_map-next bytes_of pieces i none c.loop-piece-test.true in
     let long : length (flat_map bytes_of (take (i + 1) pieces)) ≡ length (flat_map bytes_of (take i pieces)) + length piece =
     ap length more ∙ length-append (flat_map bytes_of (take i pieces)) piece in
     record {
