@@ -1,5 +1,6 @@
 -- The chunks that are found wherever the bytes stand in a file.
-use Rattle.std.proofs.Common.{◌≡◌, ℕ, zero, suc, ◌+◌, ◌-◌, ◌*◌, ◌%◌, ◌<◌, ◌≤◌, List, length, take, drop, map, Option, Some, None, refl, sym, ap, ◌∙◌, arith, inl, inr, subst}
+use Rattle.std.proofs.Common.{◌≡◌, ℕ, zero, suc, ◌+◌, ◌-◌, ◌*◌, ◌%◌, ◌<◌, ◌≤◌, List, length, take, drop, map, Option, Some, None, refl, sym, ap, ◌∙◌, arith}
+use Rattle.std.proofs.Common.{inl, inr, subst}
 use Rattle.std.specs.List.{AllByRecursion}
 use Rattle.std.proofs.lemmas.List.{drop-drop, drop-take, take-take}
 use Rattle.std.proofs.lemmas.Bool.{cases_lt}
@@ -66,7 +67,8 @@ moved_head_is bytes file start place same le = by_size (head_at bytes place).siz
     by_size : (size : ℕ) → place + 12 + size + size % 2 ≤ length bytes → size ≡ (head_at bytes place).size →
         head_by (bytes_at bytes place 4) (start + place) (length (bytes_at bytes (place + 12) size)) ≡ head_at file (start + place)
     by_size size le e =
-        same_head (bytes_at bytes place 4) (bytes_at bytes place 4) (start + place) (length (bytes_at bytes (place + 12) size)) (big_from (place + 4) 8 bytes) refl
+        same_head (bytes_at bytes place 4) (bytes_at bytes place 4) (start + place) (length (bytes_at bytes (place + 12) size))
+        (big_from (place + 4) 8 bytes) refl
         (length-bytes_at bytes (place + 12) size (omega (arith, le)) ∙ e)
         ∙ head_in bytes file start place same (omega (arith, le))
 
@@ -110,13 +112,16 @@ found_in bytes file start same (suc a) (suc b) place p q =
             ∙ ap (moved_found bytes start) (sym (cuts bytes (length bytes) a place cut.0 cut.1))
         | inr le ↦
             let head = moved_head_is bytes file start place same le in
-            let size : (head_at file (start + place)).size ≡ (head_at bytes place).size = sym (ap (λ h. h.size) (head_in bytes file start place same (head_before (length bytes) place (head_at bytes place).size le))) in
-            let behind : next_place (head_at file (start + place)) ≡ start + next = ap (λ n. start + place + 12 + n + n % 2) size ∙ sym (next_in start place (head_at bytes place).size) in
+            let size : (head_at file (start + place)).size ≡ (head_at bytes place).size =
+            sym (ap (λ h. h.size) (head_in bytes file start place same (head_before (length bytes) place (head_at bytes place).size le))) in
+            let behind : next_place (head_at file (start + place)) ≡ start + next = ap (λ n. start + place + 12 + n + n % 2) size
+            ∙ sym (next_in start place (head_at bytes place).size) in
             goes file (start + length bytes) b (start + place) (fits_in start (length bytes) next (next_place (head_at file (start + place))) behind le)
             ∙ ap (λ h. with_head h (whole_from file (start + length bytes) b (next_place (head_at file (start + place))))) (sym head)
             ∙ ap (λ n. with_head (moved_head bytes start (head_at bytes place)) (whole_from file (start + length bytes) b n)) behind
             ∙ ap (with_head (moved_head bytes start (head_at bytes place)))
-            (found_in bytes file start same a b next (room (length bytes) place a (head_at bytes place).size p) (room (length bytes) place b (head_at bytes place).size q))
+            (found_in bytes file start same a b next (room (length bytes) place a (head_at bytes place).size p)
+            (room (length bytes) place b (head_at bytes place).size q))
             ∙ ap (moved_found bytes start) (sym (goes bytes (length bytes) a place le))
       ]
     ]

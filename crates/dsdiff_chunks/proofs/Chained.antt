@@ -1,5 +1,6 @@
 -- Chunks one behind the other, and the bytes that they are where one of them is exchanged.
-use Rattle.std.proofs.Common.{◌≡◌, ℕ, zero, suc, ◌+◌, ◌-◌, ◌%◌, ◌≤◌, Bool, true, false, cond, List, [], ◌∷◌, ◌++◌, length, take, drop, flat_map, Some, None, refl, sym, ap, subst, inl, inr, ◌⊎◌, ◌∙◌, arith, append_assoc}
+use Rattle.std.proofs.Common.{◌≡◌, ℕ, zero, suc, ◌+◌, ◌-◌, ◌%◌, ◌≤◌, Bool, true, false, cond, List, [], ◌∷◌, ◌++◌, length, take, drop, flat_map, Some, None}
+use Rattle.std.proofs.Common.{refl, sym, ap, subst, inl, inr, ◌⊎◌, ◌∙◌, arith, append_assoc}
 use Rattle.std.specs.Prelude.{nat_lt, nat_le, if◌then◌else◌}
 use Rattle.std.proofs.lemmas.Bool.{and_parts, leb-true, ltb-false}
 use Rattle.std.proofs.lemmas.List.{drop_all, drop-drop, take-append-drop}
@@ -30,11 +31,13 @@ at_head b fit place h later = elim b [ false ↦ record { heads = []; fault = No
 
 opened : (file : List ℕ) (end most place : ℕ) →
     chunks_from no_lack file end (suc most) place
-    ≡ at_head (nat_lt place end) (fits no_lack end (head_at file place)) place (head_at file place) (chunks_from no_lack file end most (next_place (head_at file place)))
+    ≡ at_head (nat_lt place end) (fits no_lack end (head_at file place)) place (head_at file place)
+    (chunks_from no_lack file end most (next_place (head_at file place)))
 unfolding chunks_from
 opened file end most place = refl
 
-no_room : (file : List ℕ) (end place : ℕ) → chunks_from no_lack file end zero place ≡ record { heads = []; fault = if nat_lt place end then Some TooManyChunks else None }
+no_room : (file : List ℕ) (end place : ℕ) →
+    chunks_from no_lack file end zero place ≡ record { heads = []; fault = if nat_lt place end then Some TooManyChunks else None }
 unfolding chunks_from
 no_room file end place = refl
 
@@ -56,7 +59,8 @@ at_one true true end place h later e f p rest le none =
 pub are_chained : (file : List ℕ) (end most place : ℕ) → IsChained end place (chunks_from no_lack file end most place)
 are_chained file end zero place = rw no_room (at_no_room (nat_lt place end) end place refl)
 are_chained file end (suc most) place =
-    rw opened (at_one (nat_lt place end) (fits no_lack end (head_at file place)) end place (head_at file place) (chunks_from no_lack file end most (next_place (head_at file place))) refl refl refl
+    rw opened (at_one (nat_lt place end) (fits no_lack end (head_at file place)) end place (head_at file place)
+    (chunks_from no_lack file end most (next_place (head_at file place))) refl refl refl
     (are_chained file end most (next_place (head_at file place))))
 
 pub is_even : (end place : ℕ) (hs : List Head) → Chain end place hs → place % 2 ≡ 0 → end % 2 ≡ 0

@@ -102,5 +102,6 @@ pieces_are prop cmpr place end head h one p q e =
     ap (λ w. w ++ (take place prop ++ (cmpr ++ (take (length prop - end) (drop end prop) ++ [])))) e
     ∙ ap (λ w. (codes "PROP" ++ big_bytes 8 (length prop - (end - place) + length cmpr)) ++ (take place prop ++ (cmpr ++ w))) (append-nil _ ∙ whole)
     ∙ ap (λ n. (codes "PROP" ++ big_bytes 8 (length prop - (end - n) + length cmpr)) ++ (take n prop ++ (cmpr ++ drop end prop))) p
-    ∙ ap (λ n. (codes "PROP" ++ big_bytes 8 (length prop - (n - (cmpr_head prop).place) + length cmpr)) ++ (take (cmpr_head prop).place prop ++ (cmpr ++ drop n prop))) q
+    ∙ ap (λ n. (codes "PROP" ++ big_bytes 8 (length prop - (n - (cmpr_head prop).place) + length cmpr)) ++
+    (take (cmpr_head prop).place prop ++ (cmpr ++ drop n prop))) q
     ∙ sym (prop_with_is prop cmpr h one)
