@@ -1,5 +1,6 @@
 -- The promise of the whole: what encoding writes of a plain file, what decoding gives back of it, and any one of its frames.
-use Rattle.std.proofs.Common.{◌≡◌, ◌⊎◌, inl, inr, ℕ, ◌+◌, ◌<◌, ◌≤◌, Bool, true, false, List, [], ◌∷◌, length, take, drop, get_or, None, refl, sym, ap, ap₂, subst, ◌∙◌, arith}
+use Rattle.std.proofs.Common.{◌≡◌, ◌⊎◌, inl, inr, ℕ, ◌+◌, ◌<◌, ◌≤◌, Bool, true, false, List, [], ◌∷◌, length, take, drop, get_or, None, refl, sym, ap, ap₂}
+use Rattle.std.proofs.Common.{subst, ◌∙◌, arith}
 use Rattle.std.specs.List.{AllByRecursion, AllZip}
 use Rattle.std.proofs.lemmas.List.Elements.{AllZip-get_or, length_all_zip}
 use Rattle.dst_spec.specs.Bits.{AreBytes}
@@ -51,7 +52,8 @@ not_refused f w sound lawful bytes means = go (decoding_law f w lawful bytes)
     go (inl refused) = absurd (refused.3 sound means)
     go (inr understood) = understood.3
 
-none_refused : (f : Shape) (frames sounds : List (List ℕ)) → IsShape f → AllByRecursion AreBytes frames → AllZip (Means f) frames sounds → NoneOf decode f frames
+none_refused : (f : Shape) (frames sounds : List (List ℕ)) → IsShape f → AllByRecursion AreBytes frames → AllZip (Means f) frames sounds →
+    NoneOf decode f frames
 none_refused f [] [] lawful bytes all = tt
 none_refused f [] (s ∷ sounds) lawful bytes all = absurd all
 none_refused f (w ∷ frames) [] lawful bytes all = absurd all
@@ -62,7 +64,8 @@ bytes_of_body : (size place : ℕ) (file : List ℕ) → AreBytes file → AreBy
 bytes_of_body size place file h = AreBytes-take size (drop place file) (AreBytes-drop place file h)
 
 frame_is_written : (g : List ℕ) (k n : ℕ) (sound : List ℕ) (b : Bool) → nth_frame g (accepted g) k ≡ get_or (frames_of g (accepted g)) k [] →
-    Means (shape (accepted g)) (get_or (frames_of g (accepted g)) k []) sound → NotRefused decode (shape (accepted g)) (get_or (frames_of g (accepted g)) k []) →
+    Means (shape (accepted g)) (get_or (frames_of g (accepted g)) k []) sound →
+    NotRefused decode (shape (accepted g)) (get_or (frames_of g (accepted g)) k []) →
     length sound ≡ n → refusal (frame k false) g ≡ None → IsCodedFile g → (1 ≤ length (index_heads (accepted g))) × (compare_fault g (accepted g) ≡ None) →
     OfCommand (frame k b) g (refusal (frame k b) g) (done sound (frame_line k n ∷ []))
 frame_is_written g k n sound b is means unrefused long accepts coded indexed = go b
@@ -98,7 +101,8 @@ headline file level plain_file =
     let lawful : IsShape (shape form') = subst IsShape (sym (same_shape file picks e)) e.shape in
     let bytes = subst (AllByRecursion AreBytes) (sym (walk_of_coded file picks e).stored) e.stored.bytes in
     let none = none_refused (shape form') (frames_of g form') list lawful bytes means in
-    let coded_is = accepted_outcome (encode level) file (done g (coded_line form.frames (stored_at level file form) ∷ [])) (same_rules level file ∙ plain_file.1) (inr (tt, refl)) in
+    let coded_is = accepted_outcome (encode level) file (done g (coded_line form.frames (stored_at level file form) ∷ []))
+    (same_rules level file ∙ plain_file.1) (inr (tt, refl)) in
     let line = ap₂ (λ m n. done file (decoded_line m n ∷ [])) count size in
     let decoded_is = accepted_outcome decode g (done file (decoded_line form.frames (size_of_sound form) ∷ [])) a.0.1
     (inr (none_numbered decode form' 0 (frames_of g form') none, (file, back, sym line))) in
@@ -114,5 +118,6 @@ headline file level plain_file =
           let one = AllZip-get_or (Means (shape form')) (frames_of g form') list k [] [] means within in
           let unrefused = get_all (NotRefused decode (shape form')) (frames_of g form') k [] none within in
           is_the_outcome (frame k b) g _ tt a.0.0
-          (frame_is_written g k (sound_bytes_of form) (get_or list k []) b (frame_of_entry g form' k within) one unrefused long (a.3 k l false).1 a.0 (omega (arith, a.6.0), a.6.1));
+          (frame_is_written g k (sound_bytes_of form) (get_or list k []) b (frame_of_entry g form' k within) one unrefused long (a.3 k l false).1 a.0
+          (omega (arith, a.6.0), a.6.1));
     }

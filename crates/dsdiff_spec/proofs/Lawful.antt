@@ -7,7 +7,8 @@ use Rattle.dsdiff_spec.specs.Faults.{◌when◌, ◌otherwise◌}
 use Rattle.dsdiff_spec.specs.Chunks.{body_place}
 use Rattle.dsdiff_spec.specs.Form.{shape, shape_of}
 use Rattle.dsdiff_spec.specs.Parts.{prop_head, prop, in_prop, rate, channel_count, multiple, kind}
-use Rattle.dsdiff_spec.specs.Rules.{opening_fault, version_fault, prop_chunk_fault, local_fault, type_fault, moved, rate_fault, channels_fault, compression_fault, prop_fault, sound_fault, kind_fault, form_fault, accepted, is_rate}
+use Rattle.dsdiff_spec.specs.Rules.{opening_fault, version_fault, prop_chunk_fault, local_fault, type_fault, moved, rate_fault, channels_fault}
+use Rattle.dsdiff_spec.specs.Rules.{compression_fault, prop_fault, sound_fault, kind_fault, form_fault, accepted, is_rate}
 use Rattle.dsdiff_spec.specs.declared.faults.FileFault.{FileFault}
 use Rattle.dsdiff_spec.specs.declared.faults.FileFault.TheVariants.{Overrun}
 
@@ -50,7 +51,8 @@ local_gives_none : (file : List ℕ) → form_fault file ≡ None → local_faul
 local_gives_none file p =
     later_gives_none (prop_chunk_fault file) (local_fault (body_place (prop_head file)) (prop file)) (prop_gives_none file p)
 
-fields_give_none : (start : ℕ) (body : List ℕ) → local_fault start body ≡ None → rate_fault body otherwise channels_fault body otherwise compression_fault body ≡ None
+fields_give_none : (start : ℕ) (body : List ℕ) → local_fault start body ≡ None →
+    rate_fault body otherwise channels_fault body otherwise compression_fault body ≡ None
 fields_give_none start body p =
     let fields = rate_fault body otherwise channels_fault body otherwise compression_fault body in
     later_gives_none (moved start (in_prop body).fault) fields

@@ -44,7 +44,8 @@ plain_file_is_not_decoded = refl
 
 -- ---- files that are decoded
 -- a frame that means a sound isn't refused
-pub meaning_is_not_refused : (f : Shape) (frame sound : List ℕ) → IsShape f → AreBytes frame → Means f frame sound → (fault : FrameFault) → Offends f frame fault → ⊥
+pub meaning_is_not_refused : (f : Shape) (frame sound : List ℕ) → IsShape f → AreBytes frame → Means f frame sound → (fault : FrameFault) →
+    Offends f frame fault → ⊥
 meaning_is_not_refused f frame sound g bytes means fault offends =
     elim (decoding_law f frame g bytes) [
       | inl (other, o, one, none) ↦ none sound means

@@ -29,7 +29,10 @@ index_is_not_there = refl
 
 pub sound_of_one_frame : Outcome (words ("frame" ∷ "a" ∷ "b" ∷ "0" ∷ [])) example (says 0 (replicate 4704 255) ("frame 0, 4704 bytes" ∷ []))
 unfolding outcome_open
-sound_of_one_frame = inr ((meaning_is_not_refused _ _ _ mono_shape frame_of_ones_is_bytes (frame_with_code_of_zeros 4704), tt), (replicate 4704 255, frame_with_code_of_zeros 4704, refl))
+sound_of_one_frame = inr (
+  (meaning_is_not_refused _ _ _ mono_shape frame_of_ones_is_bytes (frame_with_code_of_zeros 4704), tt),
+  (replicate 4704 255, frame_with_code_of_zeros 4704, refl),
+)
 
 -- where the second frame's chunk has another id, the first frame is found by the index, and not by the walk
 abbrev broken : List ℕ
@@ -83,7 +86,13 @@ plain_file_is_checked = inr (tt, ([], tt, refl))
 -- both frames of it mean sounds, and no byte of them is unread
 plain_frame_is_plain : (f : Shape) (sound : List ℕ) → IsSound f sound → IsPlain f (0 ∷ sound) sound
 unfolding bits low_bits
-plain_frame_is_plain f sound s = record { coded = refl; stuffing = refl; long = omega (arith, s.long); is_sound = sym (take_all (sound_bytes f) sound (omega (arith, s.long))) }
+plain_frame_is_plain f sound s = record {
+  coded = refl;
+  stuffing = refl;
+  long = omega (arith, s.long);
+  is_sound =
+      sym (take_all (sound_bytes f) sound (omega (arith, s.long)));
+}
 
 plain_frame_has_no_tail : (f : Shape) (sound : List ℕ) → IsSound f sound → MeansWithTail f (0 ∷ sound) sound 0
 plain_frame_has_no_tail f sound s = (s, inl (plain_frame_is_plain f sound s, omega (arith, s.long)))
@@ -118,12 +127,16 @@ offending_frame_is_refused = inl (record {
 -- ---- the head of a frame
 pub head_of_a_plain_frame_is_shown : Outcome (words ("show" ∷ "a" ∷ "1" ∷ [])) two_coded (says 0 [] ("frame 1 plain length 4705" ∷ []))
 unfolding outcome_open
-head_of_a_plain_frame_is_shown = inr ((λ fault r. plain_is_not_refused _ _ mono_shape filled_up fault r.0, tt), (_, inl (85 ∷ replicate 4703 105, plain_frame_is_plain _ _ filled_up, refl), refl))
+head_of_a_plain_frame_is_shown = inr (
+  (λ fault r. plain_is_not_refused _ _ mono_shape filled_up fault r.0, tt),
+  (_, inl (85 ∷ replicate 4703 105, plain_frame_is_plain _ _ filled_up, refl), refl),
+)
 
 pub frame_past_the_last_is_not_shown : Outcome (words ("show" ∷ "a" ∷ "2" ∷ [])) two_coded (says 5 [] ("file refused: 22 Range 2 2" ∷ []))
 unfolding outcome_open
 frame_past_the_last_is_not_shown = refl
 
-pub sound_by_the_index : Outcome (words ("frame" ∷ "a" ∷ "b" ∷ "1" ∷ "--by-index" ∷ [])) two_coded (says 0 (85 ∷ replicate 4703 105) ("frame 1, 4704 bytes" ∷ []))
+pub sound_by_the_index : Outcome (words ("frame" ∷ "a" ∷ "b" ∷ "1" ∷ "--by-index" ∷ [])) two_coded
+    (says 0 (85 ∷ replicate 4703 105) ("frame 1, 4704 bytes" ∷ []))
 unfolding outcome_open
 sound_by_the_index = inr ((plain_is_not_refused _ _ mono_shape filled_up, tt), (85 ∷ replicate 4703 105, plain_form_means _ _ filled_up, refl))

@@ -1,5 +1,6 @@
 -- How large the plain file may be that a coded one is decoded to.
-use Rattle.std.proofs.Common.{◌≡◌, ℕ, ◌+◌, ◌-◌, ◌*◌, ◌%◌, ◌^◌, ◌<◌, ◌≤◌, ◌==◌, Bool, true, false, if◌then◌else◌, List, [], ◌∷◌, ◌++◌, length, take, drop, get_or, map, flat_map, filter, refl, sym, ap, ◌∙◌, arith, length-append, length-drop, None, ltb-false}
+use Rattle.std.proofs.Common.{◌≡◌, ℕ, ◌+◌, ◌-◌, ◌*◌, ◌%◌, ◌^◌, ◌<◌, ◌≤◌, ◌==◌, Bool, true, false, if◌then◌else◌, List, [], ◌∷◌, ◌++◌, length, take, drop}
+use Rattle.std.proofs.Common.{get_or, map, flat_map, filter, refl, sym, ap, ◌∙◌, arith, length-append, length-drop, None, ltb-false}
 use Rattle.std.specs.Prelude.{not, ◌&&◌, ◌||◌, min, codes}
 use Rattle.std.specs.List.{concat, AllByRecursion}
 use Rattle.std.proofs.lemmas.List.{length-take, drop-drop}
@@ -52,11 +53,13 @@ length-joined n (w ∷ ws) h =
     let whole = length-append w (concat ws) in
     omega arith
 
-pub length-passed : (n : ℕ) (goes : Head → Bool) (bytes : Head → List ℕ) (heads : List Head) → ((h : Head) → length (bytes h) ≤ n) → length (passed goes bytes heads) ≤ length heads * n
+pub length-passed : (n : ℕ) (goes : Head → Bool) (bytes : Head → List ℕ) (heads : List Head) → ((h : Head) → length (bytes h) ≤ n) →
+    length (passed goes bytes heads) ≤ length heads * n
 length-passed n goes bytes [] each = omega arith
 length-passed n goes bytes (h ∷ hs) each = go (goes h) (length-passed n goes bytes hs each)
   where
-    go : (b : Bool) → length (passed goes bytes hs) ≤ length hs * n → length (concat (map bytes (if b then h ∷ filter goes hs else filter goes hs))) ≤ length (h ∷ hs) * n
+    go : (b : Bool) → length (passed goes bytes hs) ≤ length hs * n →
+        length (concat (map bytes (if b then h ∷ filter goes hs else filter goes hs))) ≤ length (h ∷ hs) * n
     go true later =
         let here = each h in
         let whole = length-append (bytes h) (passed goes bytes hs) in
@@ -76,7 +79,8 @@ form_ends : (file : List ℕ) → form_fault file ≡ None → form_end file ≤
 unfolding form_fault
 form_ends file p =
     let opening = first_gives_none (opening_fault file) _ p in
-    let size = when_not FormTooLarge (form_size file above 2 ^ 50) (first_gives_none (FormTooLarge when form_size file above 2 ^ 50) _ (later_gives_none _ _ opening)) in
+    let size = when_not FormTooLarge (form_size file above 2 ^ 50)
+    (first_gives_none (FormTooLarge when form_size file above 2 ^ 50) _ (later_gives_none _ _ opening)) in
     let most = ltb-false (2 ^ 50) (form_size file) size in
     omega arith
 
@@ -102,17 +106,20 @@ cmpr_in_body body =
     (record { sound = number_at body 1 8; pad = get_or body 9 0; cmpr = between body 14 end; kept = drop end body })
     (length body) one (length-between_all body 14 end)
 
-body_is_short : (one two : Bool) (body : List ℕ) → not (one || two) ≡ false → (one && bad_version_1 body) ≡ false → (two && bad_version_2 body) ≡ false → length body ≤ 131086
+body_is_short : (one two : Bool) (body : List ℕ) → not (one || two) ≡ false → (one && bad_version_1 body) ≡ false → (two && bad_version_2 body) ≡ false →
+    length body ≤ 131086
 body_is_short true two body neither first second =
     let long = ltb-false 65545 (length body) (right_is_false _ _ first) in
     omega arith
-body_is_short false true body neither first second = ltb-false 131086 (length body) (right_is_false _ _ (left_is_false _ _ (left_is_false _ _ (left_is_false _ _ second))))
+body_is_short false true body neither first second =
+    ltb-false 131086 (length body) (right_is_false _ _ (left_is_false _ _ (left_is_false _ _ (left_is_false _ _ second))))
 body_is_short false false body neither first second = absurd cc
 
 cmpr_is_short : (channels bytes frame_count : ℕ) (body : List ℕ) → is_bad_origin channels bytes frame_count body ≡ false → length (origin_of body).cmpr ≤ 131086
 cmpr_is_short channels bytes frame_count body h =
     let three = left_is_false _ _ (left_is_false _ _ (left_is_false _ _ (left_is_false _ _ (left_is_false _ _ h)))) in
-    let short = body_is_short (origin_version body == 1) (origin_version body == 2) body (left_is_false _ _ (left_is_false _ _ three)) (right_is_false _ _ (left_is_false _ _ three)) (right_is_false _ _ three) in
+    let short = body_is_short (origin_version body == 1) (origin_version body == 2) body (left_is_false _ _ (left_is_false _ _ three))
+    (right_is_false _ _ (left_is_false _ _ three)) (right_is_false _ _ three) in
     let inside = cmpr_in_body body in
     omega arith
 
@@ -152,7 +159,8 @@ length-prop_with w cmpr p c =
     pad_is_short true = omega arith
     pad_is_short false = omega arith
 
-passed_is_short : (file : List ℕ) (form : Form) → form.end ≤ 2 ^ 50 + 12 → length form.prop ≤ 65536 → length (plain_cmpr form.origin) ≤ 131086 → (h : Head) → length (passed_chunk file form h) ≤ 2 ^ 51
+passed_is_short : (file : List ℕ) (form : Form) → form.end ≤ 2 ^ 50 + 12 → length form.prop ≤ 65536 → length (plain_cmpr form.origin) ≤ 131086 → (h : Head) →
+    length (passed_chunk file form h) ≤ 2 ^ 51
 passed_is_short file form e p c h = either (h.id is "PROP")
   where
     either : (b : Bool) → length (if b then prop_with form.prop (plain_cmpr form.origin) else whole_chunk file form h) ≤ 2 ^ 51
@@ -170,7 +178,8 @@ decoded_size_fits file none =
     let before = length-passed (2 ^ 51) (goes_before form) (passed_chunk file form) form.chunks each in
     let behind = length-passed (2 ^ 51) (goes_behind form) (passed_chunk file form) form.chunks each in
     let sound = longest_sound file form d in
-    sum (size_of_sound form) (length (passed (goes_before form) (passed_chunk file form) form.chunks)) (length (passed (goes_behind form) (passed_chunk file form) form.chunks)) (length form.chunks) count before behind sound
+    sum (size_of_sound form) (length (passed (goes_before form) (passed_chunk file form) form.chunks))
+    (length (passed (goes_behind form) (passed_chunk file form) form.chunks)) (length form.chunks) count before behind sound
   where
     sum : (n a b c : ℕ) → c ≤ 1024 → a ≤ c * 2 ^ 51 → b ≤ c * 2 ^ 51 → n ≤ 112896000000 → 4 + a + (12 + n + n % 2) + b < 2 ^ 63
     sum n a b c h p q r = omega arith

@@ -9,7 +9,8 @@ use Rattle.dsdiff_spec.specs.Coded.{filled, pieces}
 
 pub length-pieces : (n : ℕ) (sound : List ℕ) → length (pieces n sound) ≡ frames_for n (length sound)
 unfolding pieces
-length-pieces n sound = length-map (range_with_len 0 (frames_for n (length sound))) (λ k. filled n (bytes_at sound (k * n) n)) ∙ length-range_with_len 0 (frames_for n (length sound))
+length-pieces n sound = length-map (range_with_len 0 (frames_for n (length sound))) (λ k. filled n (bytes_at sound (k * n) n))
+    ∙ length-range_with_len 0 (frames_for n (length sound))
 
 pub piece_at : (n : ℕ) (sound : List ℕ) (k : ℕ) → k < frames_for n (length sound) → get_or (pieces n sound) k [] ≡ filled n (bytes_at sound (k * n) n)
 unfolding pieces

@@ -58,7 +58,8 @@ pub record Goes (c : Command) (f : Shape) (frames : List (List ℕ)) : Type 0 wh
 
 pub verdict : (c : Command) (f : Shape) (frames : List (List ℕ)) → AreAnswered c f frames → Stops c f frames ⊎ Goes c f frames
 verdict c f [] a = inr (record { none = tt; sounds = []; each = tt })
-verdict c f (x ∷ xs) (inl r, more) = inl (record { k = 0; fault = r.fault; stops = record { within = omega arith; first = tt; refuses = r.refuses }; sounds = []; each = tt })
+verdict c f (x ∷ xs) (inl r, more) = inl
+    (record { k = 0; fault = r.fault; stops = record { within = omega arith; first = tt; refuses = r.refuses }; sounds = []; each = tt })
 verdict c f (x ∷ xs) (inr u, more) = elim (verdict c f xs more) [
   | inl s ↦ inl (record {
     k = suc s.k;
@@ -78,7 +79,8 @@ one_of_taken P (suc k) (x ∷ xs) zero d h l m = h.0
 one_of_taken P (suc k) (x ∷ xs) (suc i) d h l m = one_of_taken P k xs i d h.1 (omega arith) (omega arith)
 
 -- frames that aren't refused mean one list of sounds
-pub one_list : (c : Command) (f : Shape) (frames a b : List (List ℕ)) → AreAnswered c f frames → NoneOf c f frames → AllZip (Means f) frames a → AllZip (Means f) frames b → a ≡ b
+pub one_list : (c : Command) (f : Shape) (frames a b : List (List ℕ)) → AreAnswered c f frames → NoneOf c f frames → AllZip (Means f) frames a →
+    AllZip (Means f) frames b → a ≡ b
 one_list c f [] [] [] k none p q = refl
 one_list c f [] [] (y ∷ ys) k none p q = absurd q
 one_list c f [] (x ∷ xs) b k none p q = absurd p
@@ -101,7 +103,8 @@ fewer_sounds c f (g ∷ gs) (x ∷ xs) (y ∷ ys) (suc k) (inr u, rest) none p q
     (later.0, ap₂ {A = List ℕ} (λ s ss. s ∷ ss) (u.only y q.0 ∙ sym (u.only x p.0)) later.1)
 
 -- and one frame is the first that is refused, with one fault
-pub stop_is_not_earlier : (c : Command) (f : Shape) (frames : List (List ℕ)) (i k : ℕ) (fault : FrameFault) → NoneOf c f (take k frames) → i < k → i < length frames → Refuses c f (get_or frames i []) fault → ⊥
+pub stop_is_not_earlier : (c : Command) (f : Shape) (frames : List (List ℕ)) (i k : ℕ) (fault : FrameFault) → NoneOf c f (take k frames) → i < k →
+    i < length frames → Refuses c f (get_or frames i []) fault → ⊥
 stop_is_not_earlier c f frames i k fault none l m r = one_of_taken (NotRefused c f) k frames i [] none l m fault r
 
 pub one_stop : (c : Command) (f : Shape) (frames : List (List ℕ)) (i k : ℕ) (a b : FrameFault) → StopsAt c f frames i a → StopsAt c f frames k b → i ≡ k
