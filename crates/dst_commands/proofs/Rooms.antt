@@ -14,7 +14,8 @@ pub record HasRoom (longest : Shape → ℕ) (size frame sound : ℕ) (f g : Sha
 same_shape : (f g : Shape) → f.channels < 8 → g.channels < 8 → shape_number f ≡ shape_number g → f ≡ g
 same_shape f g p q e = ap₂ {A = ℕ} {B = ℕ} {C = Shape} (λ c o. record { channels = c; octets = o }) (omega (arith, p, q, e)) (omega (arith, p, q, e))
 
-pub room_for : (longest : Shape → ℕ) (size frame sound : ℕ) (f g : Shape) → g.channels < 8 → room_number longest size frame sound f ≡ shape_number g → HasRoom longest size frame sound f g
+pub room_for : (longest : Shape → ℕ) (size frame sound : ℕ) (f g : Shape) → g.channels < 8 → room_number longest size frame sound f ≡ shape_number g →
+    HasRoom longest size frame sound f g
 room_for longest size frame sound f g small e = go (has_room longest size frame sound f) refl e
   where
     go : (b : Bool) → has_room longest size frame sound f ≡ b → (if b then shape_number f else 0) ≡ shape_number g → HasRoom longest size frame sound f g

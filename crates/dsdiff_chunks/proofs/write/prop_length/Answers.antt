@@ -26,7 +26,8 @@ returns-clause-length c =
     let head = codes "PROP" ++ big_bytes 8 size in
     let front = take place prop in
     let back = take (length prop - end) (drop end prop) in
-    let whole = pieces_are prop cmpr place end head c.requires.prop c.requires.cmpr c.place_of_cmpr-place.ensures.place c.place_of_cmpr-place.ensures.end refl in
+    let whole = pieces_are prop cmpr place end head c.requires.prop c.requires.cmpr c.place_of_cmpr-place.ensures.place c.place_of_cmpr-place.ensures.end
+    refl in
     omega (
       arith,
       ap length whole,

@@ -21,7 +21,8 @@ invariant_of-self c =
     record {
       within = c.in_ok-view.ensures.inside;
       whole =
-          whole_after c.self.inside.bytes.now c.self.inside.place c.in_ok-view.next c.self.invariant.whole c.in_ok-view.ensures.next c.in_ok-view.ensures.inside;
+          whole_after c.self.inside.bytes.now c.self.inside.place c.in_ok-view.next c.self.invariant.whole c.in_ok-view.ensures.next
+          c.in_ok-view.ensures.inside;
     }
 
 pub returns-clause-steps : goal.returns-clause-steps
