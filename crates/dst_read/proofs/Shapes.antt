@@ -1,5 +1,6 @@
 -- What the numbers of jobs and of their feed say, where they are the same.
-use Rattle.std.proofs.Common.{◌≡◌, ℕ, zero, suc, ◌+◌, ◌*◌, ◌^◌, ◌<◌, ◌≤◌, Bool, true, false, List, [], ◌∷◌, length, get_or, Option, Some, None, refl, sym, ap, ◌∙◌, arith}
+use Rattle.std.proofs.Common.{◌≡◌, ℕ, zero, suc, ◌+◌, ◌*◌, ◌^◌, ◌<◌, ◌≤◌, Bool, true, false, List, [], ◌∷◌, length, get_or, Option, Some, None, refl, sym, ap}
+use Rattle.std.proofs.Common.{◌∙◌, arith}
 use Rattle.std.specs.Prelude.{◌&&◌, not, if◌then◌else◌}
 use Rattle.std.specs.List.{list_all}
 use Rattle.std.proofs.lemmas.Bool.{and_parts, and_from, le-ltb, lt-ltb, ltb-true, ltb-false, not-true}
@@ -32,17 +33,23 @@ pub record CanFill (known : Option ℕ) (index : List Entry) (size frame sound :
   pub fits : (k : ℕ) (d : Entry) → k < length index → (get_or index k d).offset + (get_or index k d).size < 2 ^ 64
   pub short : (k : ℕ) (d : Entry) → k < length index → (get_or index k d).size ≤ frame
 
-lies : (bytes : ℕ) (g : Shape) (e : Entry) → lies_in bytes g e ≡ true → (e.offset + e.size ≤ bytes) × (e.offset + e.size < 2 ^ 64) × (e.size ≤ 2 * (sound_bytes g + 1))
+lies : (bytes : ℕ) (g : Shape) (e : Entry) → lies_in bytes g e ≡ true →
+    (e.offset + e.size ≤ bytes) × (e.offset + e.size < 2 ^ 64) × (e.size ≤ 2 * (sound_bytes g + 1))
 lies bytes g e h =
     let q = and_parts (not (e.offset + e.size above bytes) && e.offset + e.size below 2 ^ 64) (not (e.size above 2 * (sound_bytes g + 1))) h in
-    let p = and_parts (not (e.offset + e.size above bytes)) (e.offset + e.size below 2 ^ 64) q.0 in
-    (ltb-false bytes (e.offset + e.size) (not-true _ p.0), ltb-true (e.offset + e.size) (2 ^ 64) p.1, ltb-false (2 * (sound_bytes g + 1)) e.size (not-true _ q.1))
+    let p = and_parts (not (e.offset + e.size above bytes)) (e.offset + e.size below 2 ^ 64) q.0 in (
+      ltb-false bytes (e.offset + e.size) (not-true _ p.0),
+      ltb-true (e.offset + e.size) (2 ^ 64) p.1,
+      ltb-false (2 * (sound_bytes g + 1)) e.size (not-true _ q.1),
+    )
 
-pub can_fill : (known : Option ℕ) (index : List Entry) (size frame sound : ℕ) (f g : Shape) → room_number longest size frame sound f ≡ feed_shape known index g → CanFill known index size frame sound f g
+pub can_fill : (known : Option ℕ) (index : List Entry) (size frame sound : ℕ) (f g : Shape) →
+    room_number longest size frame sound f ≡ feed_shape known index g → CanFill known index size frame sound f g
 can_fill None index size frame sound f g e = absurd (never_one longest size frame sound f e)
 can_fill (Some bytes) index size frame sound f g e = go (g.channels below 8 && list_all (lies_in bytes g) index) refl e
   where
-    go : (b : Bool) → (g.channels below 8 && list_all (lies_in bytes g) index) ≡ b → room_number longest size frame sound f ≡ (if b then shape_number g else 1) → CanFill (Some bytes) index size frame sound f g
+    go : (b : Bool) → (g.channels below 8 && list_all (lies_in bytes g) index) ≡ b →
+        room_number longest size frame sound f ≡ (if b then shape_number g else 1) → CanFill (Some bytes) index size frame sound f g
     go false h n = absurd (never_one longest size frame sound f n)
     go true h n =
         let p = and_parts _ _ h in
@@ -61,8 +68,10 @@ can_fill (Some bytes) index size frame sound f g e = go (g.channels below 8 && l
           short = λ k d l. let least = (lies bytes g (get_or index k d) (all_at (lies_in bytes g) index k d p.1 l)).2 in omega (arith, long, least);
         }
 
-pub readable : (bytes : ℕ) (index : List Entry) (f : Shape) (d : Entry) → f.channels < 8 → ((k : ℕ) → k < length index → (get_or index k d).offset + (get_or index k d).size ≤ bytes) →
-    ((k : ℕ) → k < length index → (get_or index k d).offset + (get_or index k d).size < 2 ^ 64) → ((k : ℕ) → k < length index → (get_or index k d).size ≤ 2 * (sound_bytes f + 1)) →
+pub readable : (bytes : ℕ) (index : List Entry) (f : Shape) (d : Entry) → f.channels < 8 →
+    ((k : ℕ) → k < length index → (get_or index k d).offset + (get_or index k d).size ≤ bytes) →
+    ((k : ℕ) → k < length index → (get_or index k d).offset + (get_or index k d).size < 2 ^ 64) →
+    ((k : ℕ) → k < length index → (get_or index k d).size ≤ 2 * (sound_bytes f + 1)) →
     feed_shape (Some bytes) index f ≡ shape_number f
 readable bytes index f d few inside fits short =
     let all : list_all (lies_in bytes f) index ≡ true = all_from (lies_in bytes f) index d (λ k l.
@@ -78,11 +87,13 @@ feeds_some (Some bytes) index g e = go (g.channels below 8 && list_all (lies_in 
     go true n = omega (arith, n)
     go false n = omega (arith, n)
 
-pub refilled : (known : Option ℕ) (index : List Entry) (size frame sound new long : ℕ) (f g : Shape) → room_number longest size frame sound f ≡ feed_shape known index g →
+pub refilled : (known : Option ℕ) (index : List Entry) (size frame sound new long : ℕ) (f g : Shape) →
+    room_number longest size frame sound f ≡ feed_shape known index g →
     long ≡ frame → new ≤ frame → room_number longest new long sound f ≡ room_number longest size frame sound f
 refilled known index size frame sound new long f g e same short = go (has_room longest size frame sound f) refl e
   where
-    go : (b : Bool) → has_room longest size frame sound f ≡ b → (if b then shape_number f else 0) ≡ feed_shape known index g → room_number longest new long sound f ≡ (if has_room longest size frame sound f then shape_number f else 0)
+    go : (b : Bool) → has_room longest size frame sound f ≡ b → (if b then shape_number f else 0) ≡ feed_shape known index g →
+        room_number longest new long sound f ≡ (if has_room longest size frame sound f then shape_number f else 0)
     go false h n = absurd (feeds_some known index g n)
     go true h n =
         let r = and_parts _ _ h in
