@@ -1,7 +1,7 @@
 -- How encoding ends: short of its sizes, while they are written, or whole.
-use Rattle.std.proofs.Common.{◌≡◌, ◌⊎◌, inl, inr, ℕ, ◌+◌, ◌-◌, ◌≤◌, List, [], ◌++◌, length, map, take, drop, flat_map, Option, Some, None, Result, Ok, Err}
+use Rattle.std.proofs.Common.{◌≡◌, ◌⊎◌, inl, inr, ℕ, ◌+◌, ◌-◌, ◌≤◌, List, [], ◌++◌, length, map, take, drop, flat_map, Option, Some, None, Result, Err}
 use Rattle.std.proofs.Common.{refl, sym, ap, subst, ◌∙◌, arith, length-drop}
-use Rattle.std.specs.Prelude.{MatchResult, IsOk}
+use Rattle.std.specs.Prelude.{IsOk}
 use Rattle.std.specs.List.{range_with_len}
 use Rattle.std.proofs.lemmas.List.{length-map, length-take}
 use Rattle.std.proofs.lemmas.List.FromFn.{length-range_with_len}
@@ -9,11 +9,11 @@ use Rattle.byteorder.specs.Endian.{big_bytes}
 use Rattle.byteorder.specs.Numbers.{length-bytes_high_first}
 use Rattle.dst_streams.specs.Told.{and_then, written_over, IsOpenIn, IsSameOutside}
 use Rattle.dsdiff_spec.specs.Chunks.{body_place, body_of}
-use Rattle.dsdiff_spec.specs.Form.{Form, plain, frames_for, sound_bytes_of}
+use Rattle.dsdiff_spec.specs.Form.{Form, frames_for, sound_bytes_of}
 use Rattle.dsdiff_spec.specs.Written.{dstf}
 use Rattle.dsdiff_spec.specs.Coded.{Picks, coded_with, pieces, stored_frames}
 use Rattle.dsdiff_chunks.specs.Lawful.{IsPlainForm}
-use Rattle.dst_commands.specs.Writing.{Adds, Stops, Lacks}
+use Rattle.dst_commands.specs.Writing.{Adds, Stops}
 use Rattle.dst_commands.proofs.Writing.{adds_same, adds_then}
 use Rattle.dst_write.specs.Encoding.{IsStopped}
 use Rattle.dst_write.specs.Layout.{end, form_size, front, sound_size, unsized}

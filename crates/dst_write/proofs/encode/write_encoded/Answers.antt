@@ -1,5 +1,5 @@
 -- In front of the frames, the frames, behind them, the sizes.
-use Rattle.std.proofs.Common.{◌≡◌, ℕ, ◌+◌, ◌≤◌, List, ◌++◌, length, map, flat_map, Result, Ok, Err, refl, sym, ap, subst, ◌∙◌, arith}
+use Rattle.std.proofs.Common.{◌≡◌, ℕ, ◌+◌, ◌≤◌, List, ◌++◌, length, map, flat_map, Result, Ok, Err, refl, sym, ap, ◌∙◌, arith}
 use Rattle.std.specs.Prelude.{sum}
 use Rattle.std.proofs.lemmas.List.{take_at}
 use Rattle.dst_streams.specs.declared.source.Failed.{Failed}
@@ -7,10 +7,9 @@ use Rattle.dsdiff_spec.specs.Coded.{stored_frames}
 use Rattle.dsdiff_spec.specs.Written.{dstf}
 use Rattle.dsdiff_chunks.specs.Forms.{plain_seen}
 use Rattle.dsdiff_chunks.specs.declared.copy.CopyFault.{CopyFault}
-use Rattle.dst_commands.proofs.Writing.{adds_same, adds_then, stops_for, stops_first, stops_same, stops_then}
+use Rattle.dst_commands.proofs.Writing.{adds_then, stops_for, stops_first, stops_same, stops_then}
 use Rattle.dst_write.specs.Encoding.{of_device}
 use Rattle.dst_write.specs.Layout.{end, form_size, front, sound_size}
-use Rattle.dst_write.specs.declared.faults.EncodeFault.{EncodeFault}
 use Rattle.dst_write.specs.declared.faults.EncodeFault.TheVariants.{Write}
 use Rattle.dst_write.proofs.Pieces.{some_file}
 use Rattle.dst_write.proofs.Sized.{length-front}
