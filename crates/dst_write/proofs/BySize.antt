@@ -1,7 +1,7 @@
 -- Frames by their sizes: the bytes of their chunks, and their entries in `DSTI`.
 use Rattle.std.proofs.Common.{◌≡◌, ℕ, ◌+◌, ◌*◌, ◌/◌, ◌%◌, ◌<◌, ◌==◌, Bool, true, false, if◌then◌else◌, List, [], ◌∷◌, ◌++◌, length, map, take, get_or}
 use Rattle.std.proofs.Common.{flat_map, refl, sym, ap, ◌∙◌, arith, length-append, append-nil, append_assoc, drop}
-use Rattle.std.specs.Prelude.{codes, sum_by}
+use Rattle.std.specs.Prelude.{codes}
 use Rattle.std.proofs.lemmas.Bool.{eqb-false}
 use Rattle.std.proofs.Common.{eqb-true}
 use Rattle.std.proofs.lemmas.List.{take_more, take-append-drop}

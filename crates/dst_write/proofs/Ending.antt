@@ -1,7 +1,7 @@
 -- How encoding ends: short of its sizes, while they are written, or whole.
-use Rattle.std.proofs.Common.{◌≡◌, ◌⊎◌, inl, inr, ℕ, ◌+◌, ◌-◌, ◌≤◌, List, [], ◌++◌, length, map, take, drop, Option, Some, None, Result, Ok, Err}
+use Rattle.std.proofs.Common.{◌≡◌, ◌⊎◌, inl, inr, ℕ, ◌+◌, ◌-◌, ◌≤◌, List, [], ◌++◌, length, map, take, drop, flat_map, Option, Some, None, Result, Err}
 use Rattle.std.proofs.Common.{refl, sym, ap, subst, ◌∙◌, arith, length-drop}
-use Rattle.std.specs.Prelude.{MatchResult, IsOk}
+use Rattle.std.specs.Prelude.{IsOk}
 use Rattle.std.specs.List.{range_with_len}
 use Rattle.std.proofs.lemmas.List.{length-map, length-take}
 use Rattle.std.proofs.lemmas.List.FromFn.{length-range_with_len}
@@ -9,12 +9,14 @@ use Rattle.byteorder.specs.Endian.{big_bytes}
 use Rattle.byteorder.specs.Numbers.{length-bytes_high_first}
 use Rattle.dst_streams.specs.Told.{and_then, written_over, IsOpenIn, IsSameOutside}
 use Rattle.dsdiff_spec.specs.Chunks.{body_place, body_of}
-use Rattle.dsdiff_spec.specs.Form.{Form, plain, frames_for, sound_bytes_of}
+use Rattle.dsdiff_spec.specs.Form.{Form, frames_for, sound_bytes_of}
+use Rattle.dsdiff_spec.specs.Written.{dstf}
 use Rattle.dsdiff_spec.specs.Coded.{Picks, coded_with, pieces, stored_frames}
 use Rattle.dsdiff_chunks.specs.Lawful.{IsPlainForm}
-use Rattle.dst_commands.specs.Writing.{Adds, Stops, Lacks}
+use Rattle.dst_commands.specs.Writing.{Adds, Stops}
+use Rattle.dst_commands.proofs.Writing.{adds_same, adds_then}
 use Rattle.dst_write.specs.Encoding.{IsStopped}
-use Rattle.dst_write.specs.Layout.{form_size, sound_size, unsized}
+use Rattle.dst_write.specs.Layout.{end, form_size, front, sound_size, unsized}
 use Rattle.dst_write.specs.Unfinished.{HoldsNothing, HoldsUnfinished, IsUnfinished, form_size_place, sound_size_place, sized, zero_at, SizesEnd}
 use Rattle.dst_write.proofs.Sized.{around, between_fields, behind_fields, coded_is, unsized_is, sound_place, sound_over, size_over, outside_sound}
 use Rattle.dst_write.proofs.Sized.{outside_size, outside_then, zeros}
@@ -125,6 +127,23 @@ module _ (frames : List (List ℕ)) (file : List ℕ) (form : Form) (count : len
         ∙ ap (λ w. Some (take (sound_place file form) w ++ sound_of frames ++ drop (sound_place file form + length (sound_of frames)) w))
         (unsized_is frames file form)
         ∙ ap Some (sound_over zeros zeros (sound_of frames) c file form refl refl long_sound)
+
+    -- ---- all but the sizes, piece by piece, where the frames have these sizes
+    pub all_added : (sizes : List ℕ) (old a b new : Option (List ℕ)) (room half less left : Option ℕ) → sizes ≡ map length frames →
+        Adds (front file form) old a room half → Adds (flat_map dstf frames) a b half less → Adds (end sizes file form) b new less left →
+        Adds (unsized frames file form) old new room left
+    all_added sizes old a b new room half less left is p q r =
+        adds_then (front file form ++ flat_map dstf frames) (end (map length frames) file form) old b new room less left
+        (adds_then (front file form) (flat_map dstf frames) old a b room half less p q)
+        (adds_same (end sizes file form) (end (map length frames) file form) b new less left (ap (λ (w : List ℕ). end w file form) is) r)
+
+    pub sizes_as : {T E : Type 0} (result : Result T E) (place sound size : ℕ) (mid new : Option (List ℕ)) →
+        place ≡ sound_place file form → sound ≡ sound_size (map length frames) → size ≡ form_size (map length frames) file form →
+        SizesEnd result place sound size mid new →
+        SizesEnd result (sound_place file form) (sound_size (map length frames)) (form_size (map length frames) file form) mid new
+    sizes_as result place sound size mid new p q r h =
+        subst (λ n. SizesEnd result (sound_place file form) (sound_size (map length frames)) n mid new) r
+        (subst (λ n. SizesEnd result (sound_place file form) n size mid new) q (subst (λ n. SizesEnd result n sound size mid new) p h))
 
     -- ---- it stops before all but the sizes is written
     pub stopped_short : (P : Type 0) (old new : Option (List ℕ)) (room : Option ℕ) → Stops P (unsized frames file form) old new room →

@@ -1,5 +1,5 @@
 -- What one call of a sink does, as a piece that is added or cut short.
-use Rattle.std.proofs.Common.{◌≡◌, ℕ, ◌+◌, ◌≤◌, List, ◌++◌, length, replicate, Option, Result, Ok, Err, refl, ap, ◌∙◌, arith}
+use Rattle.std.proofs.Common.{◌≡◌, ℕ, ◌+◌, ◌≤◌, List, ◌++◌, length, replicate, Option, Result, Ok, Err, arith}
 use Rattle.std.specs.Prelude.{MatchResult, OnOk}
 use Rattle.std.proofs.lemmas.List.{length-replicate}
 use Rattle.dst_streams.specs.Told.{and_then, IsCutShort, IsSure}

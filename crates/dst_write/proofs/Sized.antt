@@ -1,5 +1,5 @@
 -- The two size fields: what stands around them, with zeros in them and with the sizes.
-use Rattle.std.proofs.Common.{◌≡◌, ◌⊎◌, inl, inr, ℕ, ◌+◌, ◌*◌, ◌≤◌, List, [], ◌∷◌, ◌++◌, length, map, take, drop, flat_map, replicate, Option, Some, None}
+use Rattle.std.proofs.Common.{◌≡◌, inr, ℕ, ◌+◌, ◌*◌, ◌≤◌, List, [], ◌∷◌, ◌++◌, length, map, take, drop, flat_map, replicate, Option, Some, None}
 use Rattle.std.proofs.Common.{Result, Ok, Err}
 use Rattle.std.proofs.Common.{refl, sym, ap, subst, ◌∙◌, arith, length-append, append_assoc, append-nil, length-drop}
 use Rattle.std.specs.Prelude.{codes}
@@ -8,12 +8,12 @@ use Rattle.std.proofs.lemmas.List.{take_at, drop_at, length-take, take-append-dr
 use Rattle.std.proofs.lemmas.List.Folds.{concat-append}
 use Rattle.byteorder.specs.Endian.{big_bytes}
 use Rattle.byteorder.specs.Numbers.{length-bytes_high_first}
-use Rattle.dst_streams.specs.Told.{and_then, written_over, IsOpenIn, IsSameOutside, IsCutShort}
+use Rattle.dst_streams.specs.Told.{written_over, IsOpenIn, IsSameOutside}
 use Rattle.dsdiff_spec.specs.Form.{Form}
 use Rattle.dsdiff_spec.specs.Written.{frte, dstf, dsti, entries_from, behind_sound, copied_with, cmpr_coded}
 use Rattle.dsdiff_spec.specs.Coded.{coded_before, coded_with, dst, first_place, origin_of_plain}
 use Rattle.dst_write.specs.Layout.{before, behind, end, form_size, front, opening, sound_opening, sound_size, unsized}
-use Rattle.dst_write.specs.Unfinished.{HoldsNothing, HoldsUnfinished, IsUnfinished, form_size_place, sized, zero_at, SizesEnd}
+use Rattle.dst_write.specs.Unfinished.{form_size_place, SizesEnd}
 use Rattle.dst_write.proofs.BySize.{entries_are, even_chunk, frames_size_is, half_of_frames, length-dsti, length-frte}
 
 -- ---- a field between two parts

@@ -1,5 +1,5 @@
 -- The index, what is kept of the plain file, the chunks behind the sound.
-use Rattle.std.proofs.Common.{◌≡◌, ℕ, ◌+◌, ◌≤◌, ◌++◌, length, ap, arith}
+use Rattle.std.proofs.Common.{◌≡◌, ◌+◌, ◌≤◌, ◌++◌, length, ap, arith}
 use Rattle.dsdiff_spec.specs.Coded.{coded_before, first_place, origin_of_plain}
 use Rattle.dsdiff_spec.specs.Written.{dsti}
 use Rattle.dsdiff_chunks.specs.Forms.{plain_seen}

@@ -1,4 +1,4 @@
-use Rattle.std.proofs.Common.{◌++◌, length, length-append, arith}
+use Rattle.std.proofs.Common.{◌++◌}
 use Rattle.std.specs.Prelude.{codes}
 use Rattle.byteorder.specs.Endian.{big_bytes}
 use Rattle.dsdiff_spec.specs.Written.{frte}

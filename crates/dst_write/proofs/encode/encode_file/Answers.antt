@@ -1,5 +1,5 @@
 -- Each answer is one of opening, or one of writing.
-use Rattle.std.proofs.Common.{◌≡◌, inl, inr, ℕ, List, [], length, Option, Some, None, Result, Ok, Err, IfOk, refl, ap, sym, subst, ◌∙◌, arith}
+use Rattle.std.proofs.Common.{◌≡◌, inl, inr, ℕ, List, Option, Some, None, Result, Ok, Err, IfOk, refl, sym, subst, ◌∙◌}
 use Rattle.dsdiff_spec.specs.Form.{Form}
 use Rattle.dsdiff_spec.specs.Coded.{Picks, coded, stored_bytes}
 use Rattle.dsdiff_spec.specs.Refusal.{form_refusal, refusal}
@@ -11,11 +11,10 @@ use Rattle.dsdiff_chunks.specs.declared.open.OpenFault.{OpenFault}
 use Rattle.dsdiff_chunks.specs.Opening as opening
 use Rattle.dst_streams.specs.Told.{and_then}
 use Rattle.dst_write.specs.Encoding.{EncodingEnds}
-use Rattle.dst_write.specs.Unfinished.{HoldsNothing, HoldsUnfinished, sound_size_place}
+use Rattle.dst_write.specs.Unfinished.{HoldsNothing}
 use Rattle.dst_write.specs.declared.faults.EncodeFault.{EncodeFault}
 use Rattle.dst_write.specs.declared.faults.EncodeFault.TheVariants.{Source}
 use Rattle.dst_write.specs.declared.faults.Encoded.{Encoded}
-use Rattle.dst_write.proofs.Ending.{nothing_yet}
 use Rattle.dst_write.proofs.encode.encode_file.Goals as goal
 
 -- ---- of opening
