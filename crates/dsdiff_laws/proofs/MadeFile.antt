@@ -10,27 +10,33 @@ use Rattle.std.proofs.Math.Nat.{mul-mod_left}
 use Rattle.dsdiff_spec.proofs.CodedFiles.{form_by, longest_sound_of_frame, refused_by}
 use Rattle.byteorder.specs.Endian.{big_bytes}
 use Rattle.byteorder.specs.Numbers.{big_number-reads_back, length-bytes_high_first}
+use Rattle.dst_spec.specs.Bits.{AreBytes}
 use Rattle.dst_spec.specs.Sample.{Shape, IsShape, sound_bytes}
 use Rattle.dsdiff_spec.specs.Bytes.{number_at, ◌is◌, ◌above◌}
 use Rattle.dsdiff_spec.specs.Faults.{◌when◌, ◌otherwise◌}
 use Rattle.dsdiff_spec.specs.Chunks.{Chunk, IsChunk, bytes_of_chunk, Head, Found, body_place, body_of, named, the_first}
-use Rattle.dsdiff_spec.specs.Form.{Form, Kind, plain, coded, shape_of, frames_for, size_of_sound, is_coded}
+use Rattle.dsdiff_spec.specs.Form.{Form, Kind, plain, coded, shape_of, frames_for, size_of_sound, sound_bytes_of, is_coded}
 use Rattle.dsdiff_spec.specs.Made.{channel_id, fver, prop_of, plain_form}
 use Rattle.dsdiff_spec.specs.Parts.{form_size, form_end, top_level, all, prop_head, prop, sounds, sound_head, kind, compression, channel_count, multiple, frames_needed, sound_bytes_in, behind_form}
 use Rattle.dsdiff_spec.specs.Refusal.{refusal}
-use Rattle.dsdiff_spec.specs.Rules.{opening_fault, is_version, version_fault, local_fault, prop_fault, sound_fault, coded_chunks, plain_fault, kind_fault, form_fault, form_of_kind, accepted, is_rate}
+use Rattle.dsdiff_spec.specs.Rules.{opening_fault, is_version, version_fault, local_fault, prop_fault, sound_fault, plain_fault, kind_fault, form_fault, form_of_kind, accepted, is_rate}
+use Rattle.dsdiff_spec.specs.Rules as rules
+use Rattle.dsdiff_spec.specs.Coded.{Picks, stored_frames}
+use Rattle.dsdiff_spec.specs.Laws.{ArePicks, coded_file}
 use Rattle.dsdiff_spec.specs.Words.{encode}
 use Rattle.dsdiff_spec.specs.Written.{chunk, cmpr_plain, form_of}
 use Rattle.dsdiff_spec.specs.declared.faults.FileFault.TheVariants.{NotPlain, Version}
 use Rattle.dsdiff_spec.proofs.Tiling.{heads_from, head_of}
 use Rattle.dsdiff_laws.proofs.Composed.{is_ending}
 use Rattle.dsdiff_laws.proofs.Standing.{Holds}
-use Rattle.dsdiff_laws.proofs.Filed.{IsFile, may_lack, body_bytes, found_is, opens, size_is, behind_is, written_is_file}
+use Rattle.dsdiff_laws.proofs.Filed.{IsFile, may_lack, body_bytes, found_is, length-file, opens, size_is, behind_is, written_is_file}
 use Rattle.dsdiff_laws.proofs.Props.{IsProp, HasFields, AreRead, fields_are_read, lawful_prop, chunk_of, length-prop}
 use Rattle.dsdiff_laws.proofs.Places.{Lacks, one_named, head_behind, stands_behind, byte_in_body}
 use Rattle.dsdiff_laws.proofs.FormParts.{prop_id, sound_id}
 use Rattle.dsdiff_laws.proofs.PlainParts.{added_id}
-use Rattle.dsdiff_laws.proofs.CodedFile.{is_whole, length_written, length-body, length-cons}
+use Rattle.dsdiff_laws.proofs.CodedChunks.{plain_pre, coded_chunks}
+use Rattle.dsdiff_laws.proofs.CodedFile.{AreShort, is_whole, length_written, length-body, length-cons, coded_most}
+use Rattle.dsdiff_laws.proofs.Acceptance.{encoded_is}
 
 -- ---- `PROP`
 length-ids : (c : ℕ) → 1 ≤ c → c ≤ 6 → length (flat_map channel_id (range_with_len 0 c)) ≡ 4 * c
@@ -278,8 +284,8 @@ module _ (c m frames : ℕ) (s : List ℕ) (f : IsMade c m) (few : frames ≤ 10
         ap₂ (λ (i j : ℕ). i % j) (size_read ∙ long ∙ regroup) count_read ∙ mul-mod_left (frames * (4704 * m)) c in
         let even : ((sound_head g).size % channel_count (prop g) == 0) ≡ true = eq-eqb _ 0 multiple_of_count in
         let frames_few : nat_lt 1000000 (frames_needed g) ≡ false = le-ltb 1000000 (frames_needed g) (omega (arith, frames_read, few)) in
-        let none : coded_chunks g ≡ [] = ap (filter (λ (h : Head). added_id h.id)) heads_are in
-        let added : (length (coded_chunks g) == 0) ≡ true = ap (λ hs. length hs == 0) none in
+        let none : rules.coded_chunks g ≡ [] = ap (filter (λ (h : Head). added_id h.id)) heads_are in
+        let added : (length (rules.coded_chunks g) == 0) ≡ true = ap (λ hs. length hs == 0) none in
         let three : nat_lt 1022 (length (top_level g).heads) ≡ false = ap (λ hs. nat_lt 1022 (length hs)) heads_are in
         let prop_size : (prop_head g).size ≡ length (made_prop_body c m) = ap (λ (hs : List Head). (the_first hs).size) prop_named in
         let prop_most : nat_lt 65520 (prop_head g).size ≡ false = le-ltb 65520 (prop_head g).size (omega (arith, prop_size, prop_long, f.most)) in
@@ -310,3 +316,24 @@ module _ (c m frames : ℕ) (s : List ℕ) (f : IsMade c m) (few : frames ≤ 10
 
     pub made_size : size_of_sound (accepted g) ≡ length s
     made_size = ap size_of_sound made_form ∙ size_read
+
+    -- what is coded of it has room beside it
+    pub made_room : (picks : Picks) → AreBytes g → ArePicks picks → length (coded_file picks g) ≤ length g + 26 * frames + 200
+    made_room picks bytes lawful =
+        let e = encoded_is g picks (bytes, made_is_accepted 1) lawful in
+        let p = e.p in
+        let stored = stored_frames picks g (accepted g) in
+        let b = sound_bytes (shape_of c m) in
+        let same : sound_bytes_of (accepted g) ≡ b =
+        ap sound_bytes_of made_form ∙ ap₂ (λ (i j : ℕ). sound_bytes (shape_of i j)) count_read multiple_read in
+        let short = subst (λ n. AreShort (1 + n) stored) same e.stored.short in
+        let most = coded_most g p (accepted g) stored e.frames (1 + b) (omega (arith, longest_sound_of_frame (shape_of c m) is_shape)) short in
+        let count : length stored ≡ frames = e.count ∙ made_frames in
+        let sound : length p.parts.sound.body ≡ length s = sym (ap (λ (h : Head). h.size) p.parts.sound_head_is) ∙ size_read in
+        let prop_same : length p.parts.prop.body ≡ 66 + 4 * c = ap length (sym p.parts.prop_is ∙ prop_read) ∙ prop_long in
+        let nothing : length (accepted g).behind ≡ 0 = ap (λ (x : Form). length x.behind) made_form ∙ ap length (behind_is g (made_chunks c m s) [] is_file) in
+        let rest : length (behind_form g) ≡ 0 = ap length (behind_is g (made_chunks c m s) [] is_file) in
+        let all = length-file g (plain_pre p ++ p.parts.sound ∷ p.parts.last) (behind_form g) p.parts.formed in
+        let new = length-file (coded_file picks g) (coded_chunks p (accepted g) stored) [] e.made in
+        let per : length stored * (1 + b + 25) ≡ frames * b + 26 * frames = ap (λ n. n * (1 + b + 25)) count ∙ omega arith in
+        omega (arith, most, per, sound, prop_same, nothing, rest, all, new, long, f.most)
