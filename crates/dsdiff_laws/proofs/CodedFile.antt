@@ -215,6 +215,45 @@ module _ (file : List ℕ) (p : PlainParts file) (form : Form) (frames : List (L
           behind_size,
         )
 
+    -- how much longer than the plain form they are, where no frame has more than so many bytes
+    pub coded_most : (n : ℕ) → n < 2 ^ 40 → AreShort n frames →
+        length (body_bytes (coded_chunks p form frames)) + length p.parts.sound.body
+        ≤ length (body_bytes (plain_pre p ++ p.parts.sound ∷ p.parts.last)) + length frames * (n + 25) + 90 + length p.parts.prop.body + length form.behind
+    coded_most n small short =
+        let long : length (dst_body frames) ≤ 18 + length frames * (n + 13) =
+        omega (
+          arith,
+          length-append (frte (length frames)) (flat_map dstf frames),
+          length-frte (length frames),
+          length_of_frames n frames (omega (arith, small)) short,
+        ) in
+        omega (
+          arith,
+          long,
+          length-body (plain_pre p) (p.parts.sound ∷ p.parts.last),
+          length-cons p.parts.sound p.parts.last,
+          length-parts p.parts.sound,
+          ap length p.is_dsd,
+          length-body (p.parts.version ∷ p.parts.front) (p.parts.prop ∷ p.parts.middle),
+          length-cons p.parts.prop p.parts.middle,
+          length-parts p.parts.prop,
+          ap length p.parts.is_prop,
+          length-body (coded_pre p) (dst_chunk frames ∷ dsti_chunk (entries_of p frames) ∷ origin_of_parts p form ∷ p.parts.last),
+          length-body (p.parts.version ∷ p.parts.front) (coded_prop p ∷ p.parts.middle),
+          length-cons (coded_prop p) p.parts.middle,
+          length_of_chunk (coded_prop p) prop_whole,
+          prop_size p,
+          length-cons (dst_chunk frames) (dsti_chunk (entries_of p frames) ∷ origin_of_parts p form ∷ p.parts.last),
+          length-cons (dsti_chunk (entries_of p frames)) (origin_of_parts p form ∷ p.parts.last),
+          length-cons (origin_of_parts p form) p.parts.last,
+          length_written "DST " (dst_body frames) 0 refl (omega (arith, dst_size, f.count)),
+          length_written "DSTI" (flat_map entry_bytes (entries_of p frames)) 0 refl (omega (arith, index_size, f.count)),
+          index_size,
+          length_written "KEPT" (origin_of_parts p form).body 0 refl (omega (arith, origin_size, cmpr_size p, p.prop_most, behind_size)),
+          origin_size,
+          cmpr_size p,
+        )
+
     pub coded_few : length (coded_chunks p form frames) ≤ 1024
     coded_few =
         omega (

@@ -56,7 +56,7 @@ length-file file cs rest h =
       length-opening cs,
     )
 
-size_is : (file : List ℕ) (cs : List Chunk) (rest : List ℕ) → IsFile file cs rest → form_size file ≡ 4 + length (body_bytes cs)
+pub size_is : (file : List ℕ) (cs : List Chunk) (rest : List ℕ) → IsFile file cs rest → form_size file ≡ 4 + length (body_bytes cs)
 size_is file cs rest h =
     let n = 4 + length (body_bytes cs) in
     let w = codes "DSD " ++ (body_bytes cs ++ rest) in

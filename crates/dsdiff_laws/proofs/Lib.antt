@@ -33,3 +33,4 @@ pub mod Acceptance
 pub mod Joined
 pub mod Restoring
 pub mod Headline
+pub mod MadeFile
