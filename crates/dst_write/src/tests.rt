@@ -1,4 +1,5 @@
 // The calls over files that are known byte for byte.
+mod crew;
 mod files;
 
 ghost use Rattle.std.specs.Prelude.{[]};
