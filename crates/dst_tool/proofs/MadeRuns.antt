@@ -1,5 +1,6 @@
 -- What is made of a shape of frames, as the laws of files see it.
-use Rattle.std.proofs.Common.{◌≡◌, inl, inr, ℕ, ◌+◌, ◌*◌, ◌/◌, ◌%◌, ◌≤◌, List, [], length, None, refl, sym, ap, ap₂, subst, ◌∙◌, arith}
+use Rattle.std.proofs.Common.{◌≡◌, inl, inr, ℕ, ◌+◌, ◌*◌, ◌/◌, ◌%◌, ◌≤◌, List, [], length, Option, Some, None, refl, sym, ap, ap₂, subst, ◌∙◌, arith}
+use Rattle.dst_streams.specs.Told.{and_then}
 use Rattle.dst_spec.specs.Bits.{AreBytes}
 use Rattle.dst_spec.specs.Sample.{Shape, IsShape, sound_bytes}
 use Rattle.level_spec.specs.Picks.{level_picks}
@@ -17,6 +18,12 @@ use Rattle.dsdiff_laws.proofs.Headline.{headline, level_picks_law}
 use Rattle.dsdiff_laws.proofs.MadeFile.{IsMade, made_chunks, is_file, made_long, made_is_accepted, made_frames, made_size, made_room}
 use Rattle.dst_write.specs.Making.{multiple_of, made_file}
 use Rattle.dst_write.proofs.MadeSounds.{length-made_sound, octets_of}
+
+-- what a sink that held nothing holds
+pub held : (old new : Option (List ℕ)) (piece xs : List ℕ) → old ≡ Some [] → new ≡ and_then old piece → new ≡ Some xs → xs ≡ piece
+held old new piece xs nothing added is_xs =
+    let same : Some xs ≡ Some piece = sym is_xs ∙ added ∙ ap (λ o. and_then o piece) nothing in
+    cc
 
 module _ (start frames : ℕ) (f : Shape) (few : frames ≤ 1000) (shape : IsShape f)
   where

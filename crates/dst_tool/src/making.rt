@@ -1,6 +1,7 @@
 // Made sound, coded and decoded in memory.
 ghost use Rattle.std.specs.Prelude.{◌≡◌, ◌≤◌, ◌*◌, ℕ, List, [], ◌∷◌, length, Some, None, IfOk};
-ghost use Rattle.dst_spec.specs.Sample.{sound_bytes};
+ghost use Rattle.dst_spec.specs.Bits.{AreBytes};
+ghost use Rattle.dst_spec.specs.Sample.{IsShape, sound_bytes};
 ghost use Rattle.dst_streams.specs.Told.{and_then};
 ghost use Rattle.dsdiff_spec.specs.Form.{size_of_sound};
 ghost use Rattle.dsdiff_spec.specs.Laws.{IsTheOutcome};
@@ -52,6 +53,7 @@ pub fn make_run<R: Threads + Sync, G: Gate>(
     let mut plain = MemorySink::new(alloc, size, &[])?;
     make_whole(alloc, &mut plain, start, frames, channels)?;
     let made = plain.written();
+    known_as_bytes(made);
     let mut stored = MemorySink::new(alloc, size + 26 * frames as usize + 200, &[])?;
     let encoded = code_whole(rt, alloc, made, &mut stored, gate)?;
     let mut restored = MemorySink::new(alloc, size, &[])?;
@@ -59,9 +61,17 @@ pub fn make_run<R: Threads + Sync, G: Gate>(
     Ok((encoded, decoded))
 }
 
+// That what is lent is bytes: its clause is what the laws of files ask for.
+fn known_as_bytes(bytes: &[u8])
+    ensures { AreBytes bytes.now }
+{
+    let _ = bytes;
+}
+
 // Bytes of a file of made sound.
 fn file_size(frames: u32, channels: Channels) -> usize
     requires most { frames ≤ 100 }
+    ensures shape { IsShape channels }
     ensures size { (start : ℕ) → length (made_file start frames channels) ≡ result }
     ensures most { result ≤ 11289800 }
 {
