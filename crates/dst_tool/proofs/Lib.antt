@@ -4,3 +4,4 @@ pub mod OwnLines
 pub mod Runs
 pub mod Inverting
 pub mod Coding
+pub mod MadeRuns

@@ -19,6 +19,7 @@
 
 mod answers;
 mod command;
+mod making;
 mod run;
 
 pub use dst_read::{
@@ -27,6 +28,7 @@ pub use dst_read::{
 };
 pub use dst_words::{Command, Task, read_words};
 pub use dst_write::{EncodeFault, Encoded, encode_file};
+pub use making::make_run;
 pub use run::dst_run;
 
 #[cfg(test)]

@@ -121,7 +121,7 @@ length-prop_of m (suc (suc (suc (suc (suc zero))))) least most = refl
 length-prop_of m (suc (suc (suc (suc (suc (suc zero)))))) least most = refl
 length-prop_of m (suc (suc (suc (suc (suc (suc (suc c))))))) least most = absurd (omega (arith, most))
 
-octets_of : (f : Shape) → IsShape f → 4704 * multiple_of f ≡ f.octets
+pub octets_of : (f : Shape) → IsShape f → 4704 * multiple_of f ≡ f.octets
 octets_of f s = elim s.rate [ inl e ↦ omega (arith, e) | inr (inl e) ↦ omega (arith, e) | inr (inr e) ↦ omega (arith, e) ]
 
 -- from the pieces to the chunks
