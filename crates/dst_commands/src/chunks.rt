@@ -1,5 +1,5 @@
 // The chunks that are passed on from one form to another.
-ghost use Rattle.std.specs.Prelude.{◌≡◌, ◌+◌, ◌<◌, ◌≤◌, ◌^◌, ℕ, List, length, map, Contains, Option, Some, true, IfErr, OnOk, MatchResult};
+ghost use Rattle.std.specs.Prelude.{◌≡◌, ◌+◌, ◌<◌, ◌≤◌, ◌^◌, ℕ, List, length, map, filter, Contains, Option, Some, true, IfErr, OnOk, MatchResult};
 ghost use Rattle.std.specs.Option.{option_copied};
 ghost use Rattle.dsdiff_spec.specs.Chunks.{body_end};
 ghost use Rattle.dsdiff_spec.specs.Decoded as decoding;
@@ -11,7 +11,9 @@ ghost use Rattle.dst_commands.specs.Passing as passing;
 ghost use Rattle.dst_commands.specs.Passing.{form_of, bytes_of, all_of, goes, ref_seen, whole_end, FailedBy, IsCmprIfAny};
 ghost use Rattle.dst_commands.specs.Writing.{Adds, Stops};
 
-use dsdiff_chunks::{ChunkHead, CodedForm, CopyFault, PlainForm, copy_range, prop_length, write_prop};
+use dsdiff_chunks::{
+    ChunkHead, CodedForm, CopyFault, PlainForm, copy_range, prop_length, write_prop,
+};
 use dst_streams::{Sink, Source};
 
 /// The side of the sound on which chunks stand.
@@ -124,7 +126,11 @@ fn passes(passed: &Passed<'_>, side: Side, head: &ChunkHead) -> bool
 fn cmpr_for<'a>(passed: &Passed<'a>, head: &ChunkHead) -> Option<&'a [u8]>
     ensures { option_copied result ≡ passing.cmpr_for (passing.cmpr_of passed.now) (head_seen head.now) }
 {
-    if head.id == *b"PROP" { passed.cmpr } else { None }
+    if head.id == *b"PROP" {
+        passed.cmpr
+    } else {
+        None
+    }
 }
 
 // The place behind a chunk: behind its pad byte, which the last one may lack.
@@ -146,6 +152,21 @@ fn chunk_length(passed: &Passed<'_>, head: &ChunkHead) -> u64
         Some(cmpr) => prop_length(passed.form.prop(), cmpr),
         None => end_of(passed, head) - head.place,
     }
+}
+
+/// How many chunks are passed on, on one side of the sound.
+pub fn chunks_count(passed: &Passed<'_>, side: Side) -> u32
+    ensures count { result ≡ length (filter (goes side (form_of passed.now)) (form_of passed.now).chunks) }
+    ensures most { result ≤ 1024 }
+{
+    let mut count = 0;
+    for head in passed.form.heads() {
+        if !passes(passed, side, head) {
+            continue;
+        }
+        count += 1;
+    }
+    count
 }
 
 /// Bytes of the chunks that are passed on, on one side of the sound.
