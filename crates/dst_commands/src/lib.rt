@@ -18,7 +18,7 @@ mod pieces;
 mod rules;
 mod sizes;
 
-pub use around::{write_end, write_front, write_opening};
+pub use around::{write_end, write_front, write_opening, write_pad};
 pub use chunks::{FormRef, Passed, Side, chunks_count, chunks_length, pass_chunks};
 pub use opened::{AnyForm, FoundFrame, WalkedForm};
 pub use opening::{Rules, open_file};

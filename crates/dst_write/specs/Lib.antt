@@ -5,3 +5,5 @@ pub mod Jobs
 pub mod Feeding
 pub mod Draining
 pub mod Frames
+pub mod CutLayout
+pub mod Cutting

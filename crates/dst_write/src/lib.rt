@@ -14,6 +14,10 @@
 
 mod around;
 mod chunks;
+mod cut;
+mod cut_form;
+mod cut_parts;
+mod cut_rules;
 mod drain;
 mod encode;
 mod faults;
@@ -23,5 +27,6 @@ mod jobs;
 mod sizes;
 mod work;
 
+pub use cut::{Cut, CutFault, cut_file};
 pub use encode::encode_file;
 pub use faults::{EncodeFault, Encoded};
