@@ -8,3 +8,7 @@ pub mod Pieces
 pub mod BySize
 pub mod Sized
 pub mod Ending
+mod CutPlaces
+mod CutWhole
+mod CutOutcome
+mod CutCopied

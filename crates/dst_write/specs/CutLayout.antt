@@ -48,6 +48,10 @@ abbrev pub kept_by : Form → ℕ → ℕ → Option Origin → List ℕ
 kept_by form first last None = []
 kept_by form first last (Some origin) = origin_chunk (size_left form first last origin) (pad_left form last origin) origin.cmpr []
 
+abbrev pub kept_count : Option Origin → ℕ
+kept_count None = 0
+kept_count (Some origin) = 1
+
 abbrev pub kept : Form → ℕ → ℕ → List ℕ
 kept form first last = kept_by form first last form.origin
 

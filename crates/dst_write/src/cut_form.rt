@@ -140,8 +140,18 @@ impl CutForm {
         };
         let before = chunks_count(&passed, Side::Before);
         let behind = chunks_count(&passed, Side::Behind);
-        let kept = if self.form.origin.is_some() { 1 } else { 0 };
-        before + 2 + kept + behind
+        before + 2 + self.kept_count() + behind
+    }
+
+    // How many chunks `KEPT` there are.
+    fn kept_count(&self) -> u32
+        ensures count { result ≡ layout.kept_count (coded_seen self.now.form).origin }
+        ensures most { result ≤ 1 }
+    {
+        match &self.form.origin {
+            Some(_) => 1,
+            None => 0,
+        }
     }
 
     /// The fault of a form that would have too many chunks, or be too large.
