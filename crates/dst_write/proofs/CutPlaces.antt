@@ -69,7 +69,7 @@ length-left form es first last place order l =
     length-map (take (count first last) (drop first es)) (moved (begins es first) place)
     ∙ omega (arith, length-take (count first last) (drop first es), length-drop first es, order, l)
 
-abbrev none : Entry
+abbrev pub none : Entry
 none = record { offset = 0; size = 0 }
 
 pub nth_left : (es : List Entry) (first last place k : ℕ) → first ≤ last → last < length es → k < count first last →
