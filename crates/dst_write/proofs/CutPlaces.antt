@@ -57,8 +57,7 @@ are_cut_out form es first last lawful h order there =
     go l f sound true e = (omega (arith, (h.inside first f).before), sound)
     go l f sound false e =
         let not_last = eqb-false form.frames (last + 1) e in
-        let next : last + 1 < length es = omega (arith, l, h.count, not_last) in
-        (
+        let next : last + 1 < length es = omega (arith, l, h.count, not_last) in (
           omega (arith, rises form es h (last + 1 - first) first (last + 1) (omega (arith, order)) next),
           omega (arith, (h.inside (last + 1) next).before, sound),
         )

@@ -12,3 +12,4 @@ mod CutPlaces
 mod CutWhole
 mod CutOutcome
 mod CutCopied
+mod CutRules

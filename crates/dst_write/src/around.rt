@@ -128,5 +128,11 @@ fn write_kept<K: Sink>(sink: &mut K, form: &PlainForm) -> Result<(), Failed>
         (λ _. Stops (Unit {0}) (origin_of_plain (plain_seen form.now)) (K.written sink.old) (K.written sink.new) (K.room sink.old)) }
 {
     let cmpr = cmpr_of_prop(form.prop.as_slice());
-    write_origin(sink, form.sound.size, form.pad, cmpr, form.behind.as_slice())
+    write_origin(
+        sink,
+        form.sound.size,
+        form.pad,
+        cmpr,
+        form.behind.as_slice(),
+    )
 }

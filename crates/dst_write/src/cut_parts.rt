@@ -180,7 +180,13 @@ fn write_kept<K: Sink>(sink: &mut K, cut: &CutForm) -> Result<(), Failed>
     match &cut.form.origin {
         Some(origin) => {
             let size = cut.size_left(origin);
-            write_origin(sink, size, cut.pad_left(origin), origin.cmpr.as_slice(), &[])
+            write_origin(
+                sink,
+                size,
+                cut.pad_left(origin),
+                origin.cmpr.as_slice(),
+                &[],
+            )
         }
         None => Ok(()),
     }

@@ -9,6 +9,6 @@ returns-clause-written g c =
     let form = c.args.form.now in
     let cmpr = c.cmpr_of_prop-cmpr.ensures.chunk ∙ ap cmpr_in c.as_slice.ensures in
     let is =
-        ap (λ (w : List ℕ). origin_chunk form.sound.size form.pad w c.as_slice-2.result.now) cmpr
-        ∙ ap (λ (w : List ℕ). origin_chunk form.sound.size form.pad (cmpr_in form.prop) w) c.as_slice-2.ensures in
+    ap (λ (w : List ℕ). origin_chunk form.sound.size form.pad w c.as_slice-2.result.now) cmpr
+    ∙ ap (λ (w : List ℕ). origin_chunk form.sound.size form.pad (cmpr_in form.prop) w) c.as_slice-2.ensures in
     call_same c.write_origin.result _ _ _ _ _ _ is (one_call c.write_origin.result _ _ _ _ _ c.write_origin.ensures.written c.write_origin.ensures.sure)

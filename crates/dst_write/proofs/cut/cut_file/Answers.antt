@@ -7,7 +7,7 @@ use Rattle.dsdiff_chunks.specs.Opening as opening
 use Rattle.dst_write.specs.Cutting.{CutEnds, cut_bytes}
 use Rattle.dst_write.specs.declared.cut.Cut.{Cut}
 use Rattle.dst_write.specs.declared.cut.CutFault.{CutFault}
-use Rattle.dst_write.specs.declared.cut.CutFault.TheVariants.{Source}
+use Rattle.dst_write.specs.declared.cut.CutFault.TheVariants.{Source, Write}
 use Rattle.dst_write.proofs.CutOutcome.{rules_of_cut, cut_outcome, cut_stopped, cut_lacks, cut_nothing}
 use Rattle.dst_write.proofs.cut.cut_file.Goals as goal
 
@@ -28,15 +28,28 @@ pub returns-in-Ok-write_cut-clause-cut : goal.returns-in-Ok-write_cut-clause-cut
 returns-in-Ok-write_cut-clause-cut g c file told =
     let cut = c.in-Ok.cut in
     let is = c.in-Ok.ensures.opened file told in
-    let none = rules_of_cut c.args.first c.args.last file ∙ c.in-Ok.ensures.accepted file told in
-    (
+    let none = rules_of_cut c.args.first c.args.last file ∙ c.in-Ok.ensures.accepted file told in (
       cut_bytes file cut,
       cut_outcome file c.args.first c.args.last cut c.count.result none is c.count.ensures.count,
       c.in-Ok-write_cut.ensures.written file (c.in-Ok.ensures.bytes ∙ told) is.entries_are,
     )
 
 pub returns-clause-cut_short : goal.returns-clause-cut_short
-returns-clause-cut_short g c = ?
+returns-clause-cut_short g c e file told =
+    let cut = c.in-Ok.cut in
+    let is = c.in-Ok.ensures.opened file told in
+    let none = rules_of_cut c.args.first c.args.last file ∙ c.in-Ok.ensures.accepted file told in
+    let ends = c.in-Err-write_cut.ensures.written file (c.in-Ok.ensures.bytes ∙ told) is.entries_are in
+    cut_stopped (c.in-Err-write_cut.fault ≡ Write) file c.args.first c.args.last cut (g.K.Sink.written c.args.sink.now) (g.K.Sink.written c.write_cut.new.sink) (g.K.Sink.room c.args.sink.now) none is ends
+
+-- the fault is that of the sink
+of_fault : (a b : CutFault) → ◌≡◌ {A = Result Cut CutFault} (Err a) (Err b) → a ≡ b
+of_fault a b e = cc
 
 pub returns-clause-sure : goal.returns-clause-sure
-returns-clause-sure g c = ?
+returns-clause-sure g c e file told =
+    let cut = c.in-Ok.cut in
+    let is = c.in-Ok.ensures.opened file told in
+    let none = rules_of_cut c.args.first c.args.last file ∙ c.in-Ok.ensures.accepted file told in
+    let ends = c.in-Err-write_cut.ensures.written file (c.in-Ok.ensures.bytes ∙ told) is.entries_are in
+    cut_lacks (c.in-Err-write_cut.fault ≡ Write) file c.args.first c.args.last cut (g.K.Sink.written c.args.sink.now) (g.K.Sink.written c.write_cut.new.sink) (g.K.Sink.room c.args.sink.now) none is (of_fault c.in-Err-write_cut.fault Write e) ends
