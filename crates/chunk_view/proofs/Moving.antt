@@ -1,5 +1,6 @@
 -- The chunks that are found wherever the bytes stand in a file.
-use Rattle.std.proofs.Common.{◌≡◌, ℕ, zero, suc, ◌+◌, ◌-◌, ◌*◌, ◌%◌, ◌<◌, ◌≤◌, List, length, take, drop, map, Option, Some, None, refl, sym, ap, ◌∙◌, arith, inl, inr, subst}
+use Rattle.std.proofs.Common.{◌≡◌, ℕ, zero, suc, ◌+◌, ◌-◌, ◌*◌, ◌%◌, ◌<◌, ◌≤◌, List, length, take, drop, map, Option, Some, None, refl, sym, ap, ◌∙◌, arith}
+use Rattle.std.proofs.Common.{inl, inr, subst}
 use Rattle.std.specs.List.{AllByRecursion}
 use Rattle.std.proofs.lemmas.List.{drop-drop, drop-take, take-take}
 use Rattle.std.proofs.lemmas.Bool.{cases_lt}
@@ -10,10 +11,10 @@ use Rattle.dsdiff_spec.specs.declared.faults.FileFault.TheVariants.{Overrun}
 use Rattle.dsdiff_spec.specs.Bytes.{bytes_at}
 use Rattle.dsdiff_spec.specs.Rules.{moved}
 use Rattle.dsdiff_spec.specs.Chunks.{Head, Found, head_at, body_of, next_place}
+use Rattle.dsdiff_spec.proofs.Sizes.{length-bytes_at}
 use Rattle.chunk_view.specs.Placed.{placed_at, placed_in, head_behind, heads_behind, StandsIn, AreFoundWherever, OverrunsWherever}
 use Rattle.chunk_view.proofs.Reading.{big_from-drop}
 use Rattle.chunk_view.proofs.Walking.{whole_from, all_from, with_head, stops, cuts, goes, three_ways, room, plenty}
-use Rattle.chunk_view.proofs.Tiling.{length_at}
 
 -- ---- the same bytes and numbers are read there
 abbrev IsIn : List ℕ → List ℕ → ℕ → Type 0
@@ -66,8 +67,9 @@ moved_head_is bytes file start place same le = by_size (head_at bytes place).siz
     by_size : (size : ℕ) → place + 12 + size + size % 2 ≤ length bytes → size ≡ (head_at bytes place).size →
         head_by (bytes_at bytes place 4) (start + place) (length (bytes_at bytes (place + 12) size)) ≡ head_at file (start + place)
     by_size size le e =
-        same_head (bytes_at bytes place 4) (bytes_at bytes place 4) (start + place) (length (bytes_at bytes (place + 12) size)) (big_from (place + 4) 8 bytes) refl
-        (length_at bytes (place + 12) size (omega (arith, le)) ∙ e)
+        same_head (bytes_at bytes place 4) (bytes_at bytes place 4) (start + place) (length (bytes_at bytes (place + 12) size))
+        (big_from (place + 4) 8 bytes) refl
+        (length-bytes_at bytes (place + 12) size (omega (arith, le)) ∙ e)
         ∙ head_in bytes file start place same (omega (arith, le))
 
 -- a chunk that passes the end passes it there too
@@ -110,13 +112,16 @@ found_in bytes file start same (suc a) (suc b) place p q =
             ∙ ap (moved_found bytes start) (sym (cuts bytes (length bytes) a place cut.0 cut.1))
         | inr le ↦
             let head = moved_head_is bytes file start place same le in
-            let size : (head_at file (start + place)).size ≡ (head_at bytes place).size = sym (ap (λ h. h.size) (head_in bytes file start place same (head_before (length bytes) place (head_at bytes place).size le))) in
-            let behind : next_place (head_at file (start + place)) ≡ start + next = ap (λ n. start + place + 12 + n + n % 2) size ∙ sym (next_in start place (head_at bytes place).size) in
+            let size : (head_at file (start + place)).size ≡ (head_at bytes place).size =
+            sym (ap (λ h. h.size) (head_in bytes file start place same (head_before (length bytes) place (head_at bytes place).size le))) in
+            let behind : next_place (head_at file (start + place)) ≡ start + next = ap (λ n. start + place + 12 + n + n % 2) size
+            ∙ sym (next_in start place (head_at bytes place).size) in
             goes file (start + length bytes) b (start + place) (fits_in start (length bytes) next (next_place (head_at file (start + place))) behind le)
             ∙ ap (λ h. with_head h (whole_from file (start + length bytes) b (next_place (head_at file (start + place))))) (sym head)
             ∙ ap (λ n. with_head (moved_head bytes start (head_at bytes place)) (whole_from file (start + length bytes) b n)) behind
             ∙ ap (with_head (moved_head bytes start (head_at bytes place)))
-            (found_in bytes file start same a b next (room (length bytes) place a (head_at bytes place).size p) (room (length bytes) place b (head_at bytes place).size q))
+            (found_in bytes file start same a b next (room (length bytes) place a (head_at bytes place).size p)
+            (room (length bytes) place b (head_at bytes place).size q))
             ∙ ap (moved_found bytes start) (sym (goes bytes (length bytes) a place le))
       ]
     ]
@@ -138,7 +143,7 @@ body_in bytes file start place same le = by_size (head_at bytes place).size le
     by_size : (size : ℕ) → place + 12 + size + size % 2 ≤ length bytes →
         bytes_at file (start + place + 12) (length (bytes_at bytes (place + 12) size)) ≡ bytes_at bytes (place + 12) size
     by_size size le =
-        ap (λ n. bytes_at file (start + place + 12) n) (length_at bytes (place + 12) size (omega (arith, le)))
+        ap (λ n. bytes_at file (start + place + 12) n) (length-bytes_at bytes (place + 12) size (omega (arith, le)))
         ∙ ap (λ n. bytes_at file n size) (sym (add_assoc_of start place 12))
         ∙ sym (bytes_in bytes file start (place + 12) size same (omega (arith, le)))
 

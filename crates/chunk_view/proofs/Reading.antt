@@ -34,7 +34,8 @@ size_here bytes place size e =
 -- the end cuts it
 pub is_cut_by_size : (bytes : List ℕ) (place size : ℕ) → length (from_place bytes place) - 12 < size → place ≤ length bytes →
     size ≡ (head_at bytes place).size → length bytes < next_place (head_at bytes place)
-is_cut_by_size bytes place size h le e = cut (length bytes) place (head_at bytes place).size (omega (arith, h, e, ap length (from_place_is bytes place), length-drop place bytes))
+is_cut_by_size bytes place size h le e =
+    cut (length bytes) place (head_at bytes place).size (omega (arith, h, e, ap length (from_place_is bytes place), length-drop place bytes))
   where
     cut : (n place size : ℕ) → n - place - 12 < size → n < place + 12 + size + size % 2
     cut n place size h = omega arith
@@ -42,7 +43,16 @@ is_cut_by_size bytes place size h le e = cut (length bytes) place (head_at bytes
 pub is_cut_by_pad : (bytes : List ℕ) (place size : ℕ) (behind : List ℕ) → behind ≡ drop size (from_place (from_place bytes place) 12) →
     length behind ≤ 0 → (size % 2 ≡ 0 → ⊥) → size ≡ (head_at bytes place).size → length bytes < next_place (head_at bytes place)
 is_cut_by_pad bytes place size behind b h odd e =
-    cut (length bytes) place (head_at bytes place).size (omega (arith, h, e, ap length b, ap (λ w. length (drop size w)) (from_place_twice bytes place 12), ap length (drop-drop size (place + 12) bytes), length-drop (place + 12 + size) bytes)) (λ even. odd (ap (λ n. n % 2) e ∙ even))
+    cut (length bytes) place (head_at bytes place).size
+    (omega (
+      arith,
+      h,
+      e,
+      ap length b,
+      ap (λ w. length (drop size w)) (from_place_twice bytes place 12),
+      ap length (drop-drop size (place + 12) bytes),
+      length-drop (place + 12 + size) bytes,
+    )) (λ even. odd (ap (λ n. n % 2) e ∙ even))
   where
     cut : (n place size : ℕ) → n ≤ place + 12 + size → (size % 2 ≡ 0 → ⊥) → n < place + 12 + size + size % 2
     cut n place size h odd = omega arith

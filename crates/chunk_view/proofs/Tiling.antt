@@ -1,8 +1,10 @@
 -- The chunks that are found tile the bytes.
-use Rattle.std.proofs.Common.{◌≡◌, ℕ, zero, suc, ◌+◌, ◌-◌, ◌*◌, ◌%◌, ◌^◌, ◌<◌, ◌≤◌, false, List, [], ◌∷◌, ◌++◌, length, take, drop, get_or, map, flat_map, Some, None, refl, sym, ap, ◌∙◌, arith, inl, inr, subst, lit<, Fits, w8, zero-add}
+use Rattle.std.proofs.Common.{◌≡◌, ℕ, zero, suc, ◌+◌, ◌-◌, ◌*◌, ◌%◌, ◌^◌, ◌<◌, ◌≤◌, false, List, [], ◌∷◌, ◌++◌, length, take, drop, get_or, map, flat_map, Some}
+use Rattle.std.proofs.Common.{None, refl, sym, ap, ◌∙◌, arith, inl, inr, subst, lit<, Fits, w8, zero-add}
 use Rattle.std.specs.List.{AllByRecursion}
 use Rattle.std.specs.Int.{w64, from_be_bytes}
-use Rattle.std.proofs.lemmas.List.{length-drop, drop-drop, drop_all, append-nil, take-append-drop, get_or-drop, get_or-take, get_or_past, length-take, length-take-le}
+use Rattle.std.proofs.lemmas.List.{length-drop, drop-drop, drop_all, append-nil, take-append-drop, get_or-drop, get_or-take, get_or_past, length-take}
+use Rattle.std.proofs.lemmas.List.{length-take-le}
 use Rattle.std.proofs.lemmas.Bool.{cases_lt}
 use Rattle.std.proofs.lemmas.Nat.{be_bytes_8}
 use Rattle.std.proofs.Math.Seq.{take-add}
@@ -12,6 +14,7 @@ use Rattle.dsdiff_spec.specs.declared.faults.FileFault.TheVariants.{Overrun}
 use Rattle.dsdiff_spec.specs.Bytes.{bytes_at}
 use Rattle.dsdiff_spec.specs.Chunks.{Chunk, bytes_of_chunk, IsChunk, Tiles, Head, Found, head_at, next_place}
 use Rattle.dsdiff_spec.proofs.Tiling.{chunks_are_found}
+use Rattle.dsdiff_spec.proofs.Sizes.{length-bytes_at}
 use Rattle.chunk_view.specs.Placed.{placed_at, placed_from, placed_in, chunks_of, AreChunksOf, IsCutAt}
 use Rattle.chunk_view.proofs.Reading.{big_from-drop}
 use Rattle.chunk_view.proofs.Walking.{whole_from, all_from, nothing, overrun, with_head, stops, cuts, goes, three_ways, room, plenty, same_found}
@@ -29,9 +32,6 @@ abbrev pub chunk_at : List ℕ → Head → Chunk
 chunk_at bytes h = (placed_at bytes h).chunk
 
 -- ---- one chunk
-pub length_at : (bytes : List ℕ) (place n : ℕ) → place + n ≤ length bytes → length (bytes_at bytes place n) ≡ n
-length_at bytes place n le = length-take-le n (drop place bytes) (omega (arith, length-drop place bytes))
-
 number_of_bytes : (w : List ℕ) → from_be_bytes w64 w ≡ big_from 0 8 w
 number_of_bytes w = omega arith
 
@@ -52,7 +52,7 @@ bytes_below bytes place n i each = elim (cases_lt i n) [
 size_bytes : (bytes : List ℕ) (place : ℕ) → EachIsByte bytes → place + 8 ≤ length bytes →
     big_bytes 8 (big_from place 8 bytes) ≡ bytes_at bytes place 8
 size_bytes bytes place each le =
-    be_bytes_8 (bytes_at bytes place 8) (big_from place 8 bytes) (length_at bytes place 8 le) (λ i. bytes_below bytes place 8 i each)
+    be_bytes_8 (bytes_at bytes place 8) (big_from place 8 bytes) (length-bytes_at bytes place 8 le) (λ i. bytes_below bytes place 8 i each)
     (number_is bytes place ∙ sym (number_of_bytes (bytes_at bytes place 8)))
 
 -- its bytes are its parts
@@ -72,13 +72,15 @@ same_four a a' b b' c c' d d' p q r s = rw (p, q, r, s) refl
 chunk_bytes_by : (bytes : List ℕ) (place size : ℕ) → EachIsByte bytes → place + 12 + size + size % 2 ≤ length bytes →
     size ≡ big_from (place + 4) 8 bytes →
     bytes_at bytes place (4 + 8 + size + size % 2)
-    ≡ bytes_at bytes place 4 ++ big_bytes 8 (length (bytes_at bytes (place + 12) size)) ++ bytes_at bytes (place + 12) size ++ bytes_at bytes (place + 12 + size) (size % 2)
+    ≡ bytes_at bytes place 4 ++ big_bytes 8 (length (bytes_at bytes (place + 12) size)) ++ bytes_at bytes (place + 12) size ++ bytes_at bytes
+    (place + 12 + size) (size % 2)
 chunk_bytes_by bytes place size each le e =
     split_four 4 8 size (size % 2) (drop place bytes)
     ∙ same_four (bytes_at bytes place 4) (bytes_at bytes place 4) (take 8 (drop 4 (drop place bytes))) (big_bytes 8 (length (bytes_at bytes (place + 12) size)))
     (take size (drop 12 (drop place bytes))) (bytes_at bytes (place + 12) size)
     (take (size % 2) (drop (12 + size) (drop place bytes))) (bytes_at bytes (place + 12 + size) (size % 2)) refl
-    (moved 4 place 8 bytes ∙ sym (size_bytes bytes (place + 4) each (omega (arith, le))) ∙ ap (big_bytes 8) (sym e ∙ sym (length_at bytes (place + 12) size (omega (arith, le)))))
+    (moved 4 place 8 bytes ∙ sym (size_bytes bytes (place + 4) each (omega (arith, le)))
+    ∙ ap (big_bytes 8) (sym e ∙ sym (length-bytes_at bytes (place + 12) size (omega (arith, le)))))
     (moved 12 place size bytes)
     (moved (12 + size) place (size % 2) bytes ∙ ap (λ n. bytes_at bytes n (size % 2)) (sum_is place size))
   where
@@ -96,23 +98,25 @@ pub chunk_length : (bytes : List ℕ) (place : ℕ) → EachIsByte bytes → nex
     place + length (bytes_of_chunk (chunk_at bytes (head_at bytes place))) ≡ next_place (head_at bytes place)
 chunk_length bytes place each le =
     let h = head_at bytes place in
-    ap (λ n. place + n) (sym (ap length (chunk_bytes bytes place each le)) ∙ length_at bytes place (4 + 8 + h.size + h.size % 2) (below place h.size (length bytes) le))
+    ap (λ n. place + n) (sym (ap length (chunk_bytes bytes place each le))
+    ∙ length-bytes_at bytes place (4 + 8 + h.size + h.size % 2) (below place h.size (length bytes) le))
     ∙ sum_12 place h.size
   where
     below : (place size n : ℕ) → place + 12 + size + size % 2 ≤ n → place + (4 + 8 + size + size % 2) ≤ n
     below place size n le = omega arith
 
-pub chunk_is : (bytes : List ℕ) (place : ℕ) → EachIsByte bytes → next_place (head_at bytes place) ≤ length bytes → IsChunk (chunk_at bytes (head_at bytes place))
+pub chunk_is : (bytes : List ℕ) (place : ℕ) → EachIsByte bytes → next_place (head_at bytes place) ≤ length bytes →
+    IsChunk (chunk_at bytes (head_at bytes place))
 chunk_is bytes place each le = by_size place (head_at bytes place).size le (big_from-lt (place + 4) 8 bytes each)
   where
     by_size : (place size : ℕ) → place + 12 + size + size % 2 ≤ length bytes → size < 256 ^ 8 →
         IsChunk record { id = bytes_at bytes place 4; body = bytes_at bytes (place + 12) size; pad = bytes_at bytes (place + 12 + size) (size % 2) }
     by_size place size le small =
-        let long = length_at bytes (place + 12) size (omega (arith, le)) in
+        let long = length-bytes_at bytes (place + 12) size (omega (arith, le)) in
         record {
-          id = length_at bytes place 4 (omega (arith, le));
+          id = length-bytes_at bytes place 4 (omega (arith, le));
           size = omega (arith, long, small);
-          pad = length_at bytes (place + 12 + size) (size % 2) le ∙ ap (λ n. n % 2) (sym long);
+          pad = length-bytes_at bytes (place + 12 + size) (size % 2) le ∙ ap (λ n. n % 2) (sym long);
         }
 
 -- ---- all chunks from a place on
@@ -244,7 +248,8 @@ overrun_is_cut bytes cut each e =
 -- what chunks tile doesn't overrun
 pub overrun_is_untiled : (bytes : List ℕ) (cut : ℕ) (chunks : List Chunk) → (all_from bytes 0).fault ≡ Some (Overrun cut) → Tiles bytes chunks → ⊥
 overrun_is_untiled bytes cut chunks e t =
-    let whole = chunks_are_found (λ id. false) bytes (length bytes) chunks [] [] (length chunks + length bytes) t.0 (omega arith) (t.1 ∙ sym (append-nil _)) (ap length t.1 ∙ sym (zero-add _)) in
+    let whole = chunks_are_found (λ id. false) bytes (length bytes) chunks [] [] (length chunks + length bytes) t.0 (omega arith) (t.1 ∙ sym (append-nil _))
+    (ap length t.1 ∙ sym (zero-add _)) in
     let same = same_found bytes (length bytes) (length bytes) (length chunks + length bytes) 0 (plenty (length bytes) 0) (omega arith) in
     let none : (all_from bytes 0).fault ≡ None = ap (λ f. f.fault) (same ∙ whole) in
     absurd cc

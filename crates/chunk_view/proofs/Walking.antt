@@ -1,5 +1,6 @@
 -- One step of finding chunks, each of which has its pad byte.
-use Rattle.std.proofs.Common.{◌≡◌, ◌⊎◌, ℕ, zero, suc, ◌+◌, ◌*◌, ◌%◌, ◌<◌, ◌≤◌, Bool, true, false, List, [], ◌∷◌, length, Some, None, refl, sym, ap, ◌∙◌, arith, inl, inr, subst}
+use Rattle.std.proofs.Common.{◌≡◌, ◌⊎◌, ℕ, zero, suc, ◌+◌, ◌*◌, ◌%◌, ◌<◌, ◌≤◌, Bool, true, false, List, [], ◌∷◌, length, Some, None, refl, sym, ap, ◌∙◌, arith}
+use Rattle.std.proofs.Common.{inl, inr, subst}
 use Rattle.std.specs.Prelude.{nat_lt, nat_le, if◌then◌else◌, ◌&&◌}
 use Rattle.std.proofs.lemmas.Bool.{le-ltb, lt-ltb, le-leb, lt-leb, cases_lt}
 use Rattle.dsdiff_spec.specs.declared.faults.FileFault.TheVariants.{Overrun, TooManyChunks}
@@ -26,11 +27,13 @@ at_head b fit place h later = elim b [ false ↦ nothing | true ↦ at_fit fit p
 
 opened : (file : List ℕ) (end most place : ℕ) →
     whole_from file end (suc most) place
-    ≡ at_head (nat_lt place end) (fits (λ id. false) end (head_at file place)) place (head_at file place) (whole_from file end most (next_place (head_at file place)))
+    ≡ at_head (nat_lt place end) (fits (λ id. false) end (head_at file place)) place (head_at file place)
+    (whole_from file end most (next_place (head_at file place)))
 unfolding chunks_from
 opened file end most place = refl
 
-no_room : (file : List ℕ) (end place : ℕ) → whole_from file end zero place ≡ record { heads = []; fault = if nat_lt place end then Some TooManyChunks else None }
+no_room : (file : List ℕ) (end place : ℕ) →
+    whole_from file end zero place ≡ record { heads = []; fault = if nat_lt place end then Some TooManyChunks else None }
 unfolding chunks_from
 no_room file end place = refl
 
@@ -40,7 +43,8 @@ stops file end zero place le =
     no_room file end place ∙ ap {A = Bool} {B = Found} (λ b. record { heads = []; fault = if b then Some TooManyChunks else None }) (le-ltb place end le)
 stops file end (suc most) place le =
     opened file end most place
-    ∙ ap (λ b. at_head b (fits (λ id. false) end (head_at file place)) place (head_at file place) (whole_from file end most (next_place (head_at file place)))) (le-ltb place end le)
+    ∙ ap (λ b. at_head b (fits (λ id. false) end (head_at file place)) place (head_at file place) (whole_from file end most (next_place (head_at file place))))
+    (le-ltb place end le)
 
 both_false : (a b : Bool) → b ≡ false → (a && b) ≡ false
 both_false true b e = e
@@ -63,14 +67,16 @@ inside file end most place fit lt e =
 pub cuts : (file : List ℕ) (end most place : ℕ) → place < end → end < next_place (head_at file place) →
     whole_from file end (suc most) place ≡ overrun place
 cuts file end most place lt past =
-    inside file end most place false lt (both_false (nat_le (place + 12) end) (nat_le (next_place (head_at file place)) end) (lt-leb (next_place (head_at file place)) end past))
+    inside file end most place false lt (both_false (nat_le (place + 12) end) (nat_le (next_place (head_at file place)) end)
+    (lt-leb (next_place (head_at file place)) end past))
 
 -- at a chunk
 pub goes : (file : List ℕ) (end most place : ℕ) → next_place (head_at file place) ≤ end →
     whole_from file end (suc most) place ≡ with_head (head_at file place) (whole_from file end most (next_place (head_at file place)))
 goes file end most place le =
     inside file end most place true (before end place (head_at file place).size le)
-    (both_true (nat_le (place + 12) end) (nat_le (next_place (head_at file place)) end) (le-leb (place + 12) end (head_before end place (head_at file place).size le)) (le-leb (next_place (head_at file place)) end le))
+    (both_true (nat_le (place + 12) end) (nat_le (next_place (head_at file place)) end)
+    (le-leb (place + 12) end (head_before end place (head_at file place).size le)) (le-leb (next_place (head_at file place)) end le))
   where
     before : (end place size : ℕ) → place + 12 + size + size % 2 ≤ end → place < end
     before end place size le = omega arith
@@ -104,7 +110,8 @@ same_found file end (suc a) (suc b) place p q =
         | inl cut ↦ cuts file end a place cut.0 cut.1 ∙ sym (cuts file end b place cut.0 cut.1)
         | inr le ↦
             goes file end a place le
-            ∙ ap (with_head (head_at file place)) (same_found file end a b next (room end place a (head_at file place).size p) (room end place b (head_at file place).size q))
+            ∙ ap (with_head (head_at file place)) (same_found file end a b next (room end place a (head_at file place).size p)
+            (room end place b (head_at file place).size q))
             ∙ sym (goes file end b place le)
       ]
     ]

@@ -3,18 +3,13 @@ use Rattle.std.proofs.Common.{◌≡◌, ℕ, ◌≤◌, List, length, Option, S
 use Rattle.std.specs.Prelude.{◌==◌, codes}
 use Rattle.std.proofs.lemmas.Bool.{eqb-true, ltb-false, not-false, or_parts}
 use Rattle.std.proofs.lemmas.Slice.Eq.{bytes_eq-Decides}
-use Rattle.dsdiff_spec.proofs.Lawful.{first_gives_none, later_gives_none, when_not}
+use Rattle.dsdiff_spec.proofs.Lawful.{first_gives_none, later_gives_none, when_not, moved_none}
 use Rattle.dsdiff_spec.specs.declared.faults.FileFault.{FileFault}
 use Rattle.dsdiff_spec.specs.declared.faults.FileFault.TheVariants.{Overrun}
 use Rattle.dsdiff_spec.specs.Bytes.{bytes_at, ◌is◌}
 use Rattle.dsdiff_spec.specs.Faults.{◌otherwise◌}
 use Rattle.dsdiff_spec.specs.Parts.{in_prop, local}
 use Rattle.dsdiff_spec.specs.Rules.{local_fault, moved, type_fault, rate_fault, channels_fault, compression_fault}
-
-pub moved_none : (start : ℕ) (fault : Option FileFault) → moved start fault ≡ None → fault ≡ None
-moved_none start None e = refl
-moved_none start (Some (Overrun place)) e = absurd cc
-moved_none start (Some fault) e = absurd cc
 
 pub record IsWhole (body : List ℕ) : Type 0 where
   pub short : 4 ≤ length body

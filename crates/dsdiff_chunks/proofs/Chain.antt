@@ -4,7 +4,8 @@ use Rattle.std.specs.Prelude.{nat_lt, filter}
 use Rattle.dsdiff_spec.specs.Chunks.{Head, named, the_first, body_place, body_of}
 use Rattle.dsdiff_spec.specs.Faults.{◌when◌, ◌otherwise◌}
 use Rattle.dsdiff_spec.specs.Parts.{top_level, prop_head, prop, sound_head, compression, kind}
-use Rattle.dsdiff_spec.specs.Rules.{opening_fault, version_fault, prop_fault, prop_chunk_fault, local_fault, sound_fault, kind_fault, form_fault, form, accepted}
+use Rattle.dsdiff_spec.specs.Rules.{opening_fault, version_fault, prop_fault, prop_chunk_fault, local_fault, sound_fault, kind_fault, form_fault, form}
+use Rattle.dsdiff_spec.specs.Rules.{accepted}
 use Rattle.std.proofs.lemmas.Bool.{le-ltb}
 use Rattle.dsdiff_spec.specs.declared.faults.FileFault.{FileFault}
 use Rattle.dsdiff_spec.specs.declared.faults.FileFault.TheVariants.{PropTooLong}
@@ -20,7 +21,8 @@ pub at_opening : (xs : List ℕ) (f : FileFault) → opening_fault xs ≡ Some f
 unfolding form_fault
 at_opening xs f e = ap (λ o. o otherwise version_fault xs otherwise prop_fault xs otherwise sound_fault xs otherwise kind_fault (kind xs) xs) e
 
-version_of : (xs : List ℕ) (heads : List Head) (o : Option FileFault) → (top_level xs).heads ≡ heads → first_fault xs (the_first heads) ≡ o → version_fault xs ≡ o
+version_of : (xs : List ℕ) (heads : List Head) (o : Option FileFault) → (top_level xs).heads ≡ heads → first_fault xs (the_first heads) ≡ o →
+    version_fault xs ≡ o
 version_of xs heads o top e = ap (λ hs. first_fault xs (the_first hs)) top ∙ e
 
 pub at_version : (xs : List ℕ) (heads : List Head) (f : FileFault) → opening_fault xs ≡ None → (top_level xs).heads ≡ heads →
@@ -36,14 +38,16 @@ past_version xs heads opened top e =
     ∙ ap (λ o. o otherwise prop_fault xs otherwise sound_fault xs otherwise kind_fault (kind xs) xs) (version_of xs heads None top e)
 
 -- the chunk `PROP`: none or several, one that is too long, or a body that is refused
-props_of : (xs : List ℕ) (heads : List Head) (o : Option FileFault) → (top_level xs).heads ≡ heads → props_fault (named "PROP" heads) ≡ o → prop_chunk_fault xs ≡ o
+props_of : (xs : List ℕ) (heads : List Head) (o : Option FileFault) → (top_level xs).heads ≡ heads → props_fault (named "PROP" heads) ≡ o →
+    prop_chunk_fault xs ≡ o
 props_of xs heads o top e = ap (λ hs. props_fault (named "PROP" hs)) top ∙ e
 
 pub at_props : (xs : List ℕ) (heads : List Head) (f : FileFault) → opening_fault xs ≡ None → (top_level xs).heads ≡ heads →
     first_fault xs (the_first heads) ≡ None → props_fault (named "PROP" heads) ≡ Some f → form_fault xs ≡ Some f
 at_props xs heads f opened top first e =
     past_version xs heads opened top first
-    ∙ ap (λ o. (o otherwise local_fault (body_place (prop_head xs)) (prop xs)) otherwise sound_fault xs otherwise kind_fault (kind xs) xs) (props_of xs heads (Some f) top e)
+    ∙ ap (λ o. (o otherwise local_fault (body_place (prop_head xs)) (prop xs)) otherwise sound_fault xs otherwise kind_fault (kind xs) xs)
+    (props_of xs heads (Some f) top e)
 
 pub the_prop : (xs : List ℕ) (heads : List Head) (h : Head) → (top_level xs).heads ≡ heads → named "PROP" heads ≡ h ∷ [] → prop_head xs ≡ h
 the_prop xs heads h top e = ap (λ hs. the_first (named "PROP" hs)) top ∙ ap the_first e
@@ -87,7 +91,8 @@ sound_of xs heads place type o top at is_type e =
     ∙ ap (λ t. sounds_fault (filter is_sound heads) place t) is_type
     ∙ e
 
-pub at_sound : (xs : List ℕ) (heads : List Head) (place : ℕ) (type : List ℕ) (f : FileFault) → form_fault xs ≡ (sound_fault xs otherwise kind_fault (kind xs) xs) →
+pub at_sound : (xs : List ℕ) (heads : List Head) (place : ℕ) (type : List ℕ) (f : FileFault) →
+    form_fault xs ≡ (sound_fault xs otherwise kind_fault (kind xs) xs) →
     (top_level xs).heads ≡ heads → (prop_head xs).place ≡ place → compression (prop xs) ≡ type →
     sounds_fault (filter is_sound heads) place type ≡ Some f → form_fault xs ≡ Some f
 at_sound xs heads place type f left top at is_type e =

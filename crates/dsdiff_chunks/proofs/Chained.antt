@@ -1,5 +1,6 @@
 -- Chunks one behind the other, and the bytes that they are where one of them is exchanged.
-use Rattle.std.proofs.Common.{◌≡◌, ℕ, zero, suc, ◌+◌, ◌-◌, ◌%◌, ◌≤◌, Bool, true, false, cond, List, [], ◌∷◌, ◌++◌, length, take, drop, flat_map, Some, None, refl, sym, ap, subst, inl, inr, ◌⊎◌, ◌∙◌, arith, append_assoc}
+use Rattle.std.proofs.Common.{◌≡◌, ℕ, zero, suc, ◌+◌, ◌-◌, ◌%◌, ◌≤◌, Bool, true, false, cond, List, [], ◌∷◌, ◌++◌, length, take, drop, flat_map, Some, None}
+use Rattle.std.proofs.Common.{refl, sym, ap, subst, inl, inr, ◌⊎◌, ◌∙◌, arith, append_assoc}
 use Rattle.std.specs.Prelude.{nat_lt, nat_le, if◌then◌else◌}
 use Rattle.std.proofs.lemmas.Bool.{and_parts, leb-true, ltb-false}
 use Rattle.std.proofs.lemmas.List.{drop_all, drop-drop, take-append-drop}
@@ -8,6 +9,7 @@ use Rattle.dsdiff_spec.specs.declared.faults.FileFault.TheVariants.{Overrun, Too
 use Rattle.dsdiff_spec.specs.Bytes.{between, ◌is◌}
 use Rattle.dsdiff_spec.specs.Chunks.{Head, Found, head_at, fits, next_place, chunks_from, named}
 use Rattle.dsdiff_spec.specs.Written.{part_of_prop}
+use Rattle.dsdiff_spec.proofs.Sizes.{between-joined}
 
 -- from a place on up to an end, each with its pad byte
 abbrev pub Chain : ℕ → ℕ → List Head → Type 0
@@ -29,11 +31,13 @@ at_head b fit place h later = elim b [ false ↦ record { heads = []; fault = No
 
 opened : (file : List ℕ) (end most place : ℕ) →
     chunks_from no_lack file end (suc most) place
-    ≡ at_head (nat_lt place end) (fits no_lack end (head_at file place)) place (head_at file place) (chunks_from no_lack file end most (next_place (head_at file place)))
+    ≡ at_head (nat_lt place end) (fits no_lack end (head_at file place)) place (head_at file place)
+    (chunks_from no_lack file end most (next_place (head_at file place)))
 unfolding chunks_from
 opened file end most place = refl
 
-no_room : (file : List ℕ) (end place : ℕ) → chunks_from no_lack file end zero place ≡ record { heads = []; fault = if nat_lt place end then Some TooManyChunks else None }
+no_room : (file : List ℕ) (end place : ℕ) →
+    chunks_from no_lack file end zero place ≡ record { heads = []; fault = if nat_lt place end then Some TooManyChunks else None }
 unfolding chunks_from
 no_room file end place = refl
 
@@ -55,7 +59,8 @@ at_one true true end place h later e f p rest le none =
 pub are_chained : (file : List ℕ) (end most place : ℕ) → IsChained end place (chunks_from no_lack file end most place)
 are_chained file end zero place = rw no_room (at_no_room (nat_lt place end) end place refl)
 are_chained file end (suc most) place =
-    rw opened (at_one (nat_lt place end) (fits no_lack end (head_at file place)) end place (head_at file place) (chunks_from no_lack file end most (next_place (head_at file place))) refl refl refl
+    rw opened (at_one (nat_lt place end) (fits no_lack end (head_at file place)) end place (head_at file place)
+    (chunks_from no_lack file end most (next_place (head_at file place))) refl refl refl
     (are_chained file end most (next_place (head_at file place))))
 
 pub is_even : (end place : ℕ) (hs : List Head) → Chain end place hs → place % 2 ≡ 0 → end % 2 ≡ 0
@@ -79,14 +84,6 @@ part_first prop from to le =
     let e : from + (to - from) ≡ to = omega arith in
     ap (λ w. between prop from to ++ w) (sym (drop-drop (to - from) from prop ∙ ap (λ n. drop n prop) e))
     ∙ take-append-drop (to - from) (drop from prop)
-
-pub part_before : (prop : List ℕ) (from mid to : ℕ) → from ≤ mid → mid ≤ to → between prop from mid ++ between prop mid to ≡ between prop from to
-part_before prop from mid to p q =
-    let e : from + (mid - from) ≡ mid = omega arith in
-    let n : mid - from + (to - mid) ≡ to - from = omega arith in
-    ap (λ w. between prop from mid ++ take (to - mid) w) (sym (drop-drop (mid - from) from prop ∙ ap (λ n. drop n prop) e))
-    ∙ sym (take-add (mid - from) (to - mid) (drop from prop))
-    ∙ ap (λ k. take k (drop from prop)) n
 
 no_name : (b : Bool) (h : Head) (rest : List Head) → cond b (h ∷ rest) rest ≡ [] → (b ≡ false) × (rest ≡ [])
 no_name true h rest e = absurd cc
@@ -135,7 +132,7 @@ exchanged_later prop cmpr place h c bytes p later =
       whole =
           ap (λ w. part_of_prop prop h ++ w) later.whole
           ∙ sym (append_assoc (part_of_prop prop h) (between prop (next_place h) c.place) (cmpr ++ drop (next_place c) prop))
-          ∙ ap (λ w. w ++ (cmpr ++ drop (next_place c) prop)) (part_before prop h.place (next_place h) c.place to from)
+          ∙ ap (λ w. w ++ (cmpr ++ drop (next_place c) prop)) (between-joined prop h.place (next_place h) c.place to from)
           ∙ ap (λ n. between prop n c.place ++ (cmpr ++ drop (next_place c) prop)) p;
     }
 

@@ -33,7 +33,8 @@ frte_in_part xs w sound le at =
     let size : number_at w 4 8 ≡ number_at xs (p + 4) 8 = ap (λ v. number_at v 4 8) at ∙ number_in_part xs p 18 4 8 (omega arith) in
     let rate : number_at w 16 2 ≡ number_at xs (p + 16) 2 = ap (λ v. number_at v 16 2) at ∙ number_in_part xs p 18 16 2 (omega arith) in
     by_parts (nat_lt sound.size 18) (bytes_at xs p 4) (number_at xs (p + 4) 8) (number_at xs (p + 16) 2) (number_at xs (p + 12) 4) (le-ltb sound.size 18 le)
-    ∙ sym (by_numbers (bytes_at w 0 4) (bytes_at xs p 4) (number_at w 4 8) (number_at xs (p + 4) 8) (number_at w 16 2) (number_at xs (p + 16) 2) (number_at w 12 4) (number_at xs (p + 12) 4) id size rate (told_in_part xs w p at))
+    ∙ sym (by_numbers (bytes_at w 0 4) (bytes_at xs p 4) (number_at w 4 8) (number_at xs (p + 4) 8) (number_at w 16 2) (number_at xs (p + 16) 2)
+    (number_at w 12 4) (number_at xs (p + 12) 4) id size rate (told_in_part xs w p at))
 
 -- a body of more bytes than either version has
 of_either : (a b x y : Bool) → x ≡ true → y ≡ true → (not (a || b) || (a && x) || (b && y)) ≡ true
@@ -53,7 +54,8 @@ too_long_is_bad channels frame_bytes told body lt =
     let outside_1 : bad_version_1 body ≡ true = or_right (nat_lt (length body) 25) (nat_lt 65545 (length body)) long_1 in
     let outside_2 : outside 30 131086 (length body) ≡ true = or_right (nat_lt (length body) 30) (nat_lt 131086 (length body)) long_2 in
     let bad_2 : bad_version_2 body ≡ true = rw outside_2 refl in
-    let bad : (not (origin_version body == 1 || origin_version body == 2) || (origin_version body == 1 && bad_version_1 body) || (origin_version body == 2 && bad_version_2 body)) ≡ true =
+    let bad : (not (origin_version body == 1 || origin_version body == 2) || (origin_version body == 1 && bad_version_1 body) ||
+    (origin_version body == 2 && bad_version_2 body)) ≡ true =
     of_either (origin_version body == 1) (origin_version body == 2) (bad_version_1 body) (bad_version_2 body) outside_1 bad_2 in
     rw bad refl
 

@@ -35,7 +35,8 @@ frte_is frames head number p q =
 abbrev fields_of : ℕ → ℕ → ℕ → List ℕ
 fields_of sound pad kept = 2 ∷ big_bytes 8 sound ++ pad ∷ big_bytes 4 kept
 
-pub origin_is : (sound pad : ℕ) (cmpr kept head fields : List ℕ) → head ≡ codes "KEPT" ++ big_bytes 8 (14 + length cmpr + length kept) → fields ≡ fields_of sound pad (length kept) →
+pub origin_is : (sound pad : ℕ) (cmpr kept head fields : List ℕ) → head ≡ codes "KEPT" ++ big_bytes 8 (14 + length cmpr + length kept) →
+    fields ≡ fields_of sound pad (length kept) →
     head ++ (fields ++ (cmpr ++ (kept ++ (pad_behind (14 + length cmpr + length kept) ++ [])))) ≡ origin_chunk sound pad cmpr kept
 origin_is sound pad cmpr kept head fields p q =
     let all = fields_of sound pad (length kept) in

@@ -9,9 +9,10 @@ use Rattle.dsdiff_spec.specs.Chunks.{Head, next_place, the_first}
 use Rattle.dsdiff_spec.specs.Origin.{is_one_chunk}
 use Rattle.dsdiff_spec.specs.Parts.{in_prop, local, cmpr_head}
 use Rattle.dsdiff_spec.specs.Written.{prop_with}
+use Rattle.dsdiff_spec.proofs.Sizes.{between-joined}
 use Rattle.dsdiff_chunks.specs.Lawful.{IsPropBody}
 use Rattle.dsdiff_chunks.proofs.Accepted.{is_whole}
-use Rattle.dsdiff_chunks.proofs.Chained.{are_chained, exchanged, is_even, IsExchanged, one_exchanged, part_before}
+use Rattle.dsdiff_chunks.proofs.Chained.{are_chained, exchanged, is_even, IsExchanged, one_exchanged}
 
 -- its `CMPR` chunk
 the_only : (hs : List Head) → length hs ≡ 1 → hs ≡ the_first hs ∷ []
@@ -58,7 +59,7 @@ body_is prop cmpr h =
     ap (λ w. codes "SND " ++ w) x.whole
     ∙ sym (append_assoc (codes "SND ") (between prop 4 c.place) rest)
     ∙ ap (λ w. w ++ between prop 4 c.place ++ rest) (sym (is_whole 0 prop h.rules).type)
-    ∙ ap (λ w. w ++ rest) (part_before prop 0 4 c.place four x.from)
+    ∙ ap (λ w. w ++ rest) (between-joined prop 0 4 c.place four x.from)
     ∙ ap (λ n. take n prop ++ rest) all
 
 length_is : (prop cmpr : List ℕ) → IsPropBody prop → length (body_with prop cmpr) ≡ size_with prop cmpr
@@ -101,5 +102,6 @@ pieces_are prop cmpr place end head h one p q e =
     ap (λ w. w ++ (take place prop ++ (cmpr ++ (take (length prop - end) (drop end prop) ++ [])))) e
     ∙ ap (λ w. (codes "PROP" ++ big_bytes 8 (length prop - (end - place) + length cmpr)) ++ (take place prop ++ (cmpr ++ w))) (append-nil _ ∙ whole)
     ∙ ap (λ n. (codes "PROP" ++ big_bytes 8 (length prop - (end - n) + length cmpr)) ++ (take n prop ++ (cmpr ++ drop end prop))) p
-    ∙ ap (λ n. (codes "PROP" ++ big_bytes 8 (length prop - (n - (cmpr_head prop).place) + length cmpr)) ++ (take (cmpr_head prop).place prop ++ (cmpr ++ drop n prop))) q
+    ∙ ap (λ n. (codes "PROP" ++ big_bytes 8 (length prop - (n - (cmpr_head prop).place) + length cmpr)) ++
+    (take (cmpr_head prop).place prop ++ (cmpr ++ drop n prop))) q
     ∙ sym (prop_with_is prop cmpr h one)

@@ -38,7 +38,8 @@ by_parts short id type n size rest e =
     (regroup (NotForm when not (id is "FRM8") || n below 4) (FormTooLarge when n above 2 ^ 50)
     (FormType when not (type is "DSD ")) (Overrun 0 when 12 + n above size) rest))
 
-pub opening_by_head : (xs head : List ℕ) → 16 ≤ length xs → head ≡ bytes_at xs 0 16 → opening_fault xs ≡ head_fault (length xs) head otherwise (top_level xs).fault
+pub opening_by_head : (xs head : List ℕ) → 16 ≤ length xs → head ≡ bytes_at xs 0 16 →
+    opening_fault xs ≡ head_fault (length xs) head otherwise (top_level xs).fault
 opening_by_head xs head le at =
     let long = le-ltb (length xs) 16 le in
     let id : bytes_at head 0 4 ≡ bytes_at xs 0 4 = ap (λ w. bytes_at w 0 4) at ∙ bytes_in_part xs 0 16 0 4 (omega arith) in

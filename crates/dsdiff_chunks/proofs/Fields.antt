@@ -1,5 +1,6 @@
 -- The rules on a body of `PROP`, rule by rule, as its views show them.
-use Rattle.std.proofs.Common.{◌≡◌, ℕ, zero, suc, ◌+◌, ◌-◌, ◌*◌, ◌≤◌, false, List, [], ◌∷◌, length, take, drop, Option, Some, None, refl, sym, ap, ◌∙◌, arith, add-zero, inl, inr}
+use Rattle.std.proofs.Common.{◌≡◌, ℕ, zero, suc, ◌+◌, ◌-◌, ◌*◌, ◌≤◌, false, List, [], ◌∷◌, length, take, drop, Option, Some, None, refl, sym, ap, ◌∙◌, arith}
+use Rattle.std.proofs.Common.{add-zero, inl, inr}
 use Rattle.std.specs.Prelude.{not, ◌||◌, ◌==◌}
 use Rattle.std.proofs.lemmas.Bool.{cases_eq, cases_lt, eqb-true, lt-ltb, ltb-false, ne_eqb, not-false, or_parts}
 use Rattle.std.proofs.lemmas.List.{get_or-drop, length-drop, take_all, take-take}
@@ -17,9 +18,9 @@ use Rattle.chunk_view.proofs.Reading.{big_from-drop}
 use Rattle.dsdiff_chunks.specs.Local.{is_bad_rate, is_bad_count, is_bad_compression}
 
 -- rules in order
-pub here : (a b : Option FileFault) (f : FileFault) → a ≡ Some f → (a otherwise b) ≡ Some f
-here (Some x) b f e = e
-here None b f e = absurd cc
+pub first_refuses : (a b : Option FileFault) (f : FileFault) → a ≡ Some f → (a otherwise b) ≡ Some f
+first_refuses (Some x) b f e = e
+first_refuses None b f e = absurd cc
 
 pub later : (a b r : Option FileFault) → a ≡ None → b ≡ r → (a otherwise b) ≡ r
 later (Some x) b r e p = absurd cc
@@ -27,7 +28,7 @@ later None b r e p = p
 
 pub both_here : (a b c : Option FileFault) (f : FileFault) → (a otherwise b) ≡ Some f → (a otherwise b otherwise c) ≡ Some f
 both_here (Some x) b c f e = e
-both_here None b c f e = here b c f e
+both_here None b c f e = first_refuses b c f e
 
 -- ---- what is read of a chunk's body, and where it stands in the body of `PROP`
 -- the number behind so many bytes, as a slice of them shows it
@@ -39,7 +40,8 @@ number_behind w k n =
 
 pub number_there : (body v : List ℕ) (h : Head) (n : ℕ) → body_of body h ≡ v → n ≤ h.size → number_at body (body_place h) n ≡ big_number n v
 number_there body v h n e le =
-    sym (ap (λ w. big_from 0 n w) (sym e) ∙ big_from-take 0 n h.size (drop (body_place h) body) (omega arith) ∙ big_from-drop (body_place h) 0 n body ∙ ap (λ i. big_from i n body) (add-zero (body_place h)))
+    sym (ap (λ w. big_from 0 n w) (sym e) ∙ big_from-take 0 n h.size (drop (body_place h) body) (omega arith) ∙ big_from-drop (body_place h) 0 n body
+    ∙ ap (λ i. big_from i n body) (add-zero (body_place h)))
 
 pub bytes_there : (body v : List ℕ) (h : Head) (n : ℕ) → body_of body h ≡ v → n ≤ h.size → bytes_at body (body_place h) n ≡ take n v
 bytes_there body v h n e le = sym (ap (take n) (sym e) ∙ take-take n h.size (drop (body_place h) body) le)
@@ -71,7 +73,8 @@ same_count : (n a b : ℕ) → (2 ≤ n → a ≡ b) →
     (n below 2 || outside 1 6 a || n below 2 + 4 * a) ≡ (n below 2 || outside 1 6 b || n below 2 + 4 * b)
 same_count n a b e = elim (cases_lt n 2) [
   | inr long ↦ ap (λ x. n below 2 || outside 1 6 x || n below 2 + 4 * x) (e long)
-  | inl short ↦ ap (λ x. x || outside 1 6 a || n below 2 + 4 * a) (lt-ltb n 2 short) ∙ sym (ap (λ x. x || outside 1 6 b || n below 2 + 4 * b) (lt-ltb n 2 short))
+  | inl short ↦ ap (λ x. x || outside 1 6 a || n below 2 + 4 * a) (lt-ltb n 2 short)
+      ∙ sym (ap (λ x. x || outside 1 6 b || n below 2 + 4 * b) (lt-ltb n 2 short))
 ]
 
 same_compression : (n : ℕ) (a b : List ℕ) → (4 ≤ n → a ≡ b) →
@@ -126,7 +129,8 @@ pub count_of_others : (body : List ℕ) → (length (local "CHNL" body) ≡ 1 �
 count_of_others body other =
     let hs = local "CHNL" body in
     ap (λ b. Channels when not b || (the_first hs).size below 2
-    || outside 1 6 (number_at body (body_place (the_first hs)) 2) || (the_first hs).size below 2 + 4 * number_at body (body_place (the_first hs)) 2) (ne_eqb (length hs) 1 other)
+    || outside 1 6 (number_at body (body_place (the_first hs)) 2) || (the_first hs).size below 2 + 4 * number_at body (body_place (the_first hs)) 2)
+    (ne_eqb (length hs) 1 other)
 
 pub compression_of_others : (body : List ℕ) → (length (local "CMPR" body) ≡ 1 → ⊥) → compression_fault body ≡ Some Compression
 compression_of_others body other =

@@ -19,7 +19,8 @@ pub head_inside : (form : Form) (xs : List ChunkHead) (j : ℕ) (d : ChunkHead) 
 head_inside form xs j d lawful is l =
     let tiled = subst (TileTo form.end 16) is lawful.chunks in
     let long = length-map xs head_seen in
-    subst (λ h. body_end h ≤ form.end) (get_or-map head_seen xs j d (head_seen d) l) (tiled_inside form.end 16 (map head_seen xs) j (head_seen d) tiled (omega arith))
+    subst (λ h. body_end h ≤ form.end) (get_or-map head_seen xs j d (head_seen d) l)
+    (tiled_inside form.end 16 (map head_seen xs) j (head_seen d) tiled (omega arith))
 
 pub sound_inside : (form : Form) → IsLawful form → body_end form.sound ≤ form.end
 sound_inside form lawful = only_within is_sound form.end form.chunks form.sound lawful.sound lawful.chunks

@@ -1,5 +1,6 @@
 -- What a list holds after a part of it was written.
-use Rattle.std.proofs.Common.{◌≡◌, ℕ, ◌+◌, ◌-◌, ◌<◌, ◌≤◌, List, [], ◌∷◌, ◌++◌, length, take, drop, get_or, flat_map, Option, Some, Result, IsOk, refl, ap, sym, ◌∙◌, arith}
+use Rattle.std.proofs.Common.{◌≡◌, ℕ, ◌+◌, ◌-◌, ◌<◌, ◌≤◌, List, [], ◌∷◌, ◌++◌, length, take, drop, get_or, flat_map, Option, Some, Result, IsOk, refl, ap, sym}
+use Rattle.std.proofs.Common.{◌∙◌, arith}
 use Rattle.std.proofs.lemmas.Grind.{flat_map-append}
 use Rattle.std.proofs.lemmas.List.{append-nil, drop_all, drop_at, drop_more, length-append, length-take, take_at, take_more, take-append-drop, take-append-le}
 use Rattle.std.proofs.Math.Seq.{take-add}
@@ -37,13 +38,6 @@ pieces_at f xs i d h =
     ap (flat_map f) (sym (take-append-drop i xs))
     ∙ flat_map-append f (take i xs) (drop i xs)
     ∙ ap (λ w. flat_map f (take i xs) ++ flat_map f w) (drop_more xs i d h)
-
-pub piece_more : {X : Type 0} (f : X → List ℕ) (xs : List X) (i : ℕ) (d : X) → i < length xs →
-    flat_map f (take (i + 1) xs) ≡ flat_map f (take i xs) ++ f (get_or xs i d)
-piece_more f xs i d h =
-    ap (flat_map f) (take_more xs i d h)
-    ∙ flat_map-append f (take i xs) (get_or xs i d ∷ [])
-    ∙ ap (λ w. flat_map f (take i xs) ++ w) (append-nil (f (get_or xs i d)))
 
 -- a piece behind others that is cut short
 pub cut_piece : (old mid new : Option (List ℕ)) (done piece rest all : List ℕ) → all ≡ done ++ (piece ++ rest) →

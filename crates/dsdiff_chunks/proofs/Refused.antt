@@ -1,7 +1,9 @@
 -- Which parts of a body of `KEPT` are refused.
-use Rattle.std.proofs.Common.{◌≡◌, ◌⊎◌, ℕ, ◌+◌, ◌-◌, ◌*◌, ◌/◌, ◌%◌, ◌<◌, ◌≤◌, min, Bool, true, false, List, [], length, take, drop, get_or, refl, sym, ap, ◌∙◌, arith, MatchBool, inl, inr}
+use Rattle.std.proofs.Common.{◌≡◌, ◌⊎◌, ℕ, ◌+◌, ◌-◌, ◌*◌, ◌/◌, ◌%◌, ◌<◌, ◌≤◌, min, Bool, true, false, List, [], length, take, drop, get_or, refl, sym, ap, ◌∙◌}
+use Rattle.std.proofs.Common.{arith, MatchBool, inl, inr}
 use Rattle.std.specs.Prelude.{not, ◌||◌, ◌&&◌, ◌==◌, if◌then◌else◌, nat_eq}
-use Rattle.std.proofs.lemmas.Bool.{and_from, and_left, and_right, cases_lt, eq-eqb, eqb-true, le-ltb, lt-ltb, ltb-false, ne_eqb, not-false, or_from, or_left, or_parts, or_right}
+use Rattle.std.proofs.lemmas.Bool.{and_from, and_left, and_right, cases_lt, eq-eqb, eqb-true, le-ltb, lt-ltb, ltb-false, ne_eqb, not-false, or_from, or_left}
+use Rattle.std.proofs.lemmas.Bool.{or_parts, or_right}
 use Rattle.std.proofs.lemmas.List.{length-drop, take_all}
 use Rattle.std.proofs.lemmas.Nat.{div-add-mod', div-mul-add}
 use Rattle.dsdiff_spec.specs.Bytes.{between, bytes_at, number_at, ◌is◌, ◌below◌, ◌above◌}
@@ -71,7 +73,8 @@ bad_second len kept sound pad =
 pub bad_second_is : (body : List ℕ) → origin_version body ≡ 2 →
     bad_version_2 body ≡ bad_second (length body) (kept_length body) (number_at body 1 8) (get_or body 9 0)
 bad_second_is body e =
-    ap (λ k. outside 30 131086 (length body) || kept_length body above 65536 || length body above 65550 + kept_length body || (k.sound % 2 == 0 && not (k.pad == 0))) (second_is body e)
+    ap (λ k. outside 30 131086 (length body) || kept_length body above 65536 || length body above 65550 + kept_length body ||
+    (k.sound % 2 == 0 && not (k.pad == 0))) (second_is body e)
 
 pub long_tail : (len kept sound pad : ℕ) → 65536 < kept → bad_second len kept sound pad ≡ true
 long_tail len kept sound pad lt = or_left _ _ (or_left _ _ (or_right (outside 30 131086 len) (kept above 65536) (lt-ltb 65536 kept lt)))
@@ -87,7 +90,8 @@ needless_pad len kept sound pad even ne =
 pub lawful_second : (len kept sound pad : ℕ) → 30 ≤ len → len ≤ 131086 → kept ≤ 65536 → len ≤ 65550 + kept →
     (sound % 2 == 0 && not (pad == 0)) ≡ false → bad_second len kept sound pad ≡ false
 lawful_second len kept sound pad least most tail cmpr padded =
-    or_from _ _ (or_from _ _ (or_from _ _ (or_from _ _ (le-ltb len 30 least) (le-ltb 131086 len most)) (le-ltb 65536 kept tail)) (le-ltb (65550 + kept) len cmpr)) padded
+    or_from _ _ (or_from _ _ (or_from _ _ (or_from _ _ (le-ltb len 30 least) (le-ltb 131086 len most)) (le-ltb 65536 kept tail))
+    (le-ltb (65550 + kept) len cmpr)) padded
 
 -- `CMPR` of a body that is too short for one is empty
 pub cmpr_part : (body : List ℕ) (end : ℕ) → take (end - min end 14) (drop (min end 14) body) ≡ between body 14 end
@@ -153,7 +157,8 @@ regroup false false false false d e = refl
 pub origin_said : (channels bytes count : ℕ) (body : List ℕ) (origin : Origin) → origin ≡ origin_of body →
     is_bad_origin channels bytes count body ≡ (is_bad_version body || is_bad_cmpr origin.cmpr || is_bad_sound channels bytes count origin.sound)
 origin_said channels bytes count body origin e =
-    regroup (is_bad_version body) (not (is_one_chunk "CMPR" (origin_of body).cmpr)) (number_at (origin_of body).cmpr 4 8 below 4) (not (bytes_at (origin_of body).cmpr 12 4 is "DSD "))
+    regroup (is_bad_version body) (not (is_one_chunk "CMPR" (origin_of body).cmpr)) (number_at (origin_of body).cmpr 4 8 below 4)
+    (not (bytes_at (origin_of body).cmpr 12 4 is "DSD "))
     (not ((origin_of body).sound % channels == 0)) (not (frames_for bytes (origin_of body).sound == count))
     ∙ ap (λ k. is_bad_version body || is_bad_cmpr k.cmpr || is_bad_sound channels bytes count k.sound) (sym e)
 

@@ -16,7 +16,8 @@ pub the_first_seen : (heads : List ChunkHead) (d : ChunkHead) → 0 < length hea
 the_first_seen [] d lt = absurd (omega arith)
 the_first_seen (h ∷ hs) d lt = refl
 
-pub the_first_within : (end : ℕ) (heads : List ChunkHead) (d : ChunkHead) → 0 < length heads → TileTo end 16 (map head_seen heads) → body_end (head_seen (get_or heads 0 d)) ≤ end
+pub the_first_within : (end : ℕ) (heads : List ChunkHead) (d : ChunkHead) → 0 < length heads → TileTo end 16 (map head_seen heads) →
+    body_end (head_seen (get_or heads 0 d)) ≤ end
 the_first_within end [] d lt tiled = absurd (omega arith)
 the_first_within end (h ∷ hs) d lt tiled = tiled.1
 

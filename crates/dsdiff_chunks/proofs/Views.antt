@@ -1,5 +1,6 @@
 -- The chunks of a body of `PROP`, as views of them show these.
-use Rattle.std.proofs.Common.{◌≡◌, ℕ, ◌+◌, ◌-◌, ◌≤◌, Bool, true, false, cond, List, [], ◌∷◌, length, take, drop, filter, bytes_eq, Some, None, refl, sym, ap, ◌∙◌, arith}
+use Rattle.std.proofs.Common.{◌≡◌, ℕ, ◌+◌, ◌-◌, ◌≤◌, Bool, true, false, cond, List, [], ◌∷◌, length, take, drop, filter, bytes_eq, Some, None, refl, sym, ap}
+use Rattle.std.proofs.Common.{◌∙◌, arith}
 use Rattle.std.proofs.lemmas.List.{length-drop, length-map, take_all}
 use Rattle.std.proofs.lemmas.List.Elements.{All-filter, All-from_recursion, All-head, All-same}
 use Rattle.dsdiff_spec.specs.Chunks.{Head, body_of, next_place, the_first}
@@ -82,7 +83,8 @@ pub body_is_there : (id body : List ℕ) (chunks : List PlacedChunk) (view : Chu
     AreFoundWherever (behind_type body) chunks → called id chunks ≡ seen view ∷ [] →
     body_of body (head_behind 4 (seen view)) ≡ view.body.now
 body_is_there id body chunks view least most found one =
-    let all = All-from_recursion (λ p. body_of body (head_behind 4 p) ≡ p.chunk.body) chunks (found body 4 (length body) 65536 (stands body least most)).bodies in
+    let all = All-from_recursion (λ p. body_of body (head_behind 4 p) ≡ p.chunk.body) chunks
+    (found body 4 (length body) 65536 (stands body least most)).bodies in
     let those = All-filter (λ p. bytes_eq p.chunk.id id) (λ p. body_of body (head_behind 4 p) ≡ p.chunk.body) chunks all in
     All-head (λ p. body_of body (head_behind 4 p) ≡ p.chunk.body) (seen view) []
     (All-same (λ p. body_of body (head_behind 4 p) ≡ p.chunk.body) (seen view ∷ []) (called id chunks) (sym one) those)

@@ -9,11 +9,13 @@ use Rattle.dsdiff_spec.specs.Bytes.{bytes_at, number_at, ◌is◌, ◌below◌, 
 use Rattle.dsdiff_spec.specs.Chunks.{Head, named, the_first, body_place, next_place, fits}
 use Rattle.dsdiff_spec.specs.Faults.{◌when◌, ◌otherwise◌}
 use Rattle.dsdiff_spec.specs.Form.{Form, Kind, Origin, plain, coded, shape_of, frames_for}
-use Rattle.dsdiff_spec.specs.Parts.{form_size, form_end, top_level, prop_head, prop, in_prop, sound_head, channel_count, multiple, sound_bytes_in, frames_needed, behind_form, frame_count, frame_rate}
-use Rattle.dsdiff_spec.specs.Rules.{moved, type_fault, rate_fault, channels_fault, compression_fault, local_fault, room_fault, plain_fault, coded_fault, is_frte, has_bad_origin}
+use Rattle.dsdiff_spec.specs.Parts.{form_size, form_end, top_level, prop_head, prop, in_prop, sound_head, channel_count, multiple, sound_bytes_in}
+use Rattle.dsdiff_spec.specs.Parts.{frames_needed, behind_form, frame_count, frame_rate}
+use Rattle.dsdiff_spec.specs.Rules.{moved, type_fault, rate_fault, channels_fault, compression_fault, local_fault, room_fault, plain_fault, coded_fault}
+use Rattle.dsdiff_spec.specs.Rules.{is_frte, has_bad_origin}
 use Rattle.dsdiff_spec.specs.declared.faults.FileFault.{FileFault}
 use Rattle.dsdiff_spec.specs.declared.faults.FileFault.TheVariants.{Overrun, SoundUneven, TooManyFrames, CodedChunk, TailTooLong, FrameRate, KeptBad}
-use Rattle.dsdiff_chunks.proofs.Accepted.{moved_none}
+use Rattle.dsdiff_spec.proofs.Lawful.{moved_none}
 use Rattle.dsdiff_chunks.specs.Opening.{may_lack_pad, plain_parts_fault, space_fault, is_of_coded, coded_sound_fault, are_bad_origins}
 
 -- ---- forms with equal parts are equal
@@ -52,7 +54,8 @@ pub shape_back : (s : Shape) (c m : ℕ) → s ≡ shape_of c m → shape_of s.c
 shape_back s c m e =
     ap (λ n. shape_of s.channels n) (multiple_back s c m e) ∙ ap (λ t. shape_of t.channels m) e ∙ sym e
 
-pub frame_bytes_of : (xs body : List ℕ) (s : Shape) → prop xs ≡ body → s ≡ shape_of (channel_count body) (multiple body) → sound_bytes_in (prop xs) ≡ sound_bytes s
+pub frame_bytes_of : (xs body : List ℕ) (s : Shape) → prop xs ≡ body → s ≡ shape_of (channel_count body) (multiple body) →
+    sound_bytes_in (prop xs) ≡ sound_bytes s
 frame_bytes_of xs body s e is_shape = ap sound_bytes_in e ∙ sym (ap sound_bytes is_shape)
 
 pub channels_of : (xs body : List ℕ) (s : Shape) → prop xs ≡ body → s ≡ shape_of (channel_count body) (multiple body) → channel_count (prop xs) ≡ s.channels
@@ -150,7 +153,8 @@ coded_past_sound xs body heads sound s n top b snd is_shape is_count e =
     coded_in_two xs
     ∙ ap (λ h. coded_sound_fault xs h otherwise kept_rule xs (prop xs) (frame_count xs) (top_level xs).heads) snd
     ∙ ap (λ o. o otherwise kept_rule xs (prop xs) (frame_count xs) (top_level xs).heads) e
-    ∙ ap (λ c. KeptBad when are_bad_origins c (sound_bytes_in (prop xs)) (frame_count xs) xs (named "KEPT" (top_level xs).heads)) (channels_of xs body s b is_shape)
+    ∙ ap (λ c. KeptBad when are_bad_origins c (sound_bytes_in (prop xs)) (frame_count xs) xs (named "KEPT" (top_level xs).heads))
+    (channels_of xs body s b is_shape)
     ∙ ap (λ c. KeptBad when are_bad_origins s.channels c (frame_count xs) xs (named "KEPT" (top_level xs).heads)) (frame_bytes_of xs body s b is_shape)
     ∙ ap (λ m. KeptBad when are_bad_origins s.channels (sound_bytes s) m xs (named "KEPT" (top_level xs).heads)) (count_by_parts xs sound n snd is_count)
     ∙ ap (λ hs. KeptBad when are_bad_origins s.channels (sound_bytes s) n xs (named "KEPT" hs)) top

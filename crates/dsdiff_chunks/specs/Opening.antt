@@ -9,7 +9,9 @@ use Rattle.dsdiff_spec.specs.Origin.{is_bad_origin}
 use Rattle.dsdiff_spec.specs.Parts.{form_size, form_end}
 use Rattle.dsdiff_spec.specs.Rules.{is_version, is_frte, room_fault}
 use Rattle.dsdiff_spec.specs.declared.faults.FileFault.{FileFault}
-use Rattle.dsdiff_spec.specs.declared.faults.FileFault.TheVariants.{NotForm, FormType, FormTooLarge, Overrun, SoundMissing, SoundTwice, SoundUneven, Version, Compression, PropMissing, PropTwice, PropTooLong, FrameRate, TooManyFrames, CodedChunk, TailTooLong}
+use Rattle.dsdiff_spec.specs.declared.faults.FileFault.TheVariants.{NotForm, FormType, FormTooLarge, Overrun, SoundMissing, SoundTwice, SoundUneven, Version}
+use Rattle.dsdiff_spec.specs.declared.faults.FileFault.TheVariants.{Compression, PropMissing, PropTwice, PropTooLong, FrameRate, TooManyFrames, CodedChunk}
+use Rattle.dsdiff_spec.specs.declared.faults.FileFault.TheVariants.{TailTooLong}
 use Rattle.dsdiff_chunks.specs.declared.open.OpenFault.{OpenFault}
 use Rattle.dsdiff_chunks.specs.declared.open.OpenFault.TheVariants.{Read, Memory, File}
 

@@ -43,5 +43,5 @@ pub use lists::{ChunkHead, Heads, Octets};
 pub use open::{OpenFault, open_form};
 pub use origin::Origin;
 pub use read::read_range;
-pub use write::{cmpr_of_prop, prop_length, write_head, write_prop};
+pub use write::{append_all, cmpr_of_prop, prop_length, write_head, write_prop};
 pub use write_coded::{write_entry, write_frame, write_frte, write_origin};

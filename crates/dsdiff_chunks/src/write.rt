@@ -73,8 +73,8 @@ pub fn cmpr_of_prop(prop: &[u8]) -> &[u8]
     &prop[place..end]
 }
 
-// Appends pieces one after the other.
-pub(crate) fn append_all<K: Sink>(sink: &mut K, pieces: &[&[u8]]) -> Result<(), Failed>
+/// Appends pieces one after the other.
+pub fn append_all<K: Sink>(sink: &mut K, pieces: &[&[u8]]) -> Result<(), Failed>
     ensures written { MatchResult result (λ _. K.written sink.new ≡ and_then (K.written sink.old) (flat_map (λ p. p.now) pieces.now)) (λ _. IsCutShort (K.written sink.old) (flat_map (λ p. p.now) pieces.now) (K.written sink.new)) }
     ensures appended { OnOk result (K.appended sink.new ≡ K.appended sink.old + length (flat_map (λ p. p.now) pieces.now)) }
     ensures grows { K.appended sink.old ≤ K.appended sink.new }

@@ -27,7 +27,8 @@ use Rattle.dsdiff_laws.proofs.CodedRules.{AreExact, form_rules, kind_is, count_i
 use Rattle.dsdiff_laws.proofs.BehindFrte.{behind_frte}
 use Rattle.dsdiff_laws.proofs.CodedWalk.{Walked, IsWalk, walk_is, entries_are_numbers}
 use Rattle.dsdiff_laws.proofs.CodedIndex.{HasIndex, index_is_walk}
-use Rattle.dsdiff_laws.proofs.StoredBytes.{AreStored, stored_are, pieces_are, length-pieces}
+use Rattle.dsdiff_spec.proofs.SoundPieces.{length-pieces}
+use Rattle.dsdiff_laws.proofs.StoredBytes.{AreStored, stored_are, pieces_are}
 use Rattle.dsdiff_laws.proofs.Answered.{IsAnswered, decodes, checks, lists, writes}
 use Rattle.dsdiff_laws.proofs.Accepting.{coded_is_bytes, byte_at_place}
 

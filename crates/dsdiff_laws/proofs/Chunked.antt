@@ -12,6 +12,7 @@ use Rattle.dsdiff_spec.specs.Chunks.{Chunk, bytes_of_chunk, IsChunk, Head, head_
 use Rattle.dsdiff_spec.proofs.Steps.{fits_body, fits_pad}
 use Rattle.dsdiff_spec.proofs.Finding.{Follow, place_behind, split_part}
 use Rattle.dsdiff_spec.proofs.Tiling.{heads_from, big_from-behind}
+use Rattle.dsdiff_spec.proofs.Sizes.{length-bytes_at, between-joined}
 use Rattle.dsdiff_laws.proofs.NumberBytes.{bytes_again, byte_below}
 use Rattle.dsdiff_laws.proofs.Composed.{IsEnding, AreChunks}
 
@@ -20,12 +21,6 @@ abbrev pub chunk_at : List ℕ → ℕ → Head → Chunk
 chunk_at file end h = record { id = h.id; body = body_of file h; pad = between file (body_end h) (min (next_place h) end) }
 
 -- ---- parts of a list
-pub length-bytes_at : (file : List ℕ) (place n : ℕ) → place + n ≤ length file → length (bytes_at file place n) ≡ n
-length-bytes_at file place n le = length-take-of (drop place file) n (omega (arith, le, length-drop place file))
-  where
-    length-take-of : (w : List ℕ) (n : ℕ) → n ≤ length w → length (take n w) ≡ n
-    length-take-of w n le = omega (arith, le, length-take n w)
-
 pub number_of_drop : (file : List ℕ) (place n : ℕ) → place ≤ length file → number_at file place n ≡ big_from 0 n (drop place file)
 number_of_drop file place n le =
     let long : length (take place file) + 0 ≡ place = omega (arith, le, length-take place file) in
@@ -42,11 +37,6 @@ pub number_fits : (file : List ℕ) (place : ℕ) → AreBytes file → number_a
 number_fits file place bytes = big_from-lt place 8 file (byte_below file bytes)
 
 -- a list from one place to a second and from there to a third
-pub joined : (file : List ℕ) (a b c : ℕ) → a ≤ b → b ≤ c → between file a b ++ between file b c ≡ between file a c
-joined file a b c p q =
-    let whole : min b c ≡ b = omega (arith, q) in
-    sym (split_part file a b c p (omega (arith, p, q)) ∙ ap (λ i. between file a i ++ between file b c) whole)
-
 -- ---- one chunk
 bytes_of_chunk_at : (file : List ℕ) (end place : ℕ) → AreBytes file → (h : Head) → h ≡ head_at file place → body_end h ≤ end → end ≤ length file →
     bytes_of_chunk (chunk_at file end h) ≡ between file place (min (next_place h) end)
@@ -66,9 +56,9 @@ bytes_of_chunk_at file end place bytes h is within le =
     let behind : body_end h ≤ e = omega (arith, within) in
     rw (id, size, body) (
     ap (λ w. w ++ between file (place + 12) (body_end h) ++ between file (body_end h) e)
-    (joined file place (place + 4) (place + 12) (omega arith) (omega arith))
-    ∙ ap (λ w. w ++ between file (body_end h) e) (joined file place (place + 12) (body_end h) (omega arith) (omega (arith, at)))
-    ∙ joined file place (body_end h) e (omega (arith, at)) behind)
+    (between-joined file place (place + 4) (place + 12) (omega arith) (omega arith))
+    ∙ ap (λ w. w ++ between file (body_end h) e) (between-joined file place (place + 12) (body_end h) (omega arith) (omega (arith, at)))
+    ∙ between-joined file place (body_end h) e (omega (arith, at)) behind)
 
 -- it ends the part or is whole
 ending_at : (m : List ℕ → Bool) (file : List ℕ) (end place : ℕ) → AreBytes file → (h : Head) → h ≡ head_at file place → fits m end h ≡ true →

@@ -13,6 +13,7 @@ use Rattle.dsdiff_spec.specs.Rules.{form_of_kind}
 use Rattle.dsdiff_spec.specs.Walk.{Entry}
 use Rattle.dsdiff_spec.specs.Written.{form_of, frte, dstf, entries_from}
 use Rattle.dsdiff_spec.proofs.Tiling.{length_of_chunk}
+use Rattle.dsdiff_spec.proofs.Pieces.{pad_is_long}
 use Rattle.dsdiff_laws.proofs.Composed.{AreChunks, others_are, is_ending}
 use Rattle.dsdiff_laws.proofs.Filed.{IsFile, may_lack, body_bytes, written_is_file, end_is}
 use Rattle.dsdiff_laws.proofs.Props.{locals, replaced, chunk_of, body_with, length-replaced, length-prop, AroundOne, around_cmpr}
@@ -22,13 +23,6 @@ use Rattle.dsdiff_laws.proofs.CodedChunks.{entries_of, origin_of_parts, coded_ch
 use Prim.Native.String.{String}
 
 -- ---- chunks that are written are whole
-pad_is_long : (n pad : ℕ) → length (if n % 2 == 1 then pad ∷ [] else []) ≡ n % 2
-pad_is_long n pad = go (n % 2 == 1) refl
-  where
-    go : (b : Bool) → (n % 2 == 1) ≡ b → length (if b then pad ∷ [] else []) ≡ n % 2
-    go true e = let one = eqb-true (n % 2) 1 e in omega arith
-    go false e = let not_one = eqb-false (n % 2) 1 e in omega arith
-
 pub is_whole : (name : String) (body : List ℕ) (pad : ℕ) → length (codes name) ≡ 4 → length body < 2 ^ 64 → IsChunk (chunk_of name body pad)
 is_whole name body pad id size = record { id = id; size = size; pad = pad_is_long (length body) pad }
 
@@ -219,6 +213,45 @@ module _ (file : List ℕ) (p : PlainParts file) (form : Form) (frames : List (L
           origin_size,
           cmpr_size p,
           behind_size,
+        )
+
+    -- how much longer than the plain form they are, where no frame has more than so many bytes
+    pub coded_most : (n : ℕ) → n < 2 ^ 40 → AreShort n frames →
+        length (body_bytes (coded_chunks p form frames)) + length p.parts.sound.body
+        ≤ length (body_bytes (plain_pre p ++ p.parts.sound ∷ p.parts.last)) + length frames * (n + 25) + 90 + length p.parts.prop.body + length form.behind
+    coded_most n small short =
+        let long : length (dst_body frames) ≤ 18 + length frames * (n + 13) =
+        omega (
+          arith,
+          length-append (frte (length frames)) (flat_map dstf frames),
+          length-frte (length frames),
+          length_of_frames n frames (omega (arith, small)) short,
+        ) in
+        omega (
+          arith,
+          long,
+          length-body (plain_pre p) (p.parts.sound ∷ p.parts.last),
+          length-cons p.parts.sound p.parts.last,
+          length-parts p.parts.sound,
+          ap length p.is_dsd,
+          length-body (p.parts.version ∷ p.parts.front) (p.parts.prop ∷ p.parts.middle),
+          length-cons p.parts.prop p.parts.middle,
+          length-parts p.parts.prop,
+          ap length p.parts.is_prop,
+          length-body (coded_pre p) (dst_chunk frames ∷ dsti_chunk (entries_of p frames) ∷ origin_of_parts p form ∷ p.parts.last),
+          length-body (p.parts.version ∷ p.parts.front) (coded_prop p ∷ p.parts.middle),
+          length-cons (coded_prop p) p.parts.middle,
+          length_of_chunk (coded_prop p) prop_whole,
+          prop_size p,
+          length-cons (dst_chunk frames) (dsti_chunk (entries_of p frames) ∷ origin_of_parts p form ∷ p.parts.last),
+          length-cons (dsti_chunk (entries_of p frames)) (origin_of_parts p form ∷ p.parts.last),
+          length-cons (origin_of_parts p form) p.parts.last,
+          length_written "DST " (dst_body frames) 0 refl (omega (arith, dst_size, f.count)),
+          length_written "DSTI" (flat_map entry_bytes (entries_of p frames)) 0 refl (omega (arith, index_size, f.count)),
+          index_size,
+          length_written "KEPT" (origin_of_parts p form).body 0 refl (omega (arith, origin_size, cmpr_size p, p.prop_most, behind_size)),
+          origin_size,
+          cmpr_size p,
         )
 
     pub coded_few : length (coded_chunks p form frames) ≤ 1024

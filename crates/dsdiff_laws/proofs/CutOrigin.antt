@@ -17,7 +17,8 @@ use Rattle.dsdiff_spec.specs.Origin.{origin_version, kept_length, origin_of, is_
 use Rattle.dsdiff_spec.proofs.Steps.{fits_whole}
 use Rattle.dsdiff_spec.proofs.Finding.{Follow}
 use Rattle.dsdiff_spec.proofs.CodedFiles.{needed, some_bytes, longest_sound_of_frame}
-use Rattle.dsdiff_laws.proofs.Chunked.{chunk_at, length-bytes_at, chunks_of_heads, bytes_of_heads, number_fits}
+use Rattle.dsdiff_spec.proofs.Sizes.{length-bytes_at}
+use Rattle.dsdiff_laws.proofs.Chunked.{chunk_at, chunks_of_heads, bytes_of_heads, number_fits}
 use Rattle.dsdiff_laws.proofs.Filed.{either_false, not_false, no_less, take_whole}
 use Rattle.dsdiff_laws.proofs.Props.{all_whole, take_less}
 use Rattle.dsdiff_laws.proofs.OriginRead.{IsPlainCmpr, IsOrigin}

@@ -19,9 +19,10 @@ use Rattle.dsdiff_spec.specs.declared.faults.FileFault.TheVariants.{NotForm, For
 use Rattle.dsdiff_spec.proofs.Lawful.{first_gives_none, later_gives_none, when_not}
 use Rattle.dsdiff_spec.proofs.Finding.{found_follow, found_at_most, found_to_the_end}
 use Rattle.dsdiff_spec.proofs.Tiling.{heads_from, big_from-behind}
+use Rattle.dsdiff_spec.proofs.Sizes.{length-bytes_at, between-joined}
 use Rattle.dsdiff_laws.proofs.Composed.{AreChunks, composed_is_found}
 use Rattle.dsdiff_laws.proofs.Standing.{Holds, all_hold}
-use Rattle.dsdiff_laws.proofs.Chunked.{chunk_at, chunks_of_heads, bytes_of_heads, heads_again, joined, number_again, length-bytes_at}
+use Rattle.dsdiff_laws.proofs.Chunked.{chunk_at, chunks_of_heads, bytes_of_heads, heads_again, number_again}
 
 -- all but a sound may lack a last pad byte
 abbrev pub may_lack : List ℕ → Bool
@@ -55,7 +56,7 @@ length-file file cs rest h =
       length-opening cs,
     )
 
-size_is : (file : List ℕ) (cs : List Chunk) (rest : List ℕ) → IsFile file cs rest → form_size file ≡ 4 + length (body_bytes cs)
+pub size_is : (file : List ℕ) (cs : List Chunk) (rest : List ℕ) → IsFile file cs rest → form_size file ≡ 4 + length (body_bytes cs)
 size_is file cs rest h =
     let n = 4 + length (body_bytes cs) in
     let w = codes "DSD " ++ (body_bytes cs ++ rest) in
@@ -214,10 +215,10 @@ opened_is_file file bytes none =
     parts_join : (file : List ℕ) (end : ℕ) → 16 ≤ end → end ≤ length file →
         between file 0 4 ++ between file 4 12 ++ between file 12 16 ++ between file 16 end ++ between file end (length file) ≡ file
     parts_join file end p q =
-        ap (λ w. w ++ between file 12 16 ++ between file 16 end ++ between file end (length file)) (joined file 0 4 12 (omega arith) (omega arith))
-        ∙ ap (λ w. w ++ between file 16 end ++ between file end (length file)) (joined file 0 12 16 (omega arith) (omega arith))
-        ∙ ap (λ w. w ++ between file end (length file)) (joined file 0 16 end (omega arith) p)
-        ∙ joined file 0 end (length file) (omega arith) q
+        ap (λ w. w ++ between file 12 16 ++ between file 16 end ++ between file end (length file)) (between-joined file 0 4 12 (omega arith) (omega arith))
+        ∙ ap (λ w. w ++ between file 16 end ++ between file end (length file)) (between-joined file 0 12 16 (omega arith) (omega arith))
+        ∙ ap (λ w. w ++ between file end (length file)) (between-joined file 0 16 end (omega arith) p)
+        ∙ between-joined file 0 end (length file) (omega arith) q
         ∙ ap (λ k. take k file) (no_less (length file)) ∙ take_whole file
 
 pub opened_heads : (file : List ℕ) → AreBytes file → opening_fault file ≡ None → heads_from 16 (chunks_in file) ≡ (top_level file).heads

@@ -17,8 +17,9 @@ use Rattle.dsdiff_spec.proofs.Lawful.{first_gives_none, later_gives_none, when_n
 use Rattle.dsdiff_spec.proofs.CodedFiles.{count_is_right}
 use Rattle.dsdiff_spec.proofs.Finding.{found_follow, found_at_most, found_to_the_end}
 use Rattle.dsdiff_spec.proofs.Tiling.{heads_from}
+use Rattle.dsdiff_spec.proofs.Sizes.{length-bytes_at}
 use Rattle.dsdiff_laws.proofs.Standing.{Holds, named_hold}
-use Rattle.dsdiff_laws.proofs.Chunked.{length-bytes_at, chunk_at, chunks_of_heads, bytes_of_heads, heads_again}
+use Rattle.dsdiff_laws.proofs.Chunked.{chunk_at, chunks_of_heads, bytes_of_heads, heads_again}
 use Rattle.dsdiff_laws.proofs.Filed.{body_bytes}
 use Rattle.dsdiff_laws.proofs.ChunkWalk.{frames_among, bodies_of, entries_among, AreShortBodies, HasChunks, chunks_hold, bodies_read, length-held}
 

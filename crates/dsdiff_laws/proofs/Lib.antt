@@ -32,3 +32,5 @@ pub mod Cutting
 pub mod Acceptance
 pub mod Joined
 pub mod Restoring
+pub mod Headline
+pub mod MadeFile

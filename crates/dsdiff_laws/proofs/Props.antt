@@ -19,12 +19,13 @@ use Rattle.dsdiff_spec.specs.Rules.{moved, type_fault, rate_fault, channels_faul
 use Rattle.dsdiff_spec.specs.Written.{part_of_prop, cmpr_in, prop_with, chunk, padded_chunk}
 use Rattle.dsdiff_spec.specs.declared.faults.FileFault.{FileFault}
 use Rattle.dsdiff_spec.specs.declared.faults.FileFault.TheVariants.{PropType, Overrun, Rate, Channels, Compression}
-use Rattle.dsdiff_spec.proofs.Lawful.{first_gives_none, later_gives_none, when_not}
+use Rattle.dsdiff_spec.proofs.Lawful.{first_gives_none, later_gives_none, when_not, moved_none}
 use Rattle.dsdiff_spec.proofs.Finding.{found_follow, found_at_most, found_to_the_end}
 use Rattle.dsdiff_spec.proofs.Tiling.{heads_from}
+use Rattle.dsdiff_spec.proofs.Sizes.{between-joined}
 use Rattle.dsdiff_laws.proofs.Composed.{AreChunks, composed_is_found}
 use Rattle.dsdiff_laws.proofs.Standing.{Holds, all_hold, chunks_named, named_hold}
-use Rattle.dsdiff_laws.proofs.Chunked.{chunk_at, chunks_of_heads, bytes_of_heads, joined, number_of_drop}
+use Rattle.dsdiff_laws.proofs.Chunked.{chunk_at, chunks_of_heads, bytes_of_heads, number_of_drop}
 use Rattle.dsdiff_laws.proofs.Order.{one_among, none_chosen, chosen_is}
 use Rattle.std.proofs.lemmas.List.Concat.{flat_map-append}
 use Rattle.std.proofs.lemmas.List.{map-append}
@@ -216,11 +217,6 @@ all_whole (c ∷ []) h = (whole_by h.pad, tt)
     whole_by (inr (none, may)) = absurd cc
 all_whole (c ∷ d ∷ cs) h = (h.0, all_whole (d ∷ cs) h.1)
 
-moved_none : (start : ℕ) (o : Option FileFault) → moved start o ≡ None → o ≡ None
-moved_none start None e = refl
-moved_none start (Some (Overrun place)) e = absurd cc
-moved_none start (Some fault) e = absurd cc
-
 record ChannelsSaid (body : List ℕ) : Type 0 where
   one : length (local "CHNL" body) ≡ 1
   least : 2 ≤ (channels_head body).size
@@ -272,7 +268,7 @@ accepted_prop start body bytes none =
     let made : IsProp body (locals body) = record {
       whole = all_whole (locals body) are;
       few = omega (arith, found_at_most (λ id. false) body end 65536 4, length-map (in_prop body).heads (chunk_at body end));
-      bytes = sym (ap₂ (λ (a b : List ℕ). a ++ b) (sym name) inside ∙ joined body 0 4 end (omega arith) (omega (arith, long))
+      bytes = sym (ap₂ (λ (a b : List ℕ). a ++ b) (sym name) inside ∙ between-joined body 0 4 end (omega arith) (omega (arith, long))
           ∙ ap (λ k. take k body) (no_less end) ∙ take_whole body);
     } in
     let hold = prop_holds body (locals body) made in

@@ -281,7 +281,12 @@ module _ (file : List ℕ) (picks : Picks) (e : IsEncoded file picks)
         by_kind plain q = absurd cc
         by_kind coded q = ap (λ o. plain_size o (form'.frames * sound_bytes_of form')) origin_said
 
-    same_shape : shape form' ≡ shape (accepted file)
+    pub same_size : size_of_sound form' ≡ size_of_sound (accepted file)
+    same_size =
+        size_said
+        ∙ sym (ap size_of_sound e.is_form ∙ ap (λ (h : Head). h.size) (sym (ap (λ (f : Form). f.sound) e.is_form) ∙ e.p.parts.sound_head_is))
+
+    pub same_shape : shape form' ≡ shape (accepted file)
     same_shape =
         ap (λ (f : Form). shape f) (coded_form file picks e)
         ∙ ap₂ shape_of (same_count file e.p (accepted file) stored e.frames e.exact g e.made)
@@ -301,7 +306,7 @@ module _ (file : List ℕ) (picks : Picks) (e : IsEncoded file picks)
         (some_bytes (shape (accepted file)) e.shape)
         ∙ body_is
 
-    meant : AllZip (Means (shape form')) (frames_of g form') list
+    pub meant : AllZip (Means (shape form')) (frames_of g form') list
     meant =
         subst (λ ws. AllZip (Means (shape form')) ws list) (sym (walk_of_coded file picks e).stored)
         (subst (λ (f : Shape). AllZip (Means f) stored list) (sym same_shape) e.stored.meant)

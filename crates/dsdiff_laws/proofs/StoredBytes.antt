@@ -1,8 +1,8 @@
 -- The frames that encoding stores: how many, each no longer than a plain frame, each of them bytes, each meaning its piece of the sound.
-use Rattle.std.proofs.Common.{◌≡◌, ℕ, zero, suc, ◌+◌, ◌-◌, ◌*◌, ◌<◌, ◌≤◌, nat_lt, Bool, true, false, cond, List, [], ◌∷◌, length, drop, map, fold}
-use Rattle.std.proofs.Common.{replicate, refl, ◌∙◌, arith, length-append}
+use Rattle.std.proofs.Common.{◌≡◌, ℕ, ◌+◌, ◌-◌, ◌*◌, ◌<◌, ◌≤◌, nat_lt, Bool, true, false, cond, List, [], ◌∷◌, length, drop, map, fold}
+use Rattle.std.proofs.Common.{replicate, refl, arith, length-append}
 use Rattle.std.specs.List.{AllByRecursion, AllZip, range_with_len}
-use Rattle.std.proofs.lemmas.List.{length-map, length-take, length-replicate}
+use Rattle.std.proofs.lemmas.List.{length-take, length-replicate}
 use Rattle.dst_spec.specs.Bits.{AreBits, AreBytes, number_from, octets}
 use Rattle.dst_spec.specs.Sample.{Shape, IsShape, IsSound, sound_bytes}
 use Rattle.dst_spec.specs.Header.{Params, IsParams}
@@ -66,15 +66,6 @@ pieces_from n sound (k ∷ ks) bytes = (
 pub pieces_are : (n : ℕ) (sound : List ℕ) → AreBytes sound → AllByRecursion (λ w. (length w ≡ n) × AreBytes w) (pieces n sound)
 unfolding pieces
 pieces_are n sound bytes = pieces_from n sound (range_with_len 0 (frames_for n (length sound))) bytes
-
-length-range : (a n : ℕ) → length (range_with_len a n) ≡ n
-length-range a zero = refl
-length-range a (suc n) = omega (arith, length-range (a + 1) n)
-
-pub length-pieces : (n : ℕ) (sound : List ℕ) → length (pieces n sound) ≡ frames_for n (length sound)
-unfolding pieces
-length-pieces n sound = length-map (range_with_len 0 (frames_for n (length sound))) (λ k. filled n (bytes_at sound (k * n) n))
-    ∙ length-range 0 (frames_for n (length sound))
 
 -- ---- the frames that are stored for pieces
 pub record AreStored (f : Shape) (list : List (List ℕ)) (frames : List (List ℕ)) : Type 0 where

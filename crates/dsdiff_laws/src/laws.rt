@@ -1,5 +1,5 @@
 // Laws of files. The functions do nothing: their clauses are what is proved.
-ghost use Rattle.dsdiff_spec.specs.Laws.{AcceptanceLaw, RestoringLaw, PiecesLaw, CuttingLaw};
+ghost use Rattle.dsdiff_spec.specs.Laws.{AcceptanceLaw, RestoringLaw, PiecesLaw, CuttingLaw, LevelPicksLaw, HeadlineLaw};
 
 /// What encoding writes of an accepted plain file is accepted for decoding, checking and listing, and each of its frames for
 /// writing its sound, by the walk and by the index. Its frames are the stored ones in order, none of them longer than its
@@ -25,4 +25,17 @@ pub fn pieces()
 /// cut, with the same pad byte, if the last frame is among them, and else behind the last of them.
 pub fn cutting()
     ensures { CuttingLaw }
+{}
+
+/// What a level picks for a frame's sound is what encoding asks of an encoder: at most eleven parameters, each lawful for the
+/// channels.
+pub fn level_picks()
+    ensures { LevelPicksLaw }
+{}
+
+/// The promise of the whole: of an accepted plain file and a level, encoding writes the file that the definitions name, no frame
+/// longer than its plain form; decoding it gives back every bit, and any one frame is written alone, found by its chunk or by
+/// the index. None of these has another outcome.
+pub fn headline()
+    ensures { HeadlineLaw }
 {}

@@ -1,5 +1,6 @@
 -- Where the index of a file is its walk, a frame is the same by both.
-use Rattle.std.proofs.Common.{◌≡◌, ◌⊎◌, inl, inr, ◌↔◌, ℕ, zero, suc, ◌+◌, ◌-◌, ◌<◌, ◌≤◌, ◌==◌, nat_lt, if◌then◌else◌, Bool, true, false, List, [], ◌∷◌, length, get_or, refl, ap, ap₂, sym, subst, ◌∙◌, arith, Option, Some, None, eqb-true, ltb-true}
+use Rattle.std.proofs.Common.{◌≡◌, ◌⊎◌, inl, inr, ◌↔◌, ℕ, zero, suc, ◌+◌, ◌-◌, ◌<◌, ◌≤◌, ◌==◌, nat_lt, if◌then◌else◌, Bool, true, false, List, [], ◌∷◌, length}
+use Rattle.std.proofs.Common.{get_or, refl, ap, ap₂, sym, subst, ◌∙◌, arith, Option, Some, None, eqb-true, ltb-true}
 use Rattle.std.specs.Prelude.{not, ◌&&◌}
 use Rattle.std.specs.List.{AllByRecursion, enumerate_from}
 use Rattle.std.proofs.lemmas.Bool.{le-ltb, ne_eqb}
@@ -11,7 +12,8 @@ use Rattle.dsdiff_spec.specs.Faults.{◌when◌, ◌otherwise◌, first_some}
 use Rattle.dsdiff_spec.specs.Chunks.{Head, named, body_place, body_end}
 use Rattle.dsdiff_spec.specs.Form.{Form, longest_frame}
 use Rattle.dsdiff_spec.specs.Rules.{form_fault, accepted}
-use Rattle.dsdiff_spec.specs.Walk.{in_dst, frame_heads, frame_fault, walk_fault, Entry, entry_of, entries, entry, index_heads, indexed, has_index_of, names_frame, by_index_fault, same_entry, compare_fault, frame_at}
+use Rattle.dsdiff_spec.specs.Walk.{in_dst, frame_heads, frame_fault, walk_fault, Entry, entry_of, entries, entry, index_heads, indexed, has_index_of}
+use Rattle.dsdiff_spec.specs.Walk.{names_frame, by_index_fault, same_entry, compare_fault, frame_at}
 use Rattle.dsdiff_spec.specs.Words.{Command, frame}
 use Rattle.dsdiff_spec.specs.Refusal.{no_frame, not_coded, not_walked, command_fault, form_refusal, refusal}
 use Rattle.dsdiff_spec.specs.Outcome.{Answer, NoneRefused, nth_frame, indexed_frame, run, IsStopped, WritesSound, Does, IsDone, OfCommand}
@@ -54,7 +56,8 @@ frame_stands : (file : List ℕ) (form : Form) (k : ℕ) (d : Head) → k < leng
 frame_stands file form k d l =
     let end = body_end form.sound in
     let place = body_place form.sound + 18 in
-    one_of_all (IsFrame file form) (frame_heads file form) k d l (frames_among (Stands file end place) (in_dst file form).heads (found_stand (λ id. true) file end 4000000 place))
+    one_of_all (IsFrame file form) (frame_heads file form) k d l
+    (frames_among (Stands file end place) (in_dst file form).heads (found_stand (λ id. true) file end 4000000 place))
 
 -- such a frame is named by its entry
 frame_is_named : (file : List ℕ) (form : Form) (h : Head) → IsFrame file form h → names_frame file form (entry_of h) ≡ true
@@ -69,16 +72,20 @@ frame_is_named file form h (stands, name) =
     let id : bytes_at file h.place 4 ≡ h.id = sym (ap (λ (h : Head). h.id) stands.0) in
     let size : number_at file (h.place + 4) 8 ≡ h.size = sym (ap (λ (h : Head). h.size) stands.0) in
     let named : (bytes_at file (e.offset - 12) 4 is "DSTF") ≡ true = ap (λ n. bytes_at file n 4 is "DSTF") at_head ∙ ap (λ w. w is "DSTF") id ∙ name in
-    let sized : (number_at file (e.offset - 8) 8 == e.size) ≡ true = (Decides-eqb (number_at file (e.offset - 8) 8) e.size).1 (ap (λ n. number_at file n 8) at_size ∙ size) in
+    let sized : (number_at file (e.offset - 8) 8 == e.size) ≡ true =
+    (Decides-eqb (number_at file (e.offset - 8) 8) e.size).1 (ap (λ n. number_at file n 8) at_size ∙ size) in
     rw (behind, before, named, sized) refl
 
 -- and isn't too long
-frame_is_short : (file : List ℕ) (form : Form) (k : ℕ) (d : Head) → k < length (frame_heads file form) → walk_fault file form ≡ None → ((get_or (frame_heads file form) k d).size above longest_frame form) ≡ false
+frame_is_short : (file : List ℕ) (form : Form) (k : ℕ) (d : Head) → k < length (frame_heads file form) → walk_fault file form ≡ None →
+    ((get_or (frame_heads file form) k d).size above longest_frame form) ≡ false
 unfolding walk_fault
 frame_is_short file form k d l none =
     let all = first_gives_none (first_some (frame_fault form) (enumerate_from 0 (frame_heads file form))) _ none in
-    let here = none_of_all (frame_fault form) (enumerate_from 0 (frame_heads file form)) k (0, d) (omega (arith, l, length-enumerate_from 0 (frame_heads file form))) all in
-    let there : get_or (enumerate_from 0 (frame_heads file form)) k (0, d) ≡ (0 + k, get_or (frame_heads file form) k d) = get_or-enumerate_from 0 (frame_heads file form) k (0, d) l in
+    let here = none_of_all (frame_fault form) (enumerate_from 0 (frame_heads file form)) k (0, d)
+    (omega (arith, l, length-enumerate_from 0 (frame_heads file form))) all in
+    let there : get_or (enumerate_from 0 (frame_heads file form)) k (0, d) ≡ (0 + k, get_or (frame_heads file form) k d) =
+    get_or-enumerate_from 0 (frame_heads file form) k (0, d) l in
     let moved = subst (λ (p : ℕ × Head). frame_fault form p ≡ None) there here in
     when_not _ _ (first_gives_none _ _ moved)
 
@@ -99,29 +106,37 @@ not_is_false true e = refl
 not_is_false false e = absurd cc
 
 index_has_size : (file : List ℕ) (form : Form) → compare_fault file form ≡ None → has_index_of form form.frames ≡ true
-index_has_size file form none = not_is_false (has_index_of form form.frames) (when_not _ _ (first_gives_none (IndexBad form.frames when not (has_index_of form form.frames)) _ none))
+index_has_size file form none = not_is_false (has_index_of form form.frames)
+    (when_not _ _ (first_gives_none (IndexBad form.frames when not (has_index_of form form.frames)) _ none))
 
-index_is_walk : (file : List ℕ) (form : Form) (k : ℕ) → k < length (entries file form) → compare_fault file form ≡ None → indexed file form k ≡ entry (entries file form) k
+index_is_walk : (file : List ℕ) (form : Form) (k : ℕ) → k < length (entries file form) → compare_fault file form ≡ None →
+    indexed file form k ≡ entry (entries file form) k
 index_is_walk file form k l none =
     let d : Entry = record { offset = 0; size = 0 } in
     let rule : ℕ × Entry → Option FileFault = λ e. IndexBad e.0 when not (same_entry (indexed file form e.0) e.1) in
     let all = later_gives_none (IndexBad form.frames when not (has_index_of form form.frames)) _ none in
     let here = none_of_all rule (enumerate_from 0 (entries file form)) k (0, d) (omega (arith, l, length-enumerate_from 0 (entries file form))) all in
-    let there : get_or (enumerate_from 0 (entries file form)) k (0, d) ≡ (0 + k, entry (entries file form) k) = get_or-enumerate_from 0 (entries file form) k (0, d) l in
-    let moved : rule (k, entry (entries file form) k) ≡ None = subst (λ (p : ℕ × Entry). rule p ≡ None) (there ∙ ap {B = ℕ × Entry} (λ n. (n, entry (entries file form) k)) (omega arith)) here in
+    let there : get_or (enumerate_from 0 (entries file form)) k (0, d) ≡ (0 + k, entry (entries file form) k) =
+    get_or-enumerate_from 0 (entries file form) k (0, d) l in
+    let moved : rule (k, entry (entries file form) k) ≡ None =
+    subst (λ (p : ℕ × Entry). rule p ≡ None) (there ∙ ap {B = ℕ × Entry} (λ n. (n, entry (entries file form) k)) (omega arith)) here in
     same_is_equal (indexed file form k) (entry (entries file form) k) (not_is_false _ (when_not _ _ moved))
 
 -- ---- so a frame that is there is found by the index without a fault
-pub found_by_index : (file : List ℕ) (form : Form) (k : ℕ) → walk_fault file form ≡ None → compare_fault file form ≡ None → 1 ≤ length (index_heads form) → length (frame_heads file form) ≡ form.frames → k < form.frames → by_index_fault file form k ≡ None
+pub found_by_index : (file : List ℕ) (form : Form) (k : ℕ) → walk_fault file form ≡ None → compare_fault file form ≡ None → 1 ≤ length (index_heads form) →
+    length (frame_heads file form) ≡ form.frames → k < form.frames → by_index_fault file form k ≡ None
 found_by_index file form k walked compared some count l =
     let d : Head = record { id = []; place = 0; size = 0 } in
     let within : k < length (frame_heads file form) = omega (arith, count, l) in
     let long : k < length (entries file form) = omega (arith, within, length-map (frame_heads file form) entry_of) in
     let h = get_or (frame_heads file form) k d in
-    let e : indexed file form k ≡ entry_of h = index_is_walk file form k long compared ∙ get_or-map entry_of (frame_heads file form) k d (record { offset = 0; size = 0 }) within in
+    let e : indexed file form k ≡ entry_of h = index_is_walk file form k long compared
+    ∙ get_or-map entry_of (frame_heads file form) k d (record { offset = 0; size = 0 }) within in
     let missing : (length (index_heads form) == 0) ≡ false = ne_eqb (length (index_heads form)) 0 (λ z. absurd (omega arith)) in
-    let named : names_frame file form (indexed file form k) ≡ true = ap (names_frame file form) e ∙ frame_is_named file form h (frame_stands file form k d within) in
-    let short : ((indexed file form k).size above longest_frame form) ≡ false = ap (λ (e : Entry). e.size above longest_frame form) e ∙ frame_is_short file form k d within walked in
+    let named : names_frame file form (indexed file form k) ≡ true = ap (names_frame file form) e
+    ∙ frame_is_named file form h (frame_stands file form k d within) in
+    let short : ((indexed file form k).size above longest_frame form) ≡ false = ap (λ (e : Entry). e.size above longest_frame form) e
+    ∙ frame_is_short file form k d within walked in
     let sized = index_has_size file form compared in
     rw (missing, sized, named, short) refl
 
@@ -136,13 +151,16 @@ refused_by_form file c none = go (form_fault file) refl none
 no_other : (later : Option FileFault) → None otherwise later ≡ later
 no_other later = refl
 
-by_walk : (file : List ℕ) (k : ℕ) → form_fault file ≡ None → not_walked file (accepted file) ≡ None → refusal (frame k false) file ≡ no_frame k (accepted file).frames
+by_walk : (file : List ℕ) (k : ℕ) → form_fault file ≡ None → not_walked file (accepted file) ≡ None →
+    refusal (frame k false) file ≡ no_frame k (accepted file).frames
 unfolding refusal
 by_walk file k none walked = refused_by_form file (frame k false) none ∙ ap (λ o. o otherwise no_frame k (accepted file).frames) walked
 
-by_index : (file : List ℕ) (k : ℕ) → form_fault file ≡ None → not_coded (accepted file) ≡ None → refusal (frame k true) file ≡ no_frame k (accepted file).frames otherwise by_index_fault file (accepted file) k
+by_index : (file : List ℕ) (k : ℕ) → form_fault file ≡ None → not_coded (accepted file) ≡ None →
+    refusal (frame k true) file ≡ no_frame k (accepted file).frames otherwise by_index_fault file (accepted file) k
 unfolding refusal
-by_index file k none is_coded = refused_by_form file (frame k true) none ∙ ap (λ o. o otherwise no_frame k (accepted file).frames otherwise by_index_fault file (accepted file) k) is_coded
+by_index file k none is_coded = refused_by_form file (frame k true) none
+    ∙ ap (λ o. o otherwise no_frame k (accepted file).frames otherwise by_index_fault file (accepted file) k) is_coded
 
 -- ---- the law
 is_there : (k n : ℕ) → (no_frame k n ≡ None) ⊎ (no_frame k n ≡ Some (Range k n)) → (no_frame k n ≡ None → k < n)
@@ -177,15 +195,32 @@ sound_does : (b : Bool) (file : List ℕ) (form : Form) (k : ℕ) (o : Answer) �
 sound_does true file form k o h = h
 sound_does false file form k o h = h
 
-same_ends : (a b : Bool) (k : ℕ) (file : List ℕ) (o : Answer) → read_frame a file (accepted file) k ≡ read_frame b file (accepted file) k → FrameEnds a k file o → FrameEnds b k file o
+same_ends : (a b : Bool) (k : ℕ) (file : List ℕ) (o : Answer) → read_frame a file (accepted file) k ≡ read_frame b file (accepted file) k →
+    FrameEnds a k file o → FrameEnds b k file o
 same_ends a b k file o e (inl s) =
     let form = accepted file in
-    let runs : run (frame k a) file form ≡ run (frame k b) file form = run_is a file form k ∙ ap {B = List (ℕ × List ℕ)} (λ w. (k, w) ∷ []) e ∙ sym (run_is b file form k) in
-    inl (record { before = s.before; stop = s.stop; behind = s.behind; is_run = sym runs ∙ s.is_run; fault = s.fault; refuses = s.refuses; first = s.first; out = s.out; written = s.written; answer = s.answer })
+    let runs : run (frame k a) file form ≡ run (frame k b) file form = run_is a file form k ∙ ap {B = List (ℕ × List ℕ)} (λ w. (k, w) ∷ []) e
+    ∙ sym (run_is b file form k) in
+    inl (record {
+      before = s.before;
+      stop = s.stop;
+      behind = s.behind;
+      is_run = sym runs ∙ s.is_run;
+      fault = s.fault;
+      refuses = s.refuses;
+      first = s.first;
+      out = s.out;
+      written = s.written;
+      answer = s.answer;
+    })
 same_ends a b k file o e (inr h) =
     let form = accepted file in
-    let runs : run (frame k a) file form ≡ run (frame k b) file form = run_is a file form k ∙ ap {B = List (ℕ × List ℕ)} (λ w. (k, w) ∷ []) e ∙ sym (run_is b file form k) in
-    inr (subst (NoneRefused (frame k b) form) runs h.0, sound_does b file form k o (same_sound form k (read_frame a file form k) (read_frame b file form k) o e (does_sound a file form k o h.1)))
+    let runs : run (frame k a) file form ≡ run (frame k b) file form = run_is a file form k ∙ ap {B = List (ℕ × List ℕ)} (λ w. (k, w) ∷ []) e
+    ∙ sym (run_is b file form k) in
+    inr (
+      subst (NoneRefused (frame k b) form) runs h.0,
+      sound_does b file form k o (same_sound form k (read_frame a file form k) (read_frame b file form k) o e (does_sound a file form k o h.1)),
+    )
 
 pub same_by_index : SameByIndexLaw
 same_by_index k file coded indexes o =
@@ -206,7 +241,8 @@ same_by_index k file coded indexes o =
     same_frame l =
         let rules = no_rule_fails file coded.1 in
         let walked = later_gives_none (not_coded (accepted file)) (walk_fault file (accepted file)) rules.1 in
-        let long : k < length (entries file (accepted file)) = omega (arith, l, count_is_right file (accepted file) walked, length-map (frame_heads file (accepted file)) entry_of) in
+        let long : k < length (entries file (accepted file)) =
+        omega (arith, l, count_is_right file (accepted file) walked, length-map (frame_heads file (accepted file)) entry_of) in
         ap (frame_at file) (index_is_walk file (accepted file) k long indexes.1)
 
     go : (no_frame k (accepted file).frames ≡ None) ⊎ (no_frame k (accepted file).frames ≡ Some (Range k (accepted file).frames)) →
@@ -225,5 +261,6 @@ same_by_index k file coded indexes o =
         let f = walk ∙ within in
         let e = same_frame l in (
           (λ h. subst (λ r. OfCommand (frame k false) file r o) (sym f) (same_ends true false k file o e (subst (λ r. OfCommand (frame k true) file r o) t h))),
-          (λ h. subst (λ r. OfCommand (frame k true) file r o) (sym t) (same_ends false true k file o (sym e) (subst (λ r. OfCommand (frame k false) file r o) f h))),
+          (λ h. subst (λ r. OfCommand (frame k true) file r o) (sym t)
+              (same_ends false true k file o (sym e) (subst (λ r. OfCommand (frame k false) file r o) f h))),
         )

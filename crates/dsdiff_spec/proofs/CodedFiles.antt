@@ -1,13 +1,15 @@
 -- What a file has that is accepted for decoding: frames of a lawful shape, as many as are told, and as many as its
 -- sound needs.
 use Rattle.std.proofs.lemmas.Bool.{ltb-false}
-use Rattle.std.proofs.Common.{◌≡◌, inl, inr, ℕ, zero, suc, ◌+◌, ◌-◌, ◌*◌, ◌%◌, ◌<◌, ◌≤◌, ◌==◌, Bool, true, false, List, [], ◌∷◌, length, take, drop, map, refl, ap, sym, ◌∙◌, arith, Option, Some, None, Result, Ok, Err, eqb-true}
+use Rattle.std.proofs.Common.{◌≡◌, inl, inr, ℕ, zero, suc, ◌+◌, ◌-◌, ◌*◌, ◌%◌, ◌<◌, ◌≤◌, ◌==◌, Bool, true, false, List, [], ◌∷◌, length, take, drop, map, refl}
+use Rattle.std.proofs.Common.{ap, sym, ◌∙◌, arith, Option, Some, None, Result, Ok, Err, eqb-true}
 use Rattle.std.specs.Prelude.{not, ◌||◌}
 use Rattle.std.specs.List.{AllByRecursion}
 use Rattle.std.proofs.lemmas.List.{length-map}
 use Rattle.std.proofs.Math.Nat.{mul-le-mul, mul-le-mul_right, div-add-mod}
 use Rattle.dst_spec.specs.Bits.{AreBytes}
 use Rattle.dst_spec.specs.Sample.{Shape, IsShape, sound_bytes}
+use Rattle.dst_spec.proofs.Lists.{AreBytes-take, AreBytes-drop}
 use Rattle.dsdiff_spec.specs.Faults.{◌when◌, ◌otherwise◌, first_some}
 use Rattle.dsdiff_spec.specs.Bytes.{◌above◌}
 use Rattle.dsdiff_spec.specs.Chunks.{Head}
@@ -15,14 +17,15 @@ use Rattle.dsdiff_spec.specs.Form.{Kind, plain, coded, is_plain, Origin, Form, s
 use Rattle.dsdiff_spec.specs.Parts.{all, prop, kind, frame_count, channel_count, multiple, sound_bytes_in}
 use Rattle.dsdiff_spec.specs.Origin.{origin_of, is_bad_origin}
 use Rattle.dsdiff_spec.specs.Chunks.{body_of}
-use Rattle.dsdiff_spec.specs.Rules.{opening_fault, version_fault, prop_fault, sound_fault, kind_fault, form_fault, coded_fault, accepted, form_of_kind, has_bad_origin, origin_in}
+use Rattle.dsdiff_spec.specs.Rules.{opening_fault, version_fault, prop_fault, sound_fault, kind_fault, form_fault, coded_fault, accepted, form_of_kind}
+use Rattle.dsdiff_spec.specs.Rules.{has_bad_origin, origin_in}
 use Rattle.dsdiff_spec.specs.Walk.{Entry, entry_of, frame_heads, entries, frame_at, in_dst, frame_fault, walk_fault}
 use Rattle.dsdiff_spec.specs.Decoded.{frames_of}
 use Rattle.dsdiff_spec.specs.Words.{Command, decode}
 use Rattle.dsdiff_spec.specs.Refusal.{not_walked, not_coded, command_fault, refusal}
 use Rattle.dsdiff_spec.specs.declared.faults.FileFault.{FileFault}
 use Rattle.dsdiff_spec.specs.declared.faults.FileFault.TheVariants.{CountDiffers, TooManyFrames, KeptBad}
-use Rattle.dsdiff_spec.proofs.Lawful.{first_gives_none, later_gives_none, when_not, form_has_a_shape}
+use Rattle.dsdiff_spec.proofs.Lawful.{first_gives_none, later_gives_none, when_not, form_has_a_shape, right_is_false}
 
 pub record IsDecodable (file : List ℕ) (form : Form) : Type 0 where
   pub coded : form.kind ≡ coded
@@ -61,10 +64,6 @@ pub is_coded_kind : (k : Kind) → is_plain k ≡ false → k ≡ coded
 is_coded_kind plain e = absurd cc
 is_coded_kind coded e = refl
 
-last_is_false : (a b : Bool) → (a || b) ≡ false → b ≡ false
-last_is_false true b p = absurd cc
-last_is_false false b p = p
-
 not_false : (b : Bool) → not b ≡ false → b ≡ true
 not_false true q = refl
 not_false false q = absurd cc
@@ -74,7 +73,8 @@ pub count_is_right : (file : List ℕ) (form : Form) → walk_fault file form �
 unfolding walk_fault
 count_is_right file form h =
     let count = CountDiffers form.frames (length (frame_heads file form)) when not (length (frame_heads file form) == form.frames) in
-    let none = later_gives_none (in_dst file form).fault count (later_gives_none (first_some (frame_fault form) _) ((in_dst file form).fault otherwise count) h) in
+    let none = later_gives_none (in_dst file form).fault count
+    (later_gives_none (first_some (frame_fault form) _) ((in_dst file form).fault otherwise count) h) in
     eqb-true (length (frame_heads file form)) form.frames (not_false _ (when_not _ _ none))
 
 length-frames : (file : List ℕ) (form : Form) → length (frames_of file form) ≡ length (frame_heads file form)
@@ -109,7 +109,8 @@ at_most_a_million plain file e h = absurd cc
 at_most_a_million coded file e h =
     let last = KeptBad when has_bad_origin file in
     let middle = (TooManyFrames when frame_count file above 1000000) otherwise last in
-    let not_above = when_not TooManyFrames (frame_count file above 1000000) (first_gives_none (TooManyFrames when frame_count file above 1000000) last (later_gives_none _ middle h)) in
+    let not_above = when_not TooManyFrames (frame_count file above 1000000)
+    (first_gives_none (TooManyFrames when frame_count file above 1000000) last (later_gives_none _ middle h)) in
     ltb-false 1000000 (frame_count file) not_above
 
 origin_is_lawful : (file : List ℕ) (heads : List Head) (origin : Origin) → origin_in file heads ≡ Some origin →
@@ -119,7 +120,7 @@ origin_is_lawful file [] origin e h = absurd cc
 origin_is_lawful file (a ∷ []) origin e h =
     let same : origin_of (body_of file a) ≡ origin = cc in
     ap (λ k. frames_for (sound_bytes_in (prop file)) k.sound) (sym same)
-    ∙ eqb-true (frames_for (sound_bytes_in (prop file)) (origin_of (body_of file a)).sound) (frame_count file) (not_false _ (last_is_false _ _ h))
+    ∙ eqb-true (frames_for (sound_bytes_in (prop file)) (origin_of (body_of file a)).sound) (frame_count file) (not_false _ (right_is_false _ _ h))
 origin_is_lawful file (a ∷ b ∷ hs) origin e h = absurd cc
 
 sound_is_needed : (file : List ℕ) → 0 < sound_bytes_in (prop file) → (k : Kind) → k ≡ coded → kind_fault k file ≡ None →
@@ -128,7 +129,8 @@ sound_is_needed : (file : List ℕ) → 0 < sound_bytes_in (prop file) → (k : 
 sound_is_needed file h plain e none = absurd cc
 sound_is_needed file h coded e none =
     let n = sound_bytes_in (prop file) in
-    size_is_needed (origin_in file (all "KEPT" file)) n (frame_count file) h (λ kept is. origin_is_lawful file (all "KEPT" file) kept is (no_bad_origin file none))
+    size_is_needed (origin_in file (all "KEPT" file)) n (frame_count file) h
+    (λ kept is. origin_is_lawful file (all "KEPT" file) kept is (no_bad_origin file none))
 
 -- a frame has some sound
 pub some_bytes : (f : Shape) → IsShape f → 0 < sound_bytes f
@@ -144,8 +146,17 @@ is_decodable file h =
     let walked = later_gives_none (not_coded (accepted file)) (walk_fault file (accepted file)) none.1 in
     let is_coded = is_coded_kind (kind file) (when_not _ _ (first_gives_none (not_coded (accepted file)) (walk_fault file (accepted file)) none.1)) in
     let shape = form_has_a_shape file none.0 in
-    let size = sound_is_needed file (some_bytes (shape_of (channel_count (prop file)) (multiple (prop file))) shape) (kind file) is_coded (kind_gives_none file none.0) in
-    record { coded = is_coded; shape = shape; most = at_most_a_million (kind file) file is_coded (kind_gives_none file none.0); frames = length-frames file (accepted file) ∙ count_is_right file (accepted file) walked; fits = size.0; reached = size.1 }
+    let size = sound_is_needed file (some_bytes (shape_of (channel_count (prop file)) (multiple (prop file))) shape) (kind file) is_coded
+    (kind_gives_none file none.0) in
+    record {
+      coded = is_coded;
+      shape = shape;
+      most = at_most_a_million (kind file) file is_coded (kind_gives_none file none.0);
+      frames =
+          length-frames file (accepted file) ∙ count_is_right file (accepted file) walked;
+      fits = size.0;
+      reached = size.1;
+    }
 
 -- so no sound is longer than a million frames of six channels at the greatest rate
 pub longest_sound_of_frame : (f : Shape) → IsShape f → sound_bytes f ≤ 112896
@@ -162,19 +173,9 @@ longest_sound file form d =
     omega (arith, d.fits)
 
 -- ---- the frames are bytes, as parts of the file
-pub bytes_taken : (n : ℕ) (xs : List ℕ) → AreBytes xs → AreBytes (take n xs)
-bytes_taken zero xs h = tt
-bytes_taken (suc n) [] h = tt
-bytes_taken (suc n) (x ∷ xs) h = (h.0, bytes_taken n xs h.1)
-
-pub bytes_dropped : (n : ℕ) (xs : List ℕ) → AreBytes xs → AreBytes (drop n xs)
-bytes_dropped zero xs h = h
-bytes_dropped (suc n) [] h = tt
-bytes_dropped (suc n) (x ∷ xs) h = bytes_dropped n xs h.1
-
 pub frames_are_bytes : (file : List ℕ) (form : Form) → AreBytes file → AllByRecursion AreBytes (frames_of file form)
 frames_are_bytes file form h = each (entries file form)
   where
     each : (es : List Entry) → AllByRecursion AreBytes (map (frame_at file) es)
     each [] = tt
-    each (e ∷ es) = (bytes_taken e.size (drop e.offset file) (bytes_dropped e.offset file h), each es)
+    each (e ∷ es) = (AreBytes-take e.size (drop e.offset file) (AreBytes-drop e.offset file h), each es)

@@ -1,5 +1,6 @@
 -- What is true of the chunks that are found in a part of a file.
-use Rattle.std.proofs.Common.{◌≡◌, ◌⊎◌, ℕ, zero, suc, ◌+◌, ◌-◌, ◌*◌, ◌<◌, ◌≤◌, min, List, [], ◌∷◌, ◌++◌, length, take, drop, flat_map, Bool, true, false, Some, None, refl, append-nil, sym, ap, ◌∙◌, subst, inl, inr, arith}
+use Rattle.std.proofs.Common.{◌≡◌, ◌⊎◌, ℕ, zero, suc, ◌+◌, ◌-◌, ◌*◌, ◌<◌, ◌≤◌, min, List, [], ◌∷◌, ◌++◌, length, take, drop, flat_map, Bool, true, false, Some}
+use Rattle.std.proofs.Common.{None, refl, append-nil, sym, ap, ◌∙◌, subst, inl, inr, arith}
 use Rattle.std.specs.Prelude.{⊤}
 use Rattle.std.specs.List.{AllByRecursion}
 use Rattle.std.proofs.lemmas.Bool.{cases_lt, cases_Bool}
@@ -16,7 +17,8 @@ module _ (m : List ℕ → Bool) (file : List ℕ) (end : ℕ) (P : ℕ → ℕ 
     (at_end : (most place : ℕ) → end ≤ place → P most place (nothing None))
     (at_limit : (place : ℕ) → place < end → P zero place (nothing (Some TooManyChunks)))
     (at_misfit : (most place : ℕ) → place < end → fits m end (head_at file place) ≡ false → P (suc most) place (nothing (Some (Overrun place))))
-    (at_chunk : (most place : ℕ) (later : Found) → place < end → fits m end (head_at file place) ≡ true → P most (next_place (head_at file place)) later → P (suc most) place (with_head (head_at file place) later))
+    (at_chunk : (most place : ℕ) (later : Found) → place < end → fits m end (head_at file place) ≡ true → P most (next_place (head_at file place)) later →
+    P (suc most) place (with_head (head_at file place) later))
   where
     pub found_by : (most place : ℕ) → P most place (chunks_from m file end most place)
     found_by zero place = elim (cases_lt place end) [
@@ -80,7 +82,8 @@ found_to_a_fault m file end most place fault =
 abbrev pub Stands : List ℕ → ℕ → ℕ → Head → Type 0
 Stands file end place h = (h ≡ head_at file h.place) × (place ≤ h.place) × (body_end h ≤ end)
 
-stand_from : (m : List ℕ → Bool) (file : List ℕ) (end start place : ℕ) (hs : List Head) → start ≤ place → Follow m file end place hs → AllByRecursion (Stands file end start) hs
+stand_from : (m : List ℕ → Bool) (file : List ℕ) (end start place : ℕ) (hs : List Head) → start ≤ place → Follow m file end place hs →
+    AllByRecursion (Stands file end start) hs
 stand_from m file end start place [] le all = tt
 stand_from m file end start place (h ∷ hs) le (l, is_here, fit, all) =
     let same : h.place ≡ place = ap (λ i. i.place) is_here in (

@@ -45,7 +45,8 @@ one rest = 1 ∷ replicate 8 0 ++ rest
 abbrev two : List ℕ → List ℕ → List ℕ
 two kept_length rest = 2 ∷ replicate 9 0 ++ kept_length ++ rest
 
-pub versions : map (is_bad_origin 1 4704 0) ([] ∷ (0 ∷ replicate 8 0 ++ cmpr "DSD ") ∷ one (cmpr "DSD ") ∷ two (replicate 4 0) (cmpr "DSD ") ∷ (3 ∷ replicate 13 0 ++ cmpr "DSD ") ∷ [])
+pub versions : map (is_bad_origin 1 4704 0)
+    ([] ∷ (0 ∷ replicate 8 0 ++ cmpr "DSD ") ∷ one (cmpr "DSD ") ∷ two (replicate 4 0) (cmpr "DSD ") ∷ (3 ∷ replicate 13 0 ++ cmpr "DSD ") ∷ [])
     ≡ true ∷ true ∷ false ∷ false ∷ true ∷ []
 versions = refl
 

@@ -7,8 +7,10 @@ use Rattle.dsdiff_spec.specs.Faults.{◌when◌, ◌otherwise◌}
 use Rattle.dsdiff_spec.specs.Chunks.{body_place}
 use Rattle.dsdiff_spec.specs.Form.{shape, shape_of}
 use Rattle.dsdiff_spec.specs.Parts.{prop_head, prop, in_prop, rate, channel_count, multiple, kind}
-use Rattle.dsdiff_spec.specs.Rules.{opening_fault, version_fault, prop_chunk_fault, local_fault, type_fault, moved, rate_fault, channels_fault, compression_fault, prop_fault, sound_fault, kind_fault, form_fault, accepted, is_rate}
+use Rattle.dsdiff_spec.specs.Rules.{opening_fault, version_fault, prop_chunk_fault, local_fault, type_fault, moved, rate_fault, channels_fault}
+use Rattle.dsdiff_spec.specs.Rules.{compression_fault, prop_fault, sound_fault, kind_fault, form_fault, accepted, is_rate}
 use Rattle.dsdiff_spec.specs.declared.faults.FileFault.{FileFault}
+use Rattle.dsdiff_spec.specs.declared.faults.FileFault.TheVariants.{Overrun}
 
 -- where a chain of rules gives no fault, no rule of it does, and nothing at which a rule's fault comes holds
 pub first_gives_none : (a b : Option FileFault) → a otherwise b ≡ None → a ≡ None
@@ -23,13 +25,18 @@ pub when_not : (f : FileFault) (b : Bool) → (f when b) ≡ None → b ≡ fals
 when_not f true p = absurd cc
 when_not f false p = refl
 
-left_is_false : (a b : Bool) → (a || b) ≡ false → a ≡ false
+pub left_is_false : (a b : Bool) → (a || b) ≡ false → a ≡ false
 left_is_false true b p = absurd cc
 left_is_false false b p = refl
 
-right_is_false : (a b : Bool) → (a || b) ≡ false → b ≡ false
+pub right_is_false : (a b : Bool) → (a || b) ≡ false → b ≡ false
 right_is_false true b p = absurd cc
 right_is_false false b p = p
+
+pub moved_none : (start : ℕ) (fault : Option FileFault) → moved start fault ≡ None → fault ≡ None
+moved_none start None e = refl
+moved_none start (Some (Overrun place)) e = absurd cc
+moved_none start (Some fault) e = absurd cc
 
 prop_gives_none : (file : List ℕ) → form_fault file ≡ None → prop_fault file ≡ None
 unfolding form_fault
@@ -44,7 +51,8 @@ local_gives_none : (file : List ℕ) → form_fault file ≡ None → local_faul
 local_gives_none file p =
     later_gives_none (prop_chunk_fault file) (local_fault (body_place (prop_head file)) (prop file)) (prop_gives_none file p)
 
-fields_give_none : (start : ℕ) (body : List ℕ) → local_fault start body ≡ None → rate_fault body otherwise channels_fault body otherwise compression_fault body ≡ None
+fields_give_none : (start : ℕ) (body : List ℕ) → local_fault start body ≡ None →
+    rate_fault body otherwise channels_fault body otherwise compression_fault body ≡ None
 fields_give_none start body p =
     let fields = rate_fault body otherwise channels_fault body otherwise compression_fault body in
     later_gives_none (moved start (in_prop body).fault) fields

@@ -36,3 +36,4 @@ pub mod Shown
 pub mod Progress
 pub mod OneRow
 pub mod InOrder
+pub mod SoundPieces

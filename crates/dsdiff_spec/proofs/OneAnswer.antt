@@ -3,17 +3,19 @@ use Rattle.std.proofs.Common.{◌≡◌, ◌⊎◌, ℕ, Bool, true, false, if�
 use Rattle.std.specs.Prelude.{⊤, bytes_eq, codes, option_map}
 use Rattle.std.specs.List.{AllByRecursion}
 use Rattle.dst_spec.specs.Bits.{AreBytes}
+use Rattle.dst_spec.proofs.Lists.{AreBytes-take, AreBytes-drop}
 use Rattle.dsdiff_spec.specs.Faults.{first_some}
 use Rattle.dsdiff_spec.specs.Form.{Form, Kind, plain, coded, shape}
 use Rattle.dsdiff_spec.specs.Rules.{form_fault, accepted}
 use Rattle.dsdiff_spec.specs.Walk.{Entry, frame_at}
-use Rattle.dsdiff_spec.specs.Words.{Word, Command, Task, encode, decode, cut, frame, check, show, show_frame, index, make, make_run, encode_dsf, decode_dsf, range, read_slots}
+use Rattle.dsdiff_spec.specs.Words.{Word, Command, Task, encode, decode, cut, frame, check, show, show_frame, index, make, make_run, encode_dsf, decode_dsf}
+use Rattle.dsdiff_spec.specs.Words.{range, read_slots}
 use Rattle.dsdiff_spec.specs.Rows.{Row, rows, task_with, row_task, task_behind, frame_of, show_frame_of, task_of, command_of}
 use Rattle.dsdiff_spec.specs.Refusal.{form_refusal, refusal}
 use Rattle.dsdiff_spec.specs.Outcome.{not_understood, file_refused, frames_if_coded, nth_frame, indexed_frame, IsStopped, IsDone, OfCommand, OfWords}
 use Rattle.dsdiff_spec.specs.Laws.{OneOutcomeLaw}
 use Rattle.dsdiff_spec.specs.declared.faults.FileFault.{FileFault}
-use Rattle.dsdiff_spec.proofs.CodedFiles.{bytes_taken, bytes_dropped, frames_are_bytes, form_by, refused_by}
+use Rattle.dsdiff_spec.proofs.CodedFiles.{frames_are_bytes, form_by, refused_by}
 use Rattle.dsdiff_spec.proofs.Lawful.{form_has_a_shape}
 use Rattle.dsdiff_spec.proofs.Stopping.{One, one_of_run}
 use Rattle.dsdiff_spec.proofs.Settling.{frame_is_settled, checked_are_settled, shown_is_settled, one_sound, one_list, one_check, one_line}
@@ -118,21 +120,24 @@ form_is_accepted c file h = go (form_fault file) refl h
     go (Some fault) e k = absurd cc
     go None e k = e
 
-answered : (c : Command) (file : List ℕ) (r : Option FileFault) → (r ≡ None → One (λ o. IsStopped c file (accepted file) o ⊎ IsDone c file (accepted file) o)) → One (OfCommand c file r)
+answered : (c : Command) (file : List ℕ) (r : Option FileFault) →
+    (r ≡ None → One (λ o. IsStopped c file (accepted file) o ⊎ IsDone c file (accepted file) o)) → One (OfCommand c file r)
 answered c file (Some fault) h = (file_refused fault, refl, λ other o. o)
 answered c file None h = h refl
 
 bytes_of_entry : (file : List ℕ) (e : Entry) → AreBytes file → AreBytes (frame_at file e)
-bytes_of_entry file e h = bytes_taken e.size _ (bytes_dropped e.offset file h)
+bytes_of_entry file e h = AreBytes-take e.size _ (AreBytes-drop e.offset file h)
 
 writing_has_one_outcome : (k : ℕ) (b : Bool) (file : List ℕ) → AreBytes file → One (OfCommand (frame k b) file (refusal (frame k b) file))
 unfolding refusal
 writing_has_one_outcome k false file bytes = answered (frame k false) file (form_refusal (frame k false) file) (λ none.
     one_of_run (frame k false) file (accepted file) (frame_is_settled k false _ _, tt) (λ j. (refl, λ out e. e))
-    (λ never. one_sound (accepted file) k (nth_frame file (accepted file) k) (form_has_a_shape file (form_is_accepted (frame k false) file none)) (bytes_of_entry file _ bytes) never.0))
+    (λ never. one_sound (accepted file) k (nth_frame file (accepted file) k) (form_has_a_shape file (form_is_accepted (frame k false) file none))
+    (bytes_of_entry file _ bytes) never.0))
 writing_has_one_outcome k true file bytes = answered (frame k true) file (form_refusal (frame k true) file) (λ none.
     one_of_run (frame k true) file (accepted file) (frame_is_settled k true _ _, tt) (λ j. (refl, λ out e. e))
-    (λ never. one_sound (accepted file) k (indexed_frame file (accepted file) k) (form_has_a_shape file (form_is_accepted (frame k true) file none)) (bytes_of_entry file _ bytes) never.0))
+    (λ never. one_sound (accepted file) k (indexed_frame file (accepted file) k) (form_has_a_shape file (form_is_accepted (frame k true) file none))
+    (bytes_of_entry file _ bytes) never.0))
 
 checked_frames_are_bytes : (k : Kind) (file : List ℕ) (form : Form) → AreBytes file → AllByRecursion AreBytes (frames_if_coded k file form)
 checked_frames_are_bytes plain file form h = tt
@@ -144,21 +149,25 @@ checking_has_one_outcome file bytes = answered check file (form_refusal check fi
     let form = accepted file in
     let frames = frames_if_coded form.kind file form in
     one_of_run check file form (checked_are_settled form 0 frames) (λ j. (refl, λ out e. e))
-    (λ never. one_check form frames (one_list (shape form) 0 frames (form_has_a_shape file (form_is_accepted check file none)) (checked_frames_are_bytes form.kind file form bytes) never)))
+    (λ never. one_check form frames (one_list (shape form) 0 frames (form_has_a_shape file (form_is_accepted check file none))
+    (checked_frames_are_bytes form.kind file form bytes) never)))
 
 showing_has_one_outcome : (file : List ℕ) → AreBytes file → One (OfCommand show file (refusal show file))
 unfolding refusal
-showing_has_one_outcome file bytes = answered show file (form_refusal show file) (λ none. one_of_run show file (accepted file) tt (λ j. (refl, λ out e. e)) (λ never. (_, refl, λ other e. e)))
+showing_has_one_outcome file bytes = answered show file (form_refusal show file)
+    (λ none. one_of_run show file (accepted file) tt (λ j. (refl, λ out e. e)) (λ never. (_, refl, λ other e. e)))
 
 showing_a_frame_has_one_outcome : (k : ℕ) (file : List ℕ) → AreBytes file → One (OfCommand (show_frame k) file (refusal (show_frame k) file))
 unfolding refusal
 showing_a_frame_has_one_outcome k file bytes = answered (show_frame k) file (form_refusal (show_frame k) file) (λ none.
     one_of_run (show_frame k) file (accepted file) (shown_is_settled k _ _, tt) (λ j. (refl, λ out e. e))
-    (λ never. one_line (accepted file) k (nth_frame file (accepted file) k) (form_has_a_shape file (form_is_accepted (show_frame k) file none)) (bytes_of_entry file _ bytes) never.0))
+    (λ never. one_line (accepted file) k (nth_frame file (accepted file) k) (form_has_a_shape file (form_is_accepted (show_frame k) file none))
+    (bytes_of_entry file _ bytes) never.0))
 
 listing_has_one_outcome : (file : List ℕ) → AreBytes file → One (OfCommand index file (refusal index file))
 unfolding refusal
-listing_has_one_outcome file bytes = answered index file (form_refusal index file) (λ none. one_of_run index file (accepted file) tt (λ j. (refl, λ out e. e)) (λ never. (_, refl, λ other e. e)))
+listing_has_one_outcome file bytes = answered index file (form_refusal index file)
+    (λ none. one_of_run index file (accepted file) tt (λ j. (refl, λ out e. e)) (λ never. (_, refl, λ other e. e)))
 
 -- commands of whose run no frame is refused, and whose answer is named
 coding_has_one_outcome : (level : ℕ) (file : List ℕ) → One (OfCommand (encode level) file (refusal (encode level) file))

@@ -1,5 +1,6 @@
 -- Decoding a file has one outcome.
-use Rattle.std.proofs.Common.{◌≡◌, ◌⊎◌, inl, inr, ℕ, zero, suc, ◌+◌, ◌<◌, List, [], ◌∷◌, ◌++◌, length, take, drop, get_or, refl, ap, sym, subst, ◌∙◌, arith, length-append, take_at, take-append-drop, Option, Some, None}
+use Rattle.std.proofs.Common.{◌≡◌, ◌⊎◌, inl, inr, ℕ, zero, suc, ◌+◌, ◌<◌, List, [], ◌∷◌, ◌++◌, length, take, drop, get_or, refl, ap, sym, subst, ◌∙◌, arith}
+use Rattle.std.proofs.Common.{length-append, take_at, take-append-drop, Option, Some, None}
 use Rattle.std.specs.List.{AllByRecursion, enumerate_from}
 use Rattle.std.proofs.lemmas.List.{get_or_at, get_or_default}
 use Rattle.std.proofs.lemmas.List.FromFn.{length-enumerate_from, get_or-enumerate_from}
@@ -7,6 +8,7 @@ use Rattle.std.proofs.Math.Seq.{drop-cons}
 use Rattle.dst_spec.specs.Bits.{AreBytes}
 use Rattle.dst_spec.specs.Sample.{Shape, IsShape}
 use Rattle.dst_spec.specs.declared.faults.FrameFault.{FrameFault}
+use Rattle.dst_spec.proofs.Lists.{all_take, get_all}
 use Rattle.dsdiff_spec.specs.Form.{Form, shape, size_of_sound}
 use Rattle.dsdiff_spec.specs.Rules.{accepted}
 use Rattle.dsdiff_spec.specs.Decoded.{Plain, Before, frames_of, decoded, decoded_before_frame}
@@ -16,10 +18,12 @@ use Rattle.dsdiff_spec.specs.Lines.{decoded_line}
 use Rattle.dsdiff_spec.specs.Outcome.{Answer, done, file_refused, frame_refused, Refuses, NoneRefused, IsStopped, IsDone, OfCommand}
 use Rattle.dsdiff_spec.specs.declared.faults.FileFault.{FileFault}
 use Rattle.dsdiff_spec.proofs.CodedFiles.{is_decodable, frames_are_bytes}
-use Rattle.dsdiff_spec.proofs.Verdicts.{NotRefused, IsAnswered, frame_is_answered, AreAnswered, NoneOf, StopsAt, verdict, all_taken, one_of_all, one_list, one_stop, one_fault}
+use Rattle.dsdiff_spec.specs.Progress.{NotRefused, NoneOf}
+use Rattle.dsdiff_spec.proofs.Verdicts.{IsAnswered, frame_is_answered, AreAnswered, StopsAt, verdict, one_list, one_stop, one_fault}
 
 -- ---- the run of a command has each frame with its number
-pub none_of_numbered : (c : Command) (form : Form) (n : ℕ) (frames : List (List ℕ)) → NoneRefused c form (enumerate_from n frames) → NoneOf c (shape form) frames
+pub none_of_numbered : (c : Command) (form : Form) (n : ℕ) (frames : List (List ℕ)) → NoneRefused c form (enumerate_from n frames) →
+    NoneOf c (shape form) frames
 none_of_numbered c form n [] h = tt
 none_of_numbered c form n (x ∷ xs) h = (h.0, none_of_numbered c form (n + 1) xs h.1)
 
@@ -41,11 +45,13 @@ pub record IsStoppedAt (file : List ℕ) (form : Form) (o : Answer) : Type 0 whe
   pub written : Before file form k out
   pub answer : o ≡ frame_refused k fault out
 
-number_of_stop : (n : ℕ) (frames : List (List ℕ)) (before : List (ℕ × List ℕ)) (stop : ℕ × List ℕ) (behind : List (ℕ × List ℕ)) → enumerate_from n frames ≡ before ++ stop ∷ behind →
+number_of_stop : (n : ℕ) (frames : List (List ℕ)) (before : List (ℕ × List ℕ)) (stop : ℕ × List ℕ) (behind : List (ℕ × List ℕ)) →
+    enumerate_from n frames ≡ before ++ stop ∷ behind →
     (length before < length frames) × (stop.0 ≡ n + length before) × (stop.1 ≡ get_or frames (length before) [])
 number_of_stop n frames before stop behind e =
     let k = length before in
-    let long : length frames ≡ length before + length (stop ∷ behind) = sym (length-enumerate_from n frames) ∙ ap length e ∙ length-append before (stop ∷ behind) in
+    let long : length frames ≡ length before + length (stop ∷ behind) = sym (length-enumerate_from n frames) ∙ ap length e
+    ∙ length-append before (stop ∷ behind) in
     let within : k < length frames = omega arith in
     let there : get_or (enumerate_from n frames) k stop ≡ stop = ap (λ l. get_or l k stop) e ∙ get_or_at before stop behind stop k refl in
     let here : (n + k, get_or frames k stop.1) ≡ stop = sym (get_or-enumerate_from n frames k stop within) ∙ there in
@@ -57,7 +63,8 @@ to_number file form o s =
     let k = length s.before in
     let at = number_of_stop 0 frames s.before s.stop s.behind s.is_run in
     let number : s.stop.0 ≡ k = omega (arith, at.1) in
-    let front : s.before ≡ enumerate_from 0 (take k frames) = sym (take_at s.before (s.stop ∷ s.behind) k refl) ∙ ap (take k) (sym s.is_run) ∙ take-numbered k 0 frames in
+    let front : s.before ≡ enumerate_from 0 (take k frames) = sym (take_at s.before (s.stop ∷ s.behind) k refl) ∙ ap (take k) (sym s.is_run)
+    ∙ take-numbered k 0 frames in
     record {
       k = k;
       fault = s.fault;
@@ -77,7 +84,8 @@ by_number file form o s =
     let k = s.k in
     let all = enumerate_from 0 frames in
     let within : k < length all = omega (arith, s.stops.within, length-enumerate_from 0 frames) in
-    let here : get_or all k (0, []) ≡ (k, get_or frames k []) = get_or-enumerate_from 0 frames k (0, []) s.stops.within ∙ ap {B = ℕ × List ℕ} (λ i. (i, get_or frames k [])) (omega arith) in
+    let here : get_or all k (0, []) ≡ (k, get_or frames k []) = get_or-enumerate_from 0 frames k (0, []) s.stops.within
+    ∙ ap {B = ℕ × List ℕ} (λ i. (i, get_or frames k [])) (omega arith) in
     record {
       before = take k all;
       stop = (k, get_or frames k []);
@@ -96,7 +104,8 @@ pub one_before : (file : List ℕ) (form : Form) (k : ℕ) (out other : List ℕ
     NoneOf decode (shape form) (take k (frames_of file form)) → Before file form k out → Before file form k other → out ≡ other
 one_before file form k out other answered none a b =
     let frames = take k (frames_of file form) in
-    let same = one_list decode (shape form) frames a.sounds b.sounds (all_taken (IsAnswered decode (shape form)) k (frames_of file form) answered) none a.each b.each in
+    let same = one_list decode (shape form) frames a.sounds b.sounds
+    (all_take (IsAnswered decode (shape form)) k (frames_of file form) answered) none a.each b.each in
     a.written ∙ ap (λ sounds. decoded_before_frame sounds file form) same ∙ sym b.written
 
 pub one_plain : (file : List ℕ) (form : Form) (out other : List ℕ) → AreAnswered decode (shape form) (frames_of file form) →
@@ -120,7 +129,8 @@ same_stop file form a b answered s t =
     let frames = frames_of file form in
     let number = one_stop c f frames s.k t.k s.fault t.fault s.stops t.stops in
     let moved = subst (λ k. StopsAt c f frames k s.fault) number s.stops in
-    let fault = one_fault c f (get_or frames t.k []) s.fault t.fault (one_of_all (IsAnswered c f) frames t.k [] answered t.stops.within) moved.refuses t.stops.refuses in
+    let fault = one_fault c f (get_or frames t.k []) s.fault t.fault
+    (get_all (IsAnswered c f) frames t.k [] answered t.stops.within) moved.refuses t.stops.refuses in
     let out = one_before file form t.k s.out t.out answered t.stops.first (subst (λ k. Before file form k s.out) number s.written) t.written in
     s.answer
     ∙ ap (λ k. frame_refused k s.fault s.out) number
@@ -129,13 +139,15 @@ same_stop file form a b answered s t =
     ∙ sym t.answer
 
 never_both : (file : List ℕ) (form : Form) (o : Answer) → IsStoppedAt file form o → NoneOf decode (shape form) (frames_of file form) → ⊥
-never_both file form o s none = one_of_all (NotRefused decode (shape form)) (frames_of file form) s.k [] none s.stops.within s.fault s.stops.refuses
+never_both file form o s none = get_all (NotRefused decode (shape form)) (frames_of file form) s.k [] none s.stops.within s.fault s.stops.refuses
 
 one_outcome_of_form : (file : List ℕ) (form : Form) (a b : Answer) → AreAnswered decode (shape form) (frames_of file form) →
     IsOutcome file form a → IsOutcome file form b → a ≡ b
 one_outcome_of_form file form a b answered (inl s) (inl t) = same_stop file form a b answered (to_number file form a s) (to_number file form b t)
-one_outcome_of_form file form a b answered (inl s) (inr t) = absurd (never_both file form a (to_number file form a s) (none_of_numbered decode form 0 (frames_of file form) t.0))
-one_outcome_of_form file form a b answered (inr s) (inl t) = absurd (never_both file form b (to_number file form b t) (none_of_numbered decode form 0 (frames_of file form) s.0))
+one_outcome_of_form file form a b answered (inl s) (inr t) =
+    absurd (never_both file form a (to_number file form a s) (none_of_numbered decode form 0 (frames_of file form) t.0))
+one_outcome_of_form file form a b answered (inr s) (inl t) =
+    absurd (never_both file form b (to_number file form b t) (none_of_numbered decode form 0 (frames_of file form) s.0))
 one_outcome_of_form file form a b answered (inr s) (inr t) =
     let none = none_of_numbered decode form 0 (frames_of file form) s.0 in
     let out = one_plain file form s.1.0 t.1.0 answered none s.1.1 t.1.1 in
@@ -145,19 +157,33 @@ some_outcome : (file : List ℕ) (form : Form) → AreAnswered decode (shape for
 some_outcome file form answered = elim (verdict decode (shape form) (frames_of file form) answered) [
   | inl s ↦
       let out = decoded_before_frame s.sounds file form in
-      let o = frame_refused s.k s.fault out in
-      (o, inl (by_number file form o (record { k = s.k; fault = s.fault; stops = s.stops; out = out; written = record { sounds = s.sounds; each = s.each; written = refl }; answer = refl })))
+      let o = frame_refused s.k s.fault out in (
+        o,
+        inl (by_number file form o (record {
+          k = s.k;
+          fault = s.fault;
+          stops = s.stops;
+          out = out;
+          written =
+              record { sounds = s.sounds; each = s.each; written = refl };
+          answer = refl;
+        })),
+      )
   | inr g ↦
-      let out = decoded g.sounds file form in
-      (done out (decoded_line form.frames (size_of_sound form) ∷ []), inr (none_numbered decode form 0 (frames_of file form) g.none, (out, record { sounds = g.sounds; each = g.each; written = refl }, refl)))
+      let out = decoded g.sounds file form in (
+        done out (decoded_line form.frames (size_of_sound form) ∷ []),
+        inr (none_numbered decode form 0 (frames_of file form) g.none, (out, record { sounds = g.sounds; each = g.each; written = refl }, refl)),
+      )
 ]
 
 all_answered : (f : Shape) (frames : List (List ℕ)) → IsShape f → AllByRecursion AreBytes frames → AreAnswered decode f frames
 all_answered f [] lawful h = tt
 all_answered f (x ∷ xs) lawful h = (frame_is_answered f x lawful h.0, all_answered f xs lawful h.1)
 
-pub frames_are_answered : (file : List ℕ) → AreBytes file → refusal decode file ≡ None → AreAnswered decode (shape (accepted file)) (frames_of file (accepted file))
-frames_are_answered file bytes h = all_answered (shape (accepted file)) (frames_of file (accepted file)) (is_decodable file h).shape (frames_are_bytes file (accepted file) bytes)
+pub frames_are_answered : (file : List ℕ) → AreBytes file → refusal decode file ≡ None →
+    AreAnswered decode (shape (accepted file)) (frames_of file (accepted file))
+frames_are_answered file bytes h = all_answered (shape (accepted file)) (frames_of file (accepted file)) (is_decodable file h).shape
+    (frames_are_bytes file (accepted file) bytes)
 
 pub decoding_has_one_outcome : (file : List ℕ) → AreBytes file → One (OfCommand decode file (refusal decode file))
 decoding_has_one_outcome file bytes = go (refusal decode file) refl

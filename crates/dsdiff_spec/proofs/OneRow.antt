@@ -1,5 +1,6 @@
 -- No words have two rows.
-use Rattle.std.proofs.Common.{◌≡◌, ℕ, zero, suc, ◌+◌, ◌==◌, Bool, true, false, if◌then◌else◌, List, [], ◌∷◌, ◌++◌, length, refl, ap, sym, ◌∙◌, arith, Option, Some, None}
+use Rattle.std.proofs.Common.{◌≡◌, ℕ, zero, suc, ◌+◌, ◌==◌, Bool, true, false, if◌then◌else◌, List, [], ◌∷◌, ◌++◌, length, refl, ap, sym, ◌∙◌, arith, Option}
+use Rattle.std.proofs.Common.{Some, None}
 use Rattle.std.proofs.lemmas.Bool.Decides.{Decides-eqb}
 use Rattle.std.proofs.lemmas.Slice.Eq.{bytes_eq-Decides}
 use Rattle.std.specs.Option.{option_map}
@@ -49,7 +50,8 @@ as_many [] words read e =
 as_many (s ∷ ss) [] read e = absurd cc
 as_many (s ∷ ss) (w ∷ ws) read e = numbers (λ r is. as_many ss ws r is) (slot_numbers s w) e
   where
-    behind : ((r : List ℕ × List Word) → read_slots ss ws ≡ Some r → length ws ≡ length ss + length r.1) → (ns : List ℕ) (r : Option (List ℕ × List Word)) → read_slots ss ws ≡ r →
+    behind : ((r : List ℕ × List Word) → read_slots ss ws ≡ Some r → length ws ≡ length ss + length r.1) → (ns : List ℕ) (r : Option (List ℕ × List Word)) →
+        read_slots ss ws ≡ r →
         option_map (λ r. (ns ++ r.0, r.1)) r ≡ Some read → length (w ∷ ws) ≡ length (s ∷ ss) + length read.1
     behind more ns None is h = absurd cc
     behind more ns (Some r) is h =
@@ -62,7 +64,8 @@ as_many (s ∷ ss) (w ∷ ws) read e = numbers (λ r is. as_many ss ws r is) (sl
     numbers more (Some ns) h = behind more ns (read_slots ss ws) refl h
 
 -- where a row has no options, nothing stands behind its slots
-none_behind : (n : ℕ) (settings : List Setting) (words : List Word) (found : List (Word × ℕ)) → n ≡ 0 → read_settings n settings words ≡ Some found → length words ≡ 0
+none_behind : (n : ℕ) (settings : List Setting) (words : List Word) (found : List (Word × ℕ)) → n ≡ 0 → read_settings n settings words ≡ Some found →
+    length words ≡ 0
 none_behind n settings [] found z e = refl
 none_behind zero settings (w ∷ ws) found z e = absurd cc
 none_behind (suc n) settings (w ∷ ws) found z e = absurd (omega arith)
@@ -76,17 +79,20 @@ behind_slots r read c e none = go (read_settings (length r.settings) r.settings 
     go (Some found) is h = none_behind (length r.settings) r.settings read.1 found none is
 
 -- words of a row have its name, and without options as many words behind it as it has slots
-suits_row : (name : Word) (words : List Word) (r : Row) (c : Task) → row_task (name ∷ words) r ≡ Some c → (name ≡ codes r.name) × (length r.settings ≡ 0 → length words ≡ length r.slots)
+suits_row : (name : Word) (words : List Word) (r : Row) (c : Task) → row_task (name ∷ words) r ≡ Some c →
+    (name ≡ codes r.name) × (length r.settings ≡ 0 → length words ≡ length r.slots)
 suits_row name words r c e = named (bytes_eq name (codes r.name)) refl e
   where
-    counted : (o : Option (List ℕ × List Word)) → read_slots r.slots words ≡ o → elim o [ None ↦ None | Some read ↦ task_behind r read ] ≡ Some c → length r.settings ≡ 0 → length words ≡ length r.slots
+    counted : (o : Option (List ℕ × List Word)) → read_slots r.slots words ≡ o → elim o [ None ↦ None | Some read ↦ task_behind r read ] ≡ Some c →
+        length r.settings ≡ 0 → length words ≡ length r.slots
     counted None is h none = absurd cc
     counted (Some read) is h none =
         let all = as_many r.slots words read is in
         let rest = behind_slots r read c h none in
         omega (arith, all, rest)
 
-    named : (b : Bool) → bytes_eq name (codes r.name) ≡ b → (if b then elim (read_slots r.slots words) [ None ↦ None | Some read ↦ task_behind r read ] else None) ≡ Some c →
+    named : (b : Bool) → bytes_eq name (codes r.name) ≡ b →
+        (if b then elim (read_slots r.slots words) [ None ↦ None | Some read ↦ task_behind r read ] else None) ≡ Some c →
         (name ≡ codes r.name) × (length r.settings ≡ 0 → length words ≡ length r.slots)
     named true is h = ((bytes_eq-Decides name (codes r.name)).0 is, counted (read_slots r.slots words) refl h)
     named false is h = absurd cc
@@ -101,7 +107,8 @@ one_row (name ∷ words) before between behind r s c d all e f =
     neither r.settings s.settings _ _ same_name
     (λ p q. (Decides-eqb (length r.slots) (length s.slots)).1 (sym (a.1 p) ∙ b.1 q)) different
   where
-    neither : (m n : List Setting) (p q : Bool) → p ≡ true → (length m ≡ 0 → length n ≡ 0 → q ≡ true) → (not p || (has_none m && has_none n && not q)) ≡ true → ⊥
+    neither : (m n : List Setting) (p q : Bool) → p ≡ true → (length m ≡ 0 → length n ≡ 0 → q ≡ true) → (not p || (has_none m && has_none n && not q)) ≡ true →
+        ⊥
     neither [] [] true true h i j = no_truth j
     neither [] [] true false h i j = no_truth (i refl refl)
     neither (o ∷ m) n true q h i j = no_truth j

@@ -5,7 +5,8 @@ use Rattle.std.specs.Prelude.{codes}
 use Rattle.dsdiff_spec.specs.Form.{sound_bytes_of}
 use Rattle.dsdiff_spec.specs.Rules.{form_fault, accepted}
 use Rattle.dsdiff_spec.specs.declared.faults.FileFault.{FileFault}
-use Rattle.dsdiff_spec.specs.declared.faults.FileFault.TheVariants.{NotForm, FormTooLarge, FormType, Overrun, Version, PropMissing, PropTwice, PropType, Rate, Channels, Compression, SoundMissing, SoundTwice}
+use Rattle.dsdiff_spec.specs.declared.faults.FileFault.TheVariants.{NotForm, FormTooLarge, FormType, Overrun, Version, PropMissing, PropTwice, PropType, Rate}
+use Rattle.dsdiff_spec.specs.declared.faults.FileFault.TheVariants.{Channels, Compression, SoundMissing, SoundTwice}
 use Rattle.dsdiff_spec.proofs.Built.{piece, file_of, version, prop_of, rate, channels, cmpr, prop, dsd, dst, mono_plain}
 use Rattle.dsdiff_spec.proofs.Files.{empty}
 use Rattle.dsdiff_spec.proofs.Forms.{forms_open, but}
@@ -92,7 +93,8 @@ pub channel_counts :
     faults_of (
     of_channels [] ∷ of_channels (channels 1 ∷ channels 1 ∷ []) ∷ of_channels (piece "CHNL" [] ∷ []) ∷ of_channels (channels 0 ∷ [])
     ∷ of_channels (channels 7 ∷ []) ∷ of_channels (piece "CHNL" (0 ∷ 2 ∷ replicate 6 67) ∷ [])
-    ∷ of_channels (piece "CHNL" (0 ∷ 1 ∷ replicate 3 67) ∷ (0 ∷ []) ∷ []) ∷ of_channels (channels 1 ∷ []) ∷ of_channels (channels 6 ∷ []) ∷ of_channels (piece "CHNL" (0 ∷ 2 ∷ replicate 10 67) ∷ []) ∷ [])
+    ∷ of_channels (piece "CHNL" (0 ∷ 1 ∷ replicate 3 67) ∷ (0 ∷ []) ∷ []) ∷ of_channels (channels 1 ∷ []) ∷ of_channels (channels 6 ∷ []) ∷ of_channels
+    (piece "CHNL" (0 ∷ 2 ∷ replicate 10 67) ∷ []) ∷ [])
     ≡ Some Channels ∷ Some Channels ∷ Some Channels ∷ Some Channels ∷ Some Channels ∷ Some Channels ∷ Some Channels ∷ None ∷ None ∷ None ∷ []
 unfolding forms_open
 channel_counts = refl
@@ -102,7 +104,8 @@ of_compression types = version ∷ prop_of (rate 2822400 ∷ channels 1 ∷ type
 
 pub compressions :
     faults_of (
-    of_compression [] ∷ of_compression (piece "CMPR" (codes "DSD") ∷ codes " " ∷ []) ∷ of_compression (cmpr "DSD " ∷ cmpr "DSD " ∷ []) ∷ of_compression (piece "CMPR" (codes "DS") ∷ [])
+    of_compression [] ∷ of_compression (piece "CMPR" (codes "DSD") ∷ codes " " ∷ []) ∷ of_compression (cmpr "DSD " ∷ cmpr "DSD " ∷ []) ∷ of_compression
+    (piece "CMPR" (codes "DS") ∷ [])
     ∷ of_compression (cmpr "DSDx" ∷ []) ∷ of_compression (cmpr "DST " ∷ []) ∷ of_compression (cmpr "DSD " ∷ []) ∷ [])
     ≡ Some Compression ∷ Some Compression ∷ Some Compression ∷ Some Compression ∷ Some Compression ∷ Some Compression ∷ None ∷ []
 unfolding forms_open

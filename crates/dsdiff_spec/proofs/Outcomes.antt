@@ -13,6 +13,8 @@ use Rattle.dst_spec.proofs.Certain.{mono}
 use Rattle.dst_spec.proofs.Frames.{plain_frame_means_its_bytes, frame_with_code_of_zeros}
 use Rattle.dst_spec.proofs.Refusals.{fields_open, at}
 use Rattle.dst_spec.proofs.Understood.{decoding_law}
+use Rattle.dst_spec.proofs.Lists.{AreBytes-same}
+use Rattle.dst_spec.proofs.Spelling.{plain_form_means}
 use Rattle.dsdiff_spec.specs.Rows.{task_of}
 use Rattle.dsdiff_spec.specs.Refusal.{refusal}
 use Rattle.dsdiff_spec.specs.Outcome.{Answer, Outcome}
@@ -21,7 +23,7 @@ use Rattle.dsdiff_spec.proofs.Forms.{but}
 use Rattle.dsdiff_spec.specs.Form.{shape_of}
 use Rattle.dsdiff_spec.proofs.Built.{piece, file_of, version, prop_of, rate, channels, not_compressed, prop, dsd, dst}
 use Rattle.dsdiff_spec.proofs.Commands.{words}
-use Rattle.dsdiff_spec.proofs.Restoring.{written_open, example_plain, example_is_decoded, empty_comes_back, two_come_back, plain_frame_means, alternate, filled_up, all_below}
+use Rattle.dsdiff_spec.proofs.Restoring.{written_open, example_plain, example_is_decoded, empty_comes_back, two_come_back, alternate, filled_up}
 
 -- what outcomes compute with, named once
 unfoldable pub outcome_open : ⊤
@@ -42,7 +44,8 @@ plain_file_is_not_decoded = refl
 
 -- ---- files that are decoded
 -- a frame that means a sound isn't refused
-pub meaning_is_not_refused : (f : Shape) (frame sound : List ℕ) → IsShape f → AreBytes frame → Means f frame sound → (fault : FrameFault) → Offends f frame fault → ⊥
+pub meaning_is_not_refused : (f : Shape) (frame sound : List ℕ) → IsShape f → AreBytes frame → Means f frame sound → (fault : FrameFault) →
+    Offends f frame fault → ⊥
 meaning_is_not_refused f frame sound g bytes means fault offends =
     elim (decoding_law f frame g bytes) [
       | inl (other, o, one, none) ↦ none sound means
@@ -50,7 +53,7 @@ meaning_is_not_refused f frame sound g bytes means fault offends =
     ]
 
 pub plain_is_not_refused : (f : Shape) (sound : List ℕ) → IsShape f → IsSound f sound → (fault : FrameFault) → Offends f (0 ∷ sound) fault → ⊥
-plain_is_not_refused f sound g s = meaning_is_not_refused f (0 ∷ sound) sound g (omega arith, s.bytes) (plain_frame_means f sound s)
+plain_is_not_refused f sound g s = meaning_is_not_refused f (0 ∷ sound) sound g (omega arith, s.bytes) (plain_form_means f sound s)
 
 pub mono_shape : IsShape (mono 4704)
 mono_shape = record { least = omega arith; most = omega arith; rate = inl refl }
@@ -154,11 +157,11 @@ abbrev stereo_plain : List ℕ
 stereo_plain = file_of (version ∷ prop_of (rate 5644800 ∷ channels 2 ∷ not_compressed ∷ (0 ∷ []) ∷ []) ∷ dsd 18816 ∷ [])
 
 stereo_sound : IsSound stereo (replicate 18816 105)
-stereo_sound = record { long = refl; bytes = all_below 18816 105 (omega arith) }
+stereo_sound = record { long = refl; bytes = AreBytes-same 18816 105 (omega arith) }
 
 pub stereo_frame_is_decoded : Outcome (words ("decode" ∷ "a" ∷ "b" ∷ [])) stereo_coded (says 0 stereo_plain ("decoded 1 frames into 18816 bytes" ∷ []))
 unfolding outcome_open
 stereo_frame_is_decoded = inr (
   (plain_is_not_refused stereo _ (record { least = omega arith; most = omega arith; rate = inr (inl refl) }) stereo_sound, tt),
-  (stereo_plain, record { sounds = replicate 18816 105 ∷ []; each = (plain_frame_means stereo _ stereo_sound, tt); written = refl }, refl),
+  (stereo_plain, record { sounds = replicate 18816 105 ∷ []; each = (plain_form_means stereo _ stereo_sound, tt); written = refl }, refl),
 )

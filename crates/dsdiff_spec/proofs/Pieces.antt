@@ -1,5 +1,6 @@
 -- What decoding writes is its pieces, one after the other.
-use Rattle.std.proofs.Common.{◌≡◌, ℕ, zero, suc, ◌+◌, ◌-◌, ◌*◌, ◌%◌, ◌≤◌, ◌==◌, Bool, true, false, if◌then◌else◌, List, [], ◌∷◌, ◌++◌, length, take, drop, replicate, refl, ap, ◌∙◌, arith, length-append, length-take-le, append_assoc, append-nil, eqb-true, take_at}
+use Rattle.std.proofs.Common.{◌≡◌, ℕ, zero, suc, ◌+◌, ◌-◌, ◌*◌, ◌%◌, ◌≤◌, ◌==◌, Bool, true, false, if◌then◌else◌, List, [], ◌∷◌, ◌++◌, length, take, drop}
+use Rattle.std.proofs.Common.{replicate, refl, ap, ◌∙◌, arith, length-append, length-take-le, append_assoc, append-nil, eqb-true, take_at}
 use Rattle.std.proofs.lemmas.Bool.{eqb-false}
 use Rattle.std.proofs.lemmas.List.{length-replicate}
 use Rattle.std.proofs.lemmas.List.Folds.{concat-append}
@@ -16,7 +17,7 @@ use Rattle.dsdiff_spec.proofs.Files.{two, two_coded}
 use Rattle.dsdiff_spec.proofs.Restoring.{written_open}
 
 -- ---- of any sound
-pad_is_long : (n pad : ℕ) → length (if n % 2 == 1 then pad ∷ [] else []) ≡ n % 2
+pub pad_is_long : (n pad : ℕ) → length (if n % 2 == 1 then pad ∷ [] else []) ≡ n % 2
 pad_is_long n pad = go (n % 2 == 1) refl
   where
     go : (b : Bool) → (n % 2 == 1) ≡ b → length (if b then pad ∷ [] else []) ≡ n % 2
@@ -27,7 +28,12 @@ pub length-sound_pad : (n : ℕ) (form : Form) → length (sound_pad n form) ≡
 length-sound_pad n form = pad_is_long n (plain_pad form.origin)
 
 pub length-opening : (n : ℕ) (file : List ℕ) (form : Form) → length (opening n file form) ≡ 16
-length-opening n file form = omega (arith, length-append (codes "FRM8" ++ big_bytes 8 (decoded_size n file form)) (codes "DSD "), length-append (codes "FRM8") (big_bytes 8 (decoded_size n file form)), length-bytes_high_first 8 (decoded_size n file form))
+length-opening n file form = omega (
+  arith,
+  length-append (codes "FRM8" ++ big_bytes 8 (decoded_size n file form)) (codes "DSD "),
+  length-append (codes "FRM8") (big_bytes 8 (decoded_size n file form)),
+  length-bytes_high_first 8 (decoded_size n file form),
+)
 
 pub length-sound_opening : (n : ℕ) → length (sound_opening n) ≡ 12
 length-sound_opening n = omega (arith, length-append (codes "DSD ") (big_bytes 8 n), length-bytes_high_first 8 n)
@@ -35,9 +41,16 @@ length-sound_opening n = omega (arith, length-append (codes "DSD ") (big_bytes 8
 pub length-decoded_head : (n : ℕ) (file : List ℕ) (form : Form) → length (decoded_front n file form) ≡ place_of_sound file form
 length-decoded_head n file form =
     let chunks = concat (decoded_before file form) in
-    omega (arith, length-append (opening n file form ++ chunks) (sound_opening n), length-append (opening n file form) chunks, length-opening n file form, length-sound_opening n)
+    omega (
+      arith,
+      length-append (opening n file form ++ chunks) (sound_opening n),
+      length-append (opening n file form) chunks,
+      length-opening n file form,
+      length-sound_opening n,
+    )
 
-pub length-decoded_end : (n : ℕ) (file : List ℕ) (form : Form) → length (decoded_end n file form) ≡ n % 2 + length (concat (decoded_behind file form)) + length (kept_bytes form.origin)
+pub length-decoded_end : (n : ℕ) (file : List ℕ) (form : Form) →
+    length (decoded_end n file form) ≡ n % 2 + length (concat (decoded_behind file form)) + length (kept_bytes form.origin)
 length-decoded_end n file form =
     let chunks = concat (decoded_behind file form) in
     omega (arith, length-append (sound_pad n form ++ chunks) (kept_bytes form.origin), length-append (sound_pad n form) chunks, length-sound_pad n form)
@@ -46,7 +59,8 @@ regroup : (o b d t sound pad behind tail : List ℕ) →
     o ++ (b ++ (d ++ t ++ sound ++ pad) ++ behind) ++ tail ≡ o ++ b ++ (d ++ t) ++ sound ++ (pad ++ behind ++ tail)
 regroup o b d t sound pad behind tail = simp append_assoc refl
 
-pub decoded_is_pieces : (sound file : List ℕ) (form : Form) → decoded_with sound file form ≡ decoded_front (length sound) file form ++ sound ++ decoded_end (length sound) file form
+pub decoded_is_pieces : (sound file : List ℕ) (form : Form) →
+    decoded_with sound file form ≡ decoded_front (length sound) file form ++ sound ++ decoded_end (length sound) file form
 unfolding decoded_with
 decoded_is_pieces sound file form =
     let n = length sound in
@@ -55,9 +69,16 @@ decoded_is_pieces sound file form =
     let pad = sound_pad n form in
     let middle = codes "DSD " ++ big_bytes 8 n ++ sound ++ pad in
     let same : concat (before ++ middle ∷ [] ++ behind) ≡ concat before ++ middle ++ concat behind =
-    concat-append (before ++ middle ∷ []) behind ∙ ap (λ w. w ++ concat behind) (concat-append before (middle ∷ []) ∙ ap (λ w. concat before ++ w) (append-nil middle)) in
+    concat-append (before ++ middle ∷ []) behind
+    ∙ ap (λ w. w ++ concat behind) (concat-append before (middle ∷ []) ∙ ap (λ w. concat before ++ w) (append-nil middle)) in
     let long : length middle ≡ 12 + n + n % 2 =
-    omega (arith, length-append (codes "DSD " ++ big_bytes 8 n ++ sound) pad, length-append (codes "DSD " ++ big_bytes 8 n) sound, length-sound_opening n, length-sound_pad n form) in
+    omega (
+      arith,
+      length-append (codes "DSD " ++ big_bytes 8 n ++ sound) pad,
+      length-append (codes "DSD " ++ big_bytes 8 n) sound,
+      length-sound_opening n,
+      length-sound_pad n form,
+    ) in
     let size : 4 + length (concat (before ++ middle ∷ [] ++ behind)) ≡ decoded_size n file form =
     omega (arith, ap length same, length-append (concat before ++ middle) (concat behind), length-append (concat before) middle, long) in
     ap (λ m. codes "FRM8" ++ big_bytes 8 m ++ codes "DSD " ++ concat (before ++ middle ∷ [] ++ behind) ++ kept_bytes form.origin) size
@@ -78,7 +99,8 @@ length-sounds n (s ∷ ss) h =
 
 -- a size that these sounds have room for is the size of the sound
 pub decoded_of_sounds : (sounds : List (List ℕ)) (file : List ℕ) (form : Form) → size_of_sound form ≤ length (concat sounds) →
-    decoded sounds file form ≡ decoded_front (size_of_sound form) file form ++ take (size_of_sound form) (concat sounds) ++ decoded_end (size_of_sound form) file form
+    decoded sounds file form ≡ decoded_front (size_of_sound form) file form ++ take (size_of_sound form) (concat sounds) ++ decoded_end
+    (size_of_sound form) file form
 decoded_of_sounds sounds file form h =
     let n = size_of_sound form in
     let sound = take n (concat sounds) in
@@ -117,10 +139,13 @@ written_before_frame sounds file form whole few reached fits =
     let count = length-replicate {A = List ℕ} m (replicate n 0) in
     let joined = concat-append sounds zeros in
     let all : length (concat (with_zeros sounds form)) ≡ form.frames * n =
-    ap length joined ∙ length-append (concat sounds) (concat zeros) ∙ shared k m (form.frames) n (length (concat sounds)) (length (concat zeros)) long (rest ∙ ap (λ c. c * n) count) (omega arith) in
+    ap length joined ∙ length-append (concat sounds) (concat zeros)
+    ∙ shared k m (form.frames) n (length (concat sounds)) (length (concat zeros)) long (rest ∙ ap (λ c. c * n) count) (omega arith) in
     let room : size ≤ length (concat (with_zeros sounds form)) = omega (arith, all, fits) in
-    ap (take (place_of_sound file form + k * n)) (decoded_of_sounds (with_zeros sounds form) file form room ∙ ap (λ w. decoded_front size file form ++ take size w ++ decoded_end size file form) joined)
-    ∙ cut_at_seam (decoded_front size file form) (concat sounds) (concat zeros) (decoded_end size file form) size (place_of_sound file form) (k * n) (length-decoded_head size file form) long reached
+    ap (take (place_of_sound file form + k * n))
+    (decoded_of_sounds (with_zeros sounds form) file form room ∙ ap (λ w. decoded_front size file form ++ take size w ++ decoded_end size file form) joined)
+    ∙ cut_at_seam (decoded_front size file form) (concat sounds) (concat zeros) (decoded_end size file form) size (place_of_sound file form) (k * n)
+    (length-decoded_head size file form) long reached
   where
     shared : (k m all n a b : ℕ) → a ≡ k * n → b ≡ m * n → k + m ≡ all → a + b ≡ all * n
     shared k m all n a b p q r = let product = ap (λ x. x * n) r in omega (arith, p, q, product)

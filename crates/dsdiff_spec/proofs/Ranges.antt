@@ -8,6 +8,7 @@ use Rattle.dst_spec.specs.Bits.{number_from}
 use Rattle.dst_spec.specs.Sample.{IsSound}
 use Rattle.dst_spec.proofs.Certain.{mono}
 use Rattle.dst_spec.proofs.Frames.{plain_frame_means_its_bytes}
+use Rattle.dst_spec.proofs.Lists.{AreBytes-same}
 use Rattle.dsdiff_spec.specs.Rules.{accepted}
 use Rattle.dsdiff_spec.specs.Samples.{sound_of}
 use Rattle.dsdiff_spec.specs.Made.{Wave, at_time, times_from, seeded, plain_form, height, made_sound, made}
@@ -16,7 +17,7 @@ use Rattle.dsdiff_spec.specs.Dsf.{dsf_fault, dsf_with, dsdiff, bare, ToDsf}
 use Rattle.dsdiff_spec.specs.Coded as encoding
 use Rattle.dsdiff_spec.proofs.Files.{empty, two_coded}
 use Rattle.dsdiff_spec.proofs.OddFiles.{dsf, dsf_coded, dsf_back}
-use Rattle.dsdiff_spec.proofs.Restoring.{written_open, no_picks, two_sounds, alternate, filled_up, all_below}
+use Rattle.dsdiff_spec.proofs.Restoring.{written_open, no_picks, two_sounds, alternate, filled_up}
 
 -- ---- parts of a sound of 4,705 bytes in two frames
 abbrev two_sound : List ℕ
@@ -80,7 +81,7 @@ unfolding dsf_open
 dsf_without_the_rest = refl
 
 dsf_sound : IsSound (mono 4704) (172 ∷ 240 ∷ replicate 4702 105)
-dsf_sound = record { long = refl; bytes = (omega arith, (omega arith, all_below 4702 105 (omega arith))) }
+dsf_sound = record { long = refl; bytes = (omega arith, (omega arith, AreBytes-same 4702 105 (omega arith))) }
 
 pub dsf_comes_back : ToDsf dsf_coded (accepted dsf_coded) dsf_back
 unfolding dsf_open

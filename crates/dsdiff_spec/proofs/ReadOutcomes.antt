@@ -6,6 +6,7 @@ use Rattle.dst_spec.specs.Sample.{Shape, IsSound, sound_bytes}
 use Rattle.dst_spec.specs.declared.faults.Reason.TheVariants.{FirstCodeBit}
 use Rattle.dst_spec.proofs.Frames.{frame_with_code_of_zeros}
 use Rattle.dst_spec.proofs.Refusals.{fields_open, at}
+use Rattle.dst_spec.proofs.Spelling.{plain_form_means}
 use Rattle.dsdiff_spec.specs.Refusal.{refusal}
 use Rattle.dsdiff_spec.specs.Words.{frame}
 use Rattle.dsdiff_spec.specs.declared.faults.FileFault.TheVariants.{CountDiffers, IndexBad}
@@ -14,7 +15,7 @@ use Rattle.dsdiff_spec.proofs.Files.{example, two, two_coded}
 use Rattle.dsdiff_spec.proofs.OddFiles.{with_checksum, without_pad}
 use Rattle.dsdiff_spec.proofs.Forms.{but}
 use Rattle.dsdiff_spec.proofs.Commands.{words}
-use Rattle.dsdiff_spec.proofs.Restoring.{alternate, filled_up, plain_frame_means}
+use Rattle.dsdiff_spec.proofs.Restoring.{alternate, filled_up}
 use Rattle.dsdiff_spec.proofs.Outcomes.{outcome_open, says, meaning_is_not_refused, plain_is_not_refused, mono_shape, frame_of_ones_is_bytes}
 
 -- ---- one frame's sound
@@ -28,7 +29,10 @@ index_is_not_there = refl
 
 pub sound_of_one_frame : Outcome (words ("frame" ∷ "a" ∷ "b" ∷ "0" ∷ [])) example (says 0 (replicate 4704 255) ("frame 0, 4704 bytes" ∷ []))
 unfolding outcome_open
-sound_of_one_frame = inr ((meaning_is_not_refused _ _ _ mono_shape frame_of_ones_is_bytes (frame_with_code_of_zeros 4704), tt), (replicate 4704 255, frame_with_code_of_zeros 4704, refl))
+sound_of_one_frame = inr (
+  (meaning_is_not_refused _ _ _ mono_shape frame_of_ones_is_bytes (frame_with_code_of_zeros 4704), tt),
+  (replicate 4704 255, frame_with_code_of_zeros 4704, refl),
+)
 
 -- where the second frame's chunk has another id, the first frame is found by the index, and not by the walk
 abbrev broken : List ℕ
@@ -82,7 +86,13 @@ plain_file_is_checked = inr (tt, ([], tt, refl))
 -- both frames of it mean sounds, and no byte of them is unread
 plain_frame_is_plain : (f : Shape) (sound : List ℕ) → IsSound f sound → IsPlain f (0 ∷ sound) sound
 unfolding bits low_bits
-plain_frame_is_plain f sound s = record { coded = refl; stuffing = refl; long = omega (arith, s.long); is_sound = sym (take_all (sound_bytes f) sound (omega (arith, s.long))) }
+plain_frame_is_plain f sound s = record {
+  coded = refl;
+  stuffing = refl;
+  long = omega (arith, s.long);
+  is_sound =
+      sym (take_all (sound_bytes f) sound (omega (arith, s.long)));
+}
 
 plain_frame_has_no_tail : (f : Shape) (sound : List ℕ) → IsSound f sound → MeansWithTail f (0 ∷ sound) sound 0
 plain_frame_has_no_tail f sound s = (s, inl (plain_frame_is_plain f sound s, omega (arith, s.long)))
@@ -117,12 +127,16 @@ offending_frame_is_refused = inl (record {
 -- ---- the head of a frame
 pub head_of_a_plain_frame_is_shown : Outcome (words ("show" ∷ "a" ∷ "1" ∷ [])) two_coded (says 0 [] ("frame 1 plain length 4705" ∷ []))
 unfolding outcome_open
-head_of_a_plain_frame_is_shown = inr ((λ fault r. plain_is_not_refused _ _ mono_shape filled_up fault r.0, tt), (_, inl (85 ∷ replicate 4703 105, plain_frame_is_plain _ _ filled_up, refl), refl))
+head_of_a_plain_frame_is_shown = inr (
+  (λ fault r. plain_is_not_refused _ _ mono_shape filled_up fault r.0, tt),
+  (_, inl (85 ∷ replicate 4703 105, plain_frame_is_plain _ _ filled_up, refl), refl),
+)
 
 pub frame_past_the_last_is_not_shown : Outcome (words ("show" ∷ "a" ∷ "2" ∷ [])) two_coded (says 5 [] ("file refused: 22 Range 2 2" ∷ []))
 unfolding outcome_open
 frame_past_the_last_is_not_shown = refl
 
-pub sound_by_the_index : Outcome (words ("frame" ∷ "a" ∷ "b" ∷ "1" ∷ "--by-index" ∷ [])) two_coded (says 0 (85 ∷ replicate 4703 105) ("frame 1, 4704 bytes" ∷ []))
+pub sound_by_the_index : Outcome (words ("frame" ∷ "a" ∷ "b" ∷ "1" ∷ "--by-index" ∷ [])) two_coded
+    (says 0 (85 ∷ replicate 4703 105) ("frame 1, 4704 bytes" ∷ []))
 unfolding outcome_open
-sound_by_the_index = inr ((plain_is_not_refused _ _ mono_shape filled_up, tt), (85 ∷ replicate 4703 105, plain_frame_means _ _ filled_up, refl))
+sound_by_the_index = inr ((plain_is_not_refused _ _ mono_shape filled_up, tt), (85 ∷ replicate 4703 105, plain_form_means _ _ filled_up, refl))

@@ -7,6 +7,7 @@ use Rattle.std.proofs.lemmas.List.{take_all}
 use Rattle.dst_spec.specs.Sample.{Shape, IsSound, sound_bytes}
 use Rattle.dst_spec.proofs.Certain.{mono}
 use Rattle.dst_spec.proofs.Frames.{frame_with_code_of_zeros, plain_frame_means_its_bytes}
+use Rattle.dst_spec.proofs.Lists.{AreBytes-same}
 use Rattle.dsdiff_spec.specs.Rules.{accepted}
 use Rattle.dsdiff_spec.specs.Coded as encoding
 use Rattle.dsdiff_spec.specs.Coded.{Picks, pieces, stored_frames, coded_with}
@@ -53,10 +54,6 @@ pub example_is_decoded : Plain example (accepted example) example_plain
 unfolding written_open
 example_is_decoded = record { sounds = replicate 4704 255 ∷ []; each = (frame_with_code_of_zeros 4704, tt); written = refl }
 
-pub all_below : (n byte : ℕ) → byte < 256 → AreBytes (replicate n byte)
-all_below zero byte h = tt
-all_below (suc n) byte h = (h, all_below n byte h)
-
 -- ---- two frames, the second of which is filled up
 pub two_are_coded : encoding.coded no_picks two (accepted two) ≡ two_coded
 unfolding written_open
@@ -66,17 +63,12 @@ abbrev pub two_sounds : List (List ℕ)
 two_sounds = replicate 4704 170 ∷ (85 ∷ replicate 4703 105) ∷ []
 
 pub alternate : IsSound (mono 4704) (replicate 4704 170)
-alternate = record { long = refl; bytes = all_below 4704 170 (omega arith) }
+alternate = record { long = refl; bytes = AreBytes-same 4704 170 (omega arith) }
 
 pub filled_up : IsSound (mono 4704) (85 ∷ replicate 4703 105)
-filled_up = record { long = refl; bytes = (omega arith, all_below 4703 105 (omega arith)) }
+filled_up = record { long = refl; bytes = (omega arith, AreBytes-same 4703 105 (omega arith)) }
 
 -- a plain frame of any shape means the bytes behind its first
-pub plain_frame_means : (f : Shape) (sound : List ℕ) → IsSound f sound → Means f (0 ∷ sound) sound
-unfolding bits low_bits
-plain_frame_means f sound s =
-    (s, inl (record { coded = refl; stuffing = refl; long = omega (arith, s.long); is_sound = sym (take_all (sound_bytes f) sound (omega (arith, s.long))) }))
-
 pub two_come_back : Plain two_coded (accepted two_coded) two
 unfolding written_open
 two_come_back = record {

@@ -1,5 +1,6 @@
 -- Each frame of a run is settled, and what a command does where none is refused is one answer.
-use Rattle.std.proofs.Common.{◌≡◌, ◌≢◌, ◌⊎◌, inl, inr, ℕ, zero, suc, ◌+◌, Bool, List, [], ◌∷◌, length, map, take, drop, get_or, arith, length-take-le, take-append-drop, refl, ap, ap₂, sym, subst, ◌∙◌, Option, Result, Ok, Err}
+use Rattle.std.proofs.Common.{◌≡◌, ◌≢◌, ◌⊎◌, inl, inr, ℕ, zero, suc, ◌+◌, Bool, List, [], ◌∷◌, length, map, take, drop, get_or, arith, length-take-le}
+use Rattle.std.proofs.Common.{take-append-drop, refl, ap, ap₂, sym, subst, ◌∙◌, Option, Result, Ok, Err}
 use Rattle.std.specs.Prelude.{sum}
 use Rattle.std.specs.List.{AllByRecursion, AllZip, enumerate_from}
 use Rattle.dst_spec.specs.Bits.{bits, AreBytes}
@@ -10,7 +11,8 @@ use Rattle.dst_spec.specs.Fields.{read}
 use Rattle.dst_spec.specs.Offends.{frame_fields, Offends}
 use Rattle.dst_spec.specs.declared.faults.FrameFault.{FrameFault}
 use Rattle.dst_spec.specs.declared.faults.Reason.{Reason}
-use Rattle.dst_spec.specs.declared.faults.Reason.TheVariants.{Truncated, PlainStuffing, MultiSegment, MapSkips, MethodReserved, TableTooShort, CoefRange, ProbRange, FirstCodeBit, CodeRange}
+use Rattle.dst_spec.specs.declared.faults.Reason.TheVariants.{Truncated, PlainStuffing, MultiSegment, MapSkips, MethodReserved, TableTooShort, CoefRange}
+use Rattle.dst_spec.specs.declared.faults.Reason.TheVariants.{ProbRange, FirstCodeBit, CodeRange}
 use Rattle.dst_spec.proofs.Headers.{header_law}
 use Rattle.dst_spec.proofs.HeaderFaults.{IsHeaderReason}
 use Rattle.dst_spec.proofs.CodeFaults.{header_in_front}
@@ -20,7 +22,7 @@ use Rattle.dsdiff_spec.specs.Form.{Form, shape}
 use Rattle.dsdiff_spec.specs.Words.{frame, check, show_frame}
 use Rattle.dsdiff_spec.specs.Lines.{Line, frame_line, check_line, plain_frame_line, coded_frame_line}
 use Rattle.dsdiff_spec.specs.Outcome.{Answer, done, Refuses, Shows, WritesSound}
-use Rattle.dsdiff_spec.proofs.Verdicts.{NotRefused}
+use Rattle.dsdiff_spec.specs.Progress.{NotRefused}
 use Rattle.dsdiff_spec.proofs.Stopping.{IsSettled, AreSettled, One}
 use Rattle.dst_spec.proofs.Lists.{same_err}
 
@@ -82,8 +84,14 @@ shown_is_settled k f w = elim (offends_or_not f w) [
   | inr none ↦ inr (λ fault r. none fault r.0)
 ]
   where
-    go : (fault : FrameFault) → Offends f w fault → ((other : FrameFault) → Offends f w other → other ≡ fault) → IsHeaderReason fault.reason ⊎ ((fault.reason ≡ FirstCodeBit) ⊎ (fault.reason ≡ CodeRange)) → IsSettled (show_frame k) f w
-    go fault o one (inl h) = inl (record { fault = fault; refuses = (o, (not_of_code fault.reason h).0, (not_of_code fault.reason h).1); only = λ other r. one other r.0 })
+    go : (fault : FrameFault) → Offends f w fault → ((other : FrameFault) → Offends f w other → other ≡ fault) →
+        IsHeaderReason fault.reason ⊎ ((fault.reason ≡ FirstCodeBit) ⊎ (fault.reason ≡ CodeRange)) → IsSettled (show_frame k) f w
+    go fault o one (inl h) = inl (record {
+      fault = fault;
+      refuses = (o, (not_of_code fault.reason h).0, (not_of_code fault.reason h).1);
+      only =
+          λ other r. one other r.0;
+    })
     go fault o one (inr e) = inr (λ other r. never other r e (one other r.0))
       where
         never : (other : FrameFault) → Refuses (show_frame k) f w other → (fault.reason ≡ FirstCodeBit) ⊎ (fault.reason ≡ CodeRange) → other ≡ fault → ⊥
@@ -111,13 +119,15 @@ no_more : (f : Shape) (others : List (List ℕ × ℕ)) → AllMean f [] others 
 no_more f [] h = refl
 no_more f (o ∷ os) h = absurd h
 
-one_more : (f : Shape) (w : List ℕ) (ws : List (List ℕ)) (sound : List ℕ) (tail : ℕ) → IsShape f → MeansWithTail f w sound tail → (rest : OneList f ws) → (others : List (List ℕ × ℕ)) → AllMean f (w ∷ ws) others → others ≡ (sound, tail) ∷ rest.sounds
+one_more : (f : Shape) (w : List ℕ) (ws : List (List ℕ)) (sound : List ℕ) (tail : ℕ) → IsShape f → MeansWithTail f w sound tail → (rest : OneList f ws) →
+    (others : List (List ℕ × ℕ)) → AllMean f (w ∷ ws) others → others ≡ (sound, tail) ∷ rest.sounds
 one_more f w ws sound tail lawful m rest [] h = absurd h
 one_more f w ws sound tail lawful m rest (o ∷ os) h =
     let same = one_tail f w o.0 sound o.1 tail lawful h.0 m in
     ap₂ {A = List ℕ × ℕ} {B = List (List ℕ × ℕ)} (λ x xs. x ∷ xs) (ap₂ {A = List ℕ} {B = ℕ} {C = List ℕ × ℕ} (λ a b. (a, b)) same.0 same.1) (rest.only os h.1)
 
-pub one_list : (f : Shape) (n : ℕ) (frames : List (List ℕ)) → IsShape f → AllByRecursion AreBytes frames → AllByRecursion (λ (p : ℕ × List ℕ). OffendsNever f p.1) (enumerate_from n frames) → OneList f frames
+pub one_list : (f : Shape) (n : ℕ) (frames : List (List ℕ)) → IsShape f → AllByRecursion AreBytes frames →
+    AllByRecursion (λ (p : ℕ × List ℕ). OffendsNever f p.1) (enumerate_from n frames) → OneList f frames
 one_list f n [] lawful bytes never = record { sounds = []; all = tt; only = no_more f }
 one_list f n (w ∷ ws) lawful bytes never =
     let rest = one_list f (n + 1) ws lawful bytes.1 never.1 in
@@ -153,7 +163,8 @@ one_shown f k w line other lawful (inr (P, place, inside, h, e)) (inl (t, q, d))
 one_shown f k w line other lawful (inr (P, place, inside, h, e)) (inr (Q, later, within, j, d)) =
     let xs = bits w in
     let most = lawful.most in
-    let same = header_law f.channels Q P (take later xs) (take place xs) (drop later xs) (drop place xs) most j h (take-append-drop later xs ∙ sym (take-append-drop place xs)) in
+    let same = header_law f.channels Q P (take later xs) (take place xs) (drop later xs) (drop place xs) most j h
+    (take-append-drop later xs ∙ sym (take-append-drop place xs)) in
     let count : later ≡ place = sym (length-take-le later xs within) ∙ ap length same.0 ∙ length-take-le place xs inside in
     d
     ∙ ap (λ (P : Params). coded_frame_line k (length w) (length P.filters) (length P.probs) later) same.1
@@ -165,7 +176,10 @@ some_shown f k w lawful bytes none = go (read (frame_fields f) (bits w) 0) refl
   where
     of_meaning : (sound : List ℕ) → IsPlain f w sound ⊎ IsCoded f w sound → (line : Line) × Shows f k w line
     of_meaning sound (inl p) = (plain_frame_line k (length w), inl (sound, p, refl))
-    of_meaning sound (inr c) = (coded_frame_line k (length w) (length c.params.filters) (length c.params.probs) c.place, inr (c.params, c.place, c.inside, c.header, refl))
+    of_meaning sound (inr c) = (
+      coded_frame_line k (length w) (length c.params.filters) (length c.params.probs) c.place,
+      inr (c.params, c.place, c.inside, c.header, refl),
+    )
 
     go : (q : Result (Option Params × List ℕ × ℕ) FrameFault) → read (frame_fields f) (bits w) 0 ≡ q → (line : Line) × Shows f k w line
     go (Ok r) e =

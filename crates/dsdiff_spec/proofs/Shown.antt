@@ -35,7 +35,13 @@ filter_table = record {
 prob_table : HasTable prob_kind (pos 128 ∷ pos 128 ∷ []) (0 ∷ 0 ∷ 0 ∷ 0 ∷ 0 ∷ 1 ∷ 0 ∷ replicate 14 1)
 unfolding low_bits plain_values table_bits
 prob_table = record {
-  table = record { least = omega arith; most = omega arith; each = ((le_z_yes tt, le_z_yes tt), ((le_z_yes tt, le_z_yes tt), tt)); alone = λ e f. absurd (omega arith) };
+  table = record {
+    least = omega arith;
+    most = omega arith;
+    each = ((le_z_yes tt, le_z_yes tt), ((le_z_yes tt, le_z_yes tt), tt));
+    alone =
+        λ e f. absurd (omega arith);
+  };
   spelling = plain;
   suits = tt;
   spelled = refl;

@@ -1,12 +1,14 @@
 -- How large the plain file may be that a coded one is decoded to.
-use Rattle.std.proofs.Common.{◌≡◌, ℕ, ◌+◌, ◌-◌, ◌*◌, ◌%◌, ◌^◌, ◌<◌, ◌≤◌, ◌==◌, Bool, true, false, if◌then◌else◌, List, [], ◌∷◌, ◌++◌, length, drop, get_or, map, flat_map, filter, refl, arith, length-append, length-drop, None, ltb-false}
+use Rattle.std.proofs.Common.{◌≡◌, ℕ, ◌+◌, ◌-◌, ◌*◌, ◌%◌, ◌^◌, ◌<◌, ◌≤◌, ◌==◌, Bool, true, false, if◌then◌else◌, List, [], ◌∷◌, ◌++◌, length, take, drop}
+use Rattle.std.proofs.Common.{get_or, map, flat_map, filter, refl, sym, ap, ◌∙◌, arith, length-append, length-drop, None, ltb-false}
 use Rattle.std.specs.Prelude.{not, ◌&&◌, ◌||◌, min, codes}
 use Rattle.std.specs.List.{concat, AllByRecursion}
-use Rattle.std.proofs.lemmas.List.{length-take}
+use Rattle.std.proofs.lemmas.List.{length-take, drop-drop}
+use Rattle.std.proofs.Math.Seq.{take-add}
 use Rattle.byteorder.specs.Endian.{big_bytes}
 use Rattle.byteorder.specs.Numbers.{length-bytes_high_first}
 use Rattle.dsdiff_spec.specs.Faults.{◌when◌}
-use Rattle.dsdiff_spec.specs.Bytes.{number_at, between, ◌is◌, ◌above◌}
+use Rattle.dsdiff_spec.specs.Bytes.{number_at, bytes_at, between, ◌is◌, ◌above◌}
 use Rattle.dsdiff_spec.specs.Chunks.{Head, next_place, body_place, body_of}
 use Rattle.dsdiff_spec.specs.Form.{Kind, plain, coded, Origin, Form, whole_chunk, size_of_sound}
 use Rattle.dsdiff_spec.specs.Parts.{kind, form_size, form_end, all, prop_head, prop, in_prop, frame_count, channel_count, sound_bytes_in}
@@ -18,7 +20,7 @@ use Rattle.dsdiff_spec.specs.Pieces.{decoded_size}
 use Rattle.dsdiff_spec.specs.Words.{decode}
 use Rattle.dsdiff_spec.specs.Refusal.{refusal}
 use Rattle.dsdiff_spec.specs.declared.faults.FileFault.TheVariants.{FormTooLarge, PropTooLong}
-use Rattle.dsdiff_spec.proofs.Lawful.{first_gives_none, later_gives_none, when_not}
+use Rattle.dsdiff_spec.proofs.Lawful.{first_gives_none, later_gives_none, when_not, left_is_false, right_is_false}
 use Rattle.dsdiff_spec.proofs.Finding.{found_at_most}
 use Rattle.dsdiff_spec.proofs.CodedFiles.{is_decodable, no_rule_fails, kind_gives_none, bad_among, no_bad_origin, longest_sound}
 use Rattle.dsdiff_spec.proofs.PassedOn.{passed, passed_chunk, goes_before, goes_behind}
@@ -26,6 +28,18 @@ use Rattle.dsdiff_spec.proofs.PassedOn.{passed, passed_chunk, goes_before, goes_
 -- ---- bytes between places of a list
 pub length-between : (w : List ℕ) (place end : ℕ) → length (between w place end) ≤ end - place
 length-between w place end = omega (arith, length-take (end - place) (drop place w))
+
+pub length-bytes_at : (w : List ℕ) (place n : ℕ) → place + n ≤ length w → length (bytes_at w place n) ≡ n
+length-bytes_at w place n le = omega (arith, le, length-take n (drop place w), length-drop place w)
+
+-- from one place to a second, and from there to a third
+pub between-joined : (w : List ℕ) (from mid to : ℕ) → from ≤ mid → mid ≤ to → between w from mid ++ between w mid to ≡ between w from to
+between-joined w from mid to p q =
+    let e : from + (mid - from) ≡ mid = omega arith in
+    let n : mid - from + (to - mid) ≡ to - from = omega arith in
+    ap (λ v. between w from mid ++ take (to - mid) v) (sym (drop-drop (mid - from) from w ∙ ap (λ n. drop n w) e))
+    ∙ sym (take-add (mid - from) (to - mid) (drop from w))
+    ∙ ap (λ k. take k (drop from w)) n
 
 pub length-between_all : (w : List ℕ) (place end : ℕ) → length (between w place end) ≤ length w
 length-between_all w place end = omega (arith, length-take (end - place) (drop place w), length-drop place w)
@@ -39,11 +53,13 @@ length-joined n (w ∷ ws) h =
     let whole = length-append w (concat ws) in
     omega arith
 
-pub length-passed : (n : ℕ) (goes : Head → Bool) (bytes : Head → List ℕ) (heads : List Head) → ((h : Head) → length (bytes h) ≤ n) → length (passed goes bytes heads) ≤ length heads * n
+pub length-passed : (n : ℕ) (goes : Head → Bool) (bytes : Head → List ℕ) (heads : List Head) → ((h : Head) → length (bytes h) ≤ n) →
+    length (passed goes bytes heads) ≤ length heads * n
 length-passed n goes bytes [] each = omega arith
 length-passed n goes bytes (h ∷ hs) each = go (goes h) (length-passed n goes bytes hs each)
   where
-    go : (b : Bool) → length (passed goes bytes hs) ≤ length hs * n → length (concat (map bytes (if b then h ∷ filter goes hs else filter goes hs))) ≤ length (h ∷ hs) * n
+    go : (b : Bool) → length (passed goes bytes hs) ≤ length hs * n →
+        length (concat (map bytes (if b then h ∷ filter goes hs else filter goes hs))) ≤ length (h ∷ hs) * n
     go true later =
         let here = each h in
         let whole = length-append (bytes h) (passed goes bytes hs) in
@@ -63,7 +79,8 @@ form_ends : (file : List ℕ) → form_fault file ≡ None → form_end file ≤
 unfolding form_fault
 form_ends file p =
     let opening = first_gives_none (opening_fault file) _ p in
-    let size = when_not FormTooLarge (form_size file above 2 ^ 50) (first_gives_none (FormTooLarge when form_size file above 2 ^ 50) _ (later_gives_none _ _ opening)) in
+    let size = when_not FormTooLarge (form_size file above 2 ^ 50)
+    (first_gives_none (FormTooLarge when form_size file above 2 ^ 50) _ (later_gives_none _ _ opening)) in
     let most = ltb-false (2 ^ 50) (form_size file) size in
     omega arith
 
@@ -75,14 +92,6 @@ prop_is_short file p =
     let none : (PropTooLong when (prop_head file).size above 65536) ≡ None = later_gives_none _ _ (later_gives_none _ _ chunk) in
     let most = ltb-false 65536 (prop_head file).size (when_not PropTooLong ((prop_head file).size above 65536) none) in
     omega (arith, length-take (prop_head file).size (drop (body_place (prop_head file)) file))
-
-first_is_false : (a b : Bool) → (a || b) ≡ false → a ≡ false
-first_is_false true b p = absurd cc
-first_is_false false b p = refl
-
-last_is_false : (a b : Bool) → (a || b) ≡ false → b ≡ false
-last_is_false true b p = absurd cc
-last_is_false false b p = p
 
 either_is_short : (b : Bool) (x y : Origin) (n : ℕ) → length x.cmpr ≤ n → length y.cmpr ≤ n → length (if b then x else y).cmpr ≤ n
 either_is_short true x y n p q = p
@@ -97,17 +106,20 @@ cmpr_in_body body =
     (record { sound = number_at body 1 8; pad = get_or body 9 0; cmpr = between body 14 end; kept = drop end body })
     (length body) one (length-between_all body 14 end)
 
-body_is_short : (one two : Bool) (body : List ℕ) → not (one || two) ≡ false → (one && bad_version_1 body) ≡ false → (two && bad_version_2 body) ≡ false → length body ≤ 131086
+body_is_short : (one two : Bool) (body : List ℕ) → not (one || two) ≡ false → (one && bad_version_1 body) ≡ false → (two && bad_version_2 body) ≡ false →
+    length body ≤ 131086
 body_is_short true two body neither first second =
-    let long = ltb-false 65545 (length body) (last_is_false _ _ first) in
+    let long = ltb-false 65545 (length body) (right_is_false _ _ first) in
     omega arith
-body_is_short false true body neither first second = ltb-false 131086 (length body) (last_is_false _ _ (first_is_false _ _ (first_is_false _ _ (first_is_false _ _ second))))
+body_is_short false true body neither first second =
+    ltb-false 131086 (length body) (right_is_false _ _ (left_is_false _ _ (left_is_false _ _ (left_is_false _ _ second))))
 body_is_short false false body neither first second = absurd cc
 
 cmpr_is_short : (channels bytes frame_count : ℕ) (body : List ℕ) → is_bad_origin channels bytes frame_count body ≡ false → length (origin_of body).cmpr ≤ 131086
 cmpr_is_short channels bytes frame_count body h =
-    let three = first_is_false _ _ (first_is_false _ _ (first_is_false _ _ (first_is_false _ _ (first_is_false _ _ h)))) in
-    let short = body_is_short (origin_version body == 1) (origin_version body == 2) body (first_is_false _ _ (first_is_false _ _ three)) (last_is_false _ _ (first_is_false _ _ three)) (last_is_false _ _ three) in
+    let three = left_is_false _ _ (left_is_false _ _ (left_is_false _ _ (left_is_false _ _ (left_is_false _ _ h)))) in
+    let short = body_is_short (origin_version body == 1) (origin_version body == 2) body (left_is_false _ _ (left_is_false _ _ three))
+    (right_is_false _ _ (left_is_false _ _ three)) (right_is_false _ _ three) in
     let inside = cmpr_in_body body in
     omega arith
 
@@ -147,7 +159,8 @@ length-prop_with w cmpr p c =
     pad_is_short true = omega arith
     pad_is_short false = omega arith
 
-passed_is_short : (file : List ℕ) (form : Form) → form.end ≤ 2 ^ 50 + 12 → length form.prop ≤ 65536 → length (plain_cmpr form.origin) ≤ 131086 → (h : Head) → length (passed_chunk file form h) ≤ 2 ^ 51
+passed_is_short : (file : List ℕ) (form : Form) → form.end ≤ 2 ^ 50 + 12 → length form.prop ≤ 65536 → length (plain_cmpr form.origin) ≤ 131086 → (h : Head) →
+    length (passed_chunk file form h) ≤ 2 ^ 51
 passed_is_short file form e p c h = either (h.id is "PROP")
   where
     either : (b : Bool) → length (if b then prop_with form.prop (plain_cmpr form.origin) else whole_chunk file form h) ≤ 2 ^ 51
@@ -165,7 +178,8 @@ decoded_size_fits file none =
     let before = length-passed (2 ^ 51) (goes_before form) (passed_chunk file form) form.chunks each in
     let behind = length-passed (2 ^ 51) (goes_behind form) (passed_chunk file form) form.chunks each in
     let sound = longest_sound file form d in
-    sum (size_of_sound form) (length (passed (goes_before form) (passed_chunk file form) form.chunks)) (length (passed (goes_behind form) (passed_chunk file form) form.chunks)) (length form.chunks) count before behind sound
+    sum (size_of_sound form) (length (passed (goes_before form) (passed_chunk file form) form.chunks))
+    (length (passed (goes_behind form) (passed_chunk file form) form.chunks)) (length form.chunks) count before behind sound
   where
     sum : (n a b c : ℕ) → c ≤ 1024 → a ≤ c * 2 ^ 51 → b ≤ c * 2 ^ 51 → n ≤ 112896000000 → 4 + a + (12 + n + n % 2) + b < 2 ^ 63
     sum n a b c h p q r = omega arith

@@ -6,7 +6,8 @@ use Rattle.dst_spec.specs.declared.faults.FrameFault.{FrameFault}
 use Rattle.dsdiff_spec.specs.Form.{Form, shape}
 use Rattle.dsdiff_spec.specs.Words.{Command}
 use Rattle.dsdiff_spec.specs.Outcome.{Answer, frame_refused, Refuses, NoneRefused, run, WrittenBefore, IsStopped, Does, IsDone}
-use Rattle.dsdiff_spec.proofs.Verdicts.{NotRefused, IsRefusedOnce}
+use Rattle.dsdiff_spec.specs.Progress.{NotRefused}
+use Rattle.dsdiff_spec.proofs.Verdicts.{IsRefusedOnce}
 
 -- a frame is refused with one fault, or isn't refused
 abbrev pub IsSettled : Command → Shape → List ℕ → Type 0
@@ -28,9 +29,19 @@ pub record StopsIn (c : Command) (form : Form) (frames : List (ℕ × List ℕ))
 
 pub stops_or_not : (c : Command) (form : Form) (frames : List (ℕ × List ℕ)) → AreSettled c form frames → StopsIn c form frames ⊎ NoneRefused c form frames
 stops_or_not c form [] h = inr tt
-stops_or_not c form (x ∷ xs) (inl r, more) = inl (record { before = []; stop = x; behind = xs; whole = refl; fault = r.fault; refuses = r.refuses; only = r.only; first = tt })
+stops_or_not c form (x ∷ xs) (inl r, more) =
+    inl (record { before = []; stop = x; behind = xs; whole = refl; fault = r.fault; refuses = r.refuses; only = r.only; first = tt })
 stops_or_not c form (x ∷ xs) (inr n, more) = elim (stops_or_not c form xs more) [
-  | inl s ↦ inl (record { before = x ∷ s.before; stop = s.stop; behind = s.behind; whole = ap {A = List (ℕ × List ℕ)} (λ l. x ∷ l) s.whole; fault = s.fault; refuses = s.refuses; only = s.only; first = (n, s.first) })
+  | inl s ↦ inl (record {
+    before = x ∷ s.before;
+    stop = s.stop;
+    behind = s.behind;
+    whole = ap {A = List (ℕ × List ℕ)} (λ l. x ∷ l) s.whole;
+    fault = s.fault;
+    refuses = s.refuses;
+    only = s.only;
+    first = (n, s.first);
+  })
   | inr none ↦ inr (n, none)
 ]
 
@@ -41,15 +52,18 @@ tail_is : {A : Type 0} (x y : A) (xs ys : List A) → x ∷ xs ≡ y ∷ ys → 
 tail_is x y xs ys e = cc
 
 -- two first ones are the same
-pub one_first : (c : Command) (form : Form) (a b : List (ℕ × List ℕ)) (x y : ℕ × List ℕ) (u v : List (ℕ × List ℕ)) (e f : FrameFault) → a ++ x ∷ u ≡ b ++ y ∷ v →
+pub one_first : (c : Command) (form : Form) (a b : List (ℕ × List ℕ)) (x y : ℕ × List ℕ) (u v : List (ℕ × List ℕ)) (e f : FrameFault) →
+    a ++ x ∷ u ≡ b ++ y ∷ v →
     NoneRefused c form a → NoneRefused c form b → Refuses c (shape form) x.1 e → Refuses c (shape form) y.1 f → x ≡ y
 one_first c form [] [] x y u v e f is m n r s = head_is x y u v is
 one_first c form [] (q ∷ b) x y u v e f is m n r s = absurd (n.0 e (subst (λ (p : ℕ × List ℕ). Refuses c (shape form) p.1 e) (head_is x q u (b ++ y ∷ v) is) r))
-one_first c form (p ∷ a) [] x y u v e f is m n r s = absurd (m.0 f (subst (λ (p : ℕ × List ℕ). Refuses c (shape form) p.1 f) (sym (head_is p y (a ++ x ∷ u) v is)) s))
+one_first c form (p ∷ a) [] x y u v e f is m n r s =
+    absurd (m.0 f (subst (λ (p : ℕ × List ℕ). Refuses c (shape form) p.1 f) (sym (head_is p y (a ++ x ∷ u) v is)) s))
 one_first c form (p ∷ a) (q ∷ b) x y u v e f is m n r s = one_first c form a b x y u v e f (tail_is p q (a ++ x ∷ u) (b ++ y ∷ v) is) m.1 n.1 r s
 
 -- where none is refused there is no first one
-pub not_both : (c : Command) (form : Form) (a : List (ℕ × List ℕ)) (x : ℕ × List ℕ) (u : List (ℕ × List ℕ)) (e : FrameFault) → NoneRefused c form (a ++ x ∷ u) → Refuses c (shape form) x.1 e → ⊥
+pub not_both : (c : Command) (form : Form) (a : List (ℕ × List ℕ)) (x : ℕ × List ℕ) (u : List (ℕ × List ℕ)) (e : FrameFault) →
+    NoneRefused c form (a ++ x ∷ u) → Refuses c (shape form) x.1 e → ⊥
 not_both c form [] x u e h r = h.0 e r
 not_both c form (p ∷ a) x u e h r = not_both c form a x u e h.1 r
 
@@ -60,9 +74,11 @@ One P = (o : Answer) × P o × ((other : Answer) → P other → other ≡ o)
 abbrev pub WritesNothing : Command → List ℕ → Form → Type 0
 WritesNothing c file form = (k : ℕ) → WrittenBefore c file form k [] × ((out : List ℕ) → WrittenBefore c file form k out → out ≡ [])
 
-same_stop : (c : Command) (file : List ℕ) (form : Form) (o other : Answer) (s : StopsIn c form (run c file form)) → WritesNothing c file form → o ≡ frame_refused s.stop.0 s.fault [] → IsStopped c file form other → other ≡ o
+same_stop : (c : Command) (file : List ℕ) (form : Form) (o other : Answer) (s : StopsIn c form (run c file form)) → WritesNothing c file form →
+    o ≡ frame_refused s.stop.0 s.fault [] → IsStopped c file form other → other ≡ o
 same_stop c file form o other s nothing is t =
-    let same = one_first c form t.before s.before t.stop s.stop t.behind s.behind t.fault s.fault (sym t.is_run ∙ s.whole) t.first s.first t.refuses s.refuses in
+    let same = one_first c form t.before s.before t.stop s.stop t.behind s.behind t.fault s.fault
+    (sym t.is_run ∙ s.whole) t.first s.first t.refuses s.refuses in
     let fault = s.only t.fault (subst (λ (p : ℕ × List ℕ). Refuses c (shape form) p.1 t.fault) same t.refuses) in
     let out = (nothing t.stop.0).1 t.out t.written in
     t.answer
@@ -71,22 +87,40 @@ same_stop c file form o other s nothing is t =
     ∙ ap (λ (p : ℕ × List ℕ). frame_refused p.0 s.fault []) same
     ∙ sym is
 
-pub one_of_run : (c : Command) (file : List ℕ) (form : Form) → AreSettled c form (run c file form) → WritesNothing c file form → (NoneRefused c form (run c file form) → One (Does c file form)) →
+pub one_of_run : (c : Command) (file : List ℕ) (form : Form) → AreSettled c form (run c file form) → WritesNothing c file form →
+    (NoneRefused c form (run c file form) → One (Does c file form)) →
     One (λ o. IsStopped c file form o ⊎ IsDone c file form o)
 one_of_run c file form settled nothing does = go (stops_or_not c form (run c file form) settled)
   where
-    stops : (s : StopsIn c form (run c file form)) (o : Answer) → o ≡ frame_refused s.stop.0 s.fault [] → (other : Answer) → IsStopped c file form other ⊎ IsDone c file form other → other ≡ o
+    stops : (s : StopsIn c form (run c file form)) (o : Answer) → o ≡ frame_refused s.stop.0 s.fault [] → (other : Answer) →
+        IsStopped c file form other ⊎ IsDone c file form other → other ≡ o
     stops s o is other (inl t) = same_stop c file form o other s nothing is t
     stops s o is other (inr d) = absurd (not_both c form s.before s.stop s.behind s.fault (subst (NoneRefused c form) s.whole d.0) s.refuses)
 
-    done : (none : NoneRefused c form (run c file form)) (one : One (Does c file form)) (other : Answer) → IsStopped c file form other ⊎ IsDone c file form other → other ≡ one.0
+    done : (none : NoneRefused c form (run c file form)) (one : One (Does c file form)) (other : Answer) →
+        IsStopped c file form other ⊎ IsDone c file form other → other ≡ one.0
     done none one other (inl t) = absurd (not_both c form t.before t.stop t.behind t.fault (subst (NoneRefused c form) t.is_run none) t.refuses)
     done none one other (inr d) = one.2 other d.1
 
     go : StopsIn c form (run c file form) ⊎ NoneRefused c form (run c file form) → One (λ o. IsStopped c file form o ⊎ IsDone c file form o)
     go (inl s) =
-        let o = frame_refused s.stop.0 s.fault [] in
-        (o, inl (record { before = s.before; stop = s.stop; behind = s.behind; is_run = s.whole; fault = s.fault; refuses = s.refuses; first = s.first; out = []; written = (nothing s.stop.0).0; answer = refl }), stops s o refl)
+        let o = frame_refused s.stop.0 s.fault [] in (
+          o,
+          inl (record {
+            before = s.before;
+            stop = s.stop;
+            behind = s.behind;
+            is_run = s.whole;
+            fault = s.fault;
+            refuses = s.refuses;
+            first = s.first;
+            out =
+                [];
+            written = (nothing s.stop.0).0;
+            answer = refl;
+          }),
+          stops s o refl,
+        )
     go (inr none) =
         let one = does none in
         (one.0, inr (none, one.1), done none one)

@@ -4,11 +4,18 @@ use Rattle.std.specs.Prelude.{codes, ⊤}
 use Rattle.std.specs.Fmt.{digits}
 use Prim.Native.String.{String}
 use Rattle.dst_spec.proofs.Refusals.{at}
-use Rattle.dst_spec.specs.declared.faults.Reason.TheVariants.{Truncated, PlainStuffing, MultiSegment, MapSkips, MethodReserved, TableTooShort, CoefRange, ProbRange, FirstCodeBit, CodeRange}
+use Rattle.dst_spec.specs.declared.faults.Reason.TheVariants.{Truncated, PlainStuffing, MultiSegment, MapSkips, MethodReserved, TableTooShort, CoefRange}
+use Rattle.dst_spec.specs.declared.faults.Reason.TheVariants.{ProbRange, FirstCodeBit, CodeRange}
 use Rattle.dsdiff_spec.specs.Rules.{accepted}
 use Rattle.dsdiff_spec.specs.Walk.{entries}
-use Rattle.dsdiff_spec.specs.Lines.{Line, report, words_line, read_fault_line, write_fault_line, memory_line, file_line, frame_fault_line, coded_line, decoded_line, cut_line, frame_line, range_line, check_line, made_line, made_run_line, show_lines, plain_frame_line, coded_frame_line, index_lines}
-use Rattle.dsdiff_spec.specs.declared.faults.FileFault.TheVariants.{NotForm, FormType, Overrun, Version, PropMissing, PropTwice, PropType, PropTooLong, Rate, Channels, Compression, SoundMissing, SoundTwice, SoundUneven, FrameRate, CountDiffers, FrameTooLong, TooManyFrames, TooManyChunks, NotPlain, KeptBad, Range, IndexMissing, IndexBad, FormTooLarge, CodedChunk, NotCoded, TailTooLong, DsfForm, DsfFormat, DsfCount, DsfKeptBad, RangePast}
+use Rattle.dsdiff_spec.specs.Lines.{Line, report, words_line, read_fault_line, write_fault_line, memory_line, file_line, frame_fault_line, coded_line}
+use Rattle.dsdiff_spec.specs.Lines.{decoded_line, cut_line, frame_line, range_line, check_line, made_line, made_run_line, show_lines, plain_frame_line}
+use Rattle.dsdiff_spec.specs.Lines.{coded_frame_line, index_lines}
+use Rattle.dsdiff_spec.specs.declared.faults.FileFault.TheVariants.{NotForm, FormType, Overrun, Version, PropMissing, PropTwice, PropType, PropTooLong, Rate}
+use Rattle.dsdiff_spec.specs.declared.faults.FileFault.TheVariants.{Channels, Compression, SoundMissing, SoundTwice, SoundUneven, FrameRate, CountDiffers}
+use Rattle.dsdiff_spec.specs.declared.faults.FileFault.TheVariants.{FrameTooLong, TooManyFrames, TooManyChunks, NotPlain, KeptBad, Range, IndexMissing}
+use Rattle.dsdiff_spec.specs.declared.faults.FileFault.TheVariants.{IndexBad, FormTooLarge, CodedChunk, NotCoded, TailTooLong, DsfForm, DsfFormat, DsfCount}
+use Rattle.dsdiff_spec.specs.declared.faults.FileFault.TheVariants.{DsfKeptBad, RangePast}
 use Rattle.dsdiff_spec.proofs.Files.{example, two, two_coded}
 use Rattle.dsdiff_spec.proofs.Forms.{forms_open}
 

@@ -1,5 +1,6 @@
 -- Bytes that chunks tile are read as these chunks.
-use Rattle.std.proofs.Common.{◌≡◌, ℕ, zero, suc, ◌+◌, ◌-◌, ◌%◌, ◌<◌, ◌≤◌, List, [], ◌∷◌, ◌++◌, length, take, drop, get_or, flat_map, Bool, true, Some, refl, sym, ap, ◌∙◌, arith, None, length-append, take_at, append_assoc, append-nil}
+use Rattle.std.proofs.Common.{◌≡◌, ℕ, zero, suc, ◌+◌, ◌-◌, ◌%◌, ◌<◌, ◌≤◌, List, [], ◌∷◌, ◌++◌, length, take, drop, get_or, flat_map, Bool, true, Some, refl}
+use Rattle.std.proofs.Common.{sym, ap, ◌∙◌, arith, None, length-append, take_at, append_assoc, append-nil}
 use Rattle.std.proofs.lemmas.List.{drop_at, get_or-append-add}
 use Rattle.dsdiff_spec.specs.declared.faults.FileFault.TheVariants.{TooManyChunks}
 use Rattle.dsdiff_spec.proofs.Steps.{with_head, fits_whole, found_at_end, found_at_limit, found_at_chunk}

@@ -9,11 +9,9 @@ use Rattle.dst_spec.specs.declared.faults.FrameFault.{FrameFault}
 use Rattle.dst_spec.proofs.Understood.{decoding_law}
 use Rattle.dsdiff_spec.specs.Words.{Command, decode}
 use Rattle.dsdiff_spec.specs.Outcome.{Refuses}
+use Rattle.dsdiff_spec.specs.Progress.{NotRefused, NoneOf}
 
 -- ---- one frame
-abbrev pub NotRefused : Command → Shape → List ℕ → Type 0
-NotRefused c f frame = (fault : FrameFault) → Refuses c f frame fault → ⊥
-
 pub record IsRefusedOnce (c : Command) (f : Shape) (frame : List ℕ) : Type 0 where
   pub fault : FrameFault
   pub refuses : Refuses c f frame fault
@@ -39,9 +37,6 @@ frame_is_answered f frame shape bytes = elim (decoding_law f frame shape bytes) 
 abbrev pub AreAnswered : Command → Shape → List (List ℕ) → Type 0
 AreAnswered c f frames = AllByRecursion (IsAnswered c f) frames
 
-abbrev pub NoneOf : Command → Shape → List (List ℕ) → Type 0
-NoneOf c f frames = AllByRecursion (NotRefused c f) frames
-
 -- frame k is the first that is refused
 pub record StopsAt (c : Command) (f : Shape) (frames : List (List ℕ)) (k : ℕ) (fault : FrameFault) : Type 0 where
   pub within : k < length frames
@@ -63,7 +58,8 @@ pub record Goes (c : Command) (f : Shape) (frames : List (List ℕ)) : Type 0 wh
 
 pub verdict : (c : Command) (f : Shape) (frames : List (List ℕ)) → AreAnswered c f frames → Stops c f frames ⊎ Goes c f frames
 verdict c f [] a = inr (record { none = tt; sounds = []; each = tt })
-verdict c f (x ∷ xs) (inl r, more) = inl (record { k = 0; fault = r.fault; stops = record { within = omega arith; first = tt; refuses = r.refuses }; sounds = []; each = tt })
+verdict c f (x ∷ xs) (inl r, more) = inl
+    (record { k = 0; fault = r.fault; stops = record { within = omega arith; first = tt; refuses = r.refuses }; sounds = []; each = tt })
 verdict c f (x ∷ xs) (inr u, more) = elim (verdict c f xs more) [
   | inl s ↦ inl (record {
     k = suc s.k;
@@ -76,16 +72,6 @@ verdict c f (x ∷ xs) (inr u, more) = elim (verdict c f xs more) [
 ]
 
 -- ---- there is one
-pub all_taken : {X : Type 0} (P : X → Type 0) (k : ℕ) (xs : List X) → AllByRecursion P xs → AllByRecursion P (take k xs)
-all_taken P zero xs h = tt
-all_taken P (suc k) [] h = tt
-all_taken P (suc k) (x ∷ xs) h = (h.0, all_taken P k xs h.1)
-
-pub one_of_all : {X : Type 0} (P : X → Type 0) (xs : List X) (i : ℕ) (d : X) → AllByRecursion P xs → i < length xs → P (get_or xs i d)
-one_of_all P [] i d h l = absurd (omega arith)
-one_of_all P (x ∷ xs) zero d h l = h.0
-one_of_all P (x ∷ xs) (suc i) d h l = one_of_all P xs i d h.1 (omega arith)
-
 one_of_taken : {X : Type 0} (P : X → Type 0) (k : ℕ) (xs : List X) (i : ℕ) (d : X) → AllByRecursion P (take k xs) → i < k → i < length xs → P (get_or xs i d)
 one_of_taken P zero xs i d h l m = absurd (omega arith)
 one_of_taken P (suc k) [] i d h l m = absurd (omega arith)
@@ -93,7 +79,8 @@ one_of_taken P (suc k) (x ∷ xs) zero d h l m = h.0
 one_of_taken P (suc k) (x ∷ xs) (suc i) d h l m = one_of_taken P k xs i d h.1 (omega arith) (omega arith)
 
 -- frames that aren't refused mean one list of sounds
-pub one_list : (c : Command) (f : Shape) (frames a b : List (List ℕ)) → AreAnswered c f frames → NoneOf c f frames → AllZip (Means f) frames a → AllZip (Means f) frames b → a ≡ b
+pub one_list : (c : Command) (f : Shape) (frames a b : List (List ℕ)) → AreAnswered c f frames → NoneOf c f frames → AllZip (Means f) frames a →
+    AllZip (Means f) frames b → a ≡ b
 one_list c f [] [] [] k none p q = refl
 one_list c f [] [] (y ∷ ys) k none p q = absurd q
 one_list c f [] (x ∷ xs) b k none p q = absurd p
@@ -116,7 +103,8 @@ fewer_sounds c f (g ∷ gs) (x ∷ xs) (y ∷ ys) (suc k) (inr u, rest) none p q
     (later.0, ap₂ {A = List ℕ} (λ s ss. s ∷ ss) (u.only y q.0 ∙ sym (u.only x p.0)) later.1)
 
 -- and one frame is the first that is refused, with one fault
-pub stop_is_not_earlier : (c : Command) (f : Shape) (frames : List (List ℕ)) (i k : ℕ) (fault : FrameFault) → NoneOf c f (take k frames) → i < k → i < length frames → Refuses c f (get_or frames i []) fault → ⊥
+pub stop_is_not_earlier : (c : Command) (f : Shape) (frames : List (List ℕ)) (i k : ℕ) (fault : FrameFault) → NoneOf c f (take k frames) → i < k →
+    i < length frames → Refuses c f (get_or frames i []) fault → ⊥
 stop_is_not_earlier c f frames i k fault none l m r = one_of_taken (NotRefused c f) k frames i [] none l m fault r
 
 pub one_stop : (c : Command) (f : Shape) (frames : List (List ℕ)) (i k : ℕ) (a b : FrameFault) → StopsAt c f frames i a → StopsAt c f frames k b → i ≡ k

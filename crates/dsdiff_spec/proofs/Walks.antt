@@ -61,7 +61,8 @@ unfolding forms_open
 longest_frames = refl
 
 pub a_million_frames_may_be_found :
-    map (frame_fault example_form) ((999999, head (codes "DSTF") 140 9410) ∷ (1000000, head (codes "DSTF") 140 9410) ∷ (1000000, head (codes "DSTF") 140 9411) ∷ [])
+    map (frame_fault example_form) ((999999, head (codes "DSTF") 140 9410) ∷ (1000000, head (codes "DSTF") 140 9410) ∷
+    (1000000, head (codes "DSTF") 140 9411) ∷ [])
     ≡ None ∷ Some TooManyFrames ∷ Some (FrameTooLong 1000000 9411) ∷ []
 a_million_frames_may_be_found = refl
 

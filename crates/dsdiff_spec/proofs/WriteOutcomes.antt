@@ -20,11 +20,13 @@ pub file_without_sound_is_coded : Outcome (words ("encode" ∷ "a" ∷ "b" ∷ [
 unfolding writing_open
 file_without_sound_is_coded = inr (tt, refl)
 
-pub bytes_behind_the_form_are_coded : Outcome (words ("encode" ∷ "a" ∷ "b" ∷ "--level" ∷ "2" ∷ [])) tailed (says 0 tailed_coded ("coded 0 frames into 0 bytes" ∷ []))
+pub bytes_behind_the_form_are_coded : Outcome (words ("encode" ∷ "a" ∷ "b" ∷ "--level" ∷ "2" ∷ [])) tailed
+    (says 0 tailed_coded ("coded 0 frames into 0 bytes" ∷ []))
 unfolding writing_open
 bytes_behind_the_form_are_coded = inr (tt, refl)
 
-pub two_frames_are_coded_at_level_0 : Outcome (words ("encode" ∷ "a" ∷ "b" ∷ "--level" ∷ "0" ∷ [])) two (says 0 two_coded ("coded 2 frames into 9410 bytes" ∷ []))
+pub two_frames_are_coded_at_level_0 : Outcome (words ("encode" ∷ "a" ∷ "b" ∷ "--level" ∷ "0" ∷ [])) two
+    (says 0 two_coded ("coded 2 frames into 9410 bytes" ∷ []))
 unfolding writing_open
 two_frames_are_coded_at_level_0 = inr (tt, refl)
 

@@ -1,10 +1,13 @@
 -- The laws of files, as statements.
-use Rattle.std.specs.Prelude.{◌≡◌, ◌↔◌, ℕ, ◌+◌, ◌-◌, ◌*◌, ◌<◌, ◌≤◌, Bool, true, false, if◌then◌else◌, List, [], ◌∷◌, ◌++◌, length, take, drop, Some, None}
+use Rattle.std.specs.Prelude.{◌≡◌, ◌↔◌, ℕ, ◌+◌, ◌-◌, ◌*◌, ◌<◌, ◌≤◌, Bool, true, false, if◌then◌else◌, List, [], ◌∷◌, ◌++◌, get_or, length, take, drop, Some}
+use Rattle.std.specs.Prelude.{None}
 use Rattle.std.specs.List.{AllByRecursion, AllZip, concat}
 use Rattle.dst_spec.specs.Bits.{AreBytes}
 use Rattle.dst_spec.specs.Sample.{Shape, IsShape, IsSound}
 use Rattle.dst_spec.specs.Header.{IsParams}
 use Rattle.dst_spec.specs.Means.{Means}
+use Rattle.level_spec.specs.Picks.{level_picks}
+use Rattle.dsdiff_spec.specs.Chunks.{body_of}
 use Rattle.dsdiff_spec.specs.Form.{Form, shape, sound_bytes_of, size_of_sound}
 use Rattle.dsdiff_spec.specs.Rules.{accepted}
 use Rattle.dsdiff_spec.specs.Walk.{index_heads, compare_fault}
@@ -16,7 +19,8 @@ use Rattle.dsdiff_spec.specs.Dsf.{dsf_fault, dsdiff, ToDsf, bare}
 use Rattle.dsdiff_spec.specs.Words.{Word, Command, Task, encode, decode, cut, frame, check, index}
 use Rattle.dsdiff_spec.specs.Rows.{Row, rows, row_task}
 use Rattle.dsdiff_spec.specs.Refusal.{refusal}
-use Rattle.dsdiff_spec.specs.Outcome.{Answer, OfCommand, Outcome}
+use Rattle.dsdiff_spec.specs.Outcome.{Answer, done, coded_at, stored_at, OfCommand, Outcome}
+use Rattle.dsdiff_spec.specs.Lines.{coded_line, decoded_line, frame_line}
 
 -- a file that a command accepts
 abbrev pub IsAccepted : Command → List ℕ → Type 0
@@ -32,6 +36,10 @@ IsCodedFile file = IsAccepted decode file
 abbrev pub ArePicks : Picks → Type 0
 ArePicks picks =
     (sound : List ℕ) (f : Shape) → IsShape f → IsSound f sound → (length (picks sound f) ≤ 11) × AllByRecursion (IsParams f.channels) (picks sound f)
+
+-- those of each level are such
+abbrev pub LevelPicksLaw : Type 0
+LevelPicksLaw = (level : ℕ) → ArePicks (level_picks level)
 
 abbrev pub coded_file : Picks → List ℕ → List ℕ
 coded_file picks file = coded picks file (accepted file)
@@ -104,6 +112,25 @@ pub record IsCut (file : List ℕ) (first last : ℕ) (g : List ℕ) : Type 0 wh
 abbrev pub CuttingLaw : Type 0
 CuttingLaw =
     (file : List ℕ) (first last : ℕ) → first ≤ last → IsAccepted (cut first last) file → IsCut file first last (cut_file file first last)
+
+-- The promise of the whole. Of an accepted plain file encoding at a level has one outcome: the file that the definitions name, in which
+-- no frame is longer than its plain form of one byte more than its sound. Decoding that file has one outcome, the plain file, byte for
+-- byte; and writing one frame of it, found by its chunk or by the index, has one: that piece of the sound.
+abbrev pub IsTheOutcome : Command → List ℕ → Answer → Type 0
+IsTheOutcome c file o = OfCommand c file (refusal c file) o × ((other : Answer) → OfCommand c file (refusal c file) other → other ≡ o)
+
+abbrev pub piece_of : List ℕ → Form → ℕ → List ℕ
+piece_of file form k = get_or (pieces (sound_bytes_of form) (body_of file form.sound)) k []
+
+pub record ComesBack (level : ℕ) (file : List ℕ) (form : Form) (out : List ℕ) : Type 0 where
+  pub encoded : IsTheOutcome (encode level) file (done out (coded_line form.frames (stored_at level file form) ∷ []))
+  pub never_longer : AllByRecursion (λ w. length w ≤ 1 + sound_bytes_of form) (frames_of out (accepted out))
+  pub decoded : IsTheOutcome decode out (done file (decoded_line form.frames (size_of_sound form) ∷ []))
+  pub each_frame : (k : ℕ) (by_index : Bool) → k < form.frames →
+      IsTheOutcome (frame k by_index) out (done (piece_of file form k) (frame_line k (sound_bytes_of form) ∷ []))
+
+abbrev pub HeadlineLaw : Type 0
+HeadlineLaw = (file : List ℕ) (level : ℕ) → IsPlainFile file → ComesBack level file (accepted file) (coded_at level file (accepted file))
 
 -- what encoding writes of a DSF file is decoded to one DSF file, the same with its sound alone
 abbrev pub DsfLaw : Type 0

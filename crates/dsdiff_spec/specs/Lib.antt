@@ -22,3 +22,4 @@ pub mod Ranges
 pub mod Outcome
 pub mod Laws
 pub mod Pieces
+pub mod Progress

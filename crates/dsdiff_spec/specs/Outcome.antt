@@ -20,7 +20,8 @@ use Rattle.dsdiff_spec.specs.Made.{made}
 use Rattle.dsdiff_spec.specs.Words.{Word, Command, encode, decode, cut, frame, check, show, show_frame, index, make, make_run}
 use Rattle.dsdiff_spec.specs.Rows.{command_of}
 use Rattle.dsdiff_spec.specs.Refusal.{refusal}
-use Rattle.dsdiff_spec.specs.Lines.{Line, words_line, file_line, frame_fault_line, coded_line, decoded_line, cut_line, frame_line, made_line, made_run_line, check_line, show_lines, plain_frame_line, coded_frame_line, index_lines}
+use Rattle.dsdiff_spec.specs.Lines.{Line, words_line, file_line, frame_fault_line, coded_line, decoded_line, cut_line, frame_line, made_line, made_run_line}
+use Rattle.dsdiff_spec.specs.Lines.{check_line, show_lines, plain_frame_line, coded_frame_line, index_lines}
 use Rattle.dsdiff_spec.specs.declared.faults.FileFault.{FileFault}
 
 pub record Answer : Type 0 where

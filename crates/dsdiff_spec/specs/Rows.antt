@@ -3,7 +3,8 @@
 use Rattle.std.specs.Prelude.{ℕ, Bool, ◌==◌, if◌then◌else◌, List, [], ◌∷◌, length, Option, Some, None, option_map}
 use Rattle.dsdiff_spec.specs.Bytes.{◌is◌}
 use Rattle.dsdiff_spec.specs.Faults.{first_some}
-use Rattle.dsdiff_spec.specs.Words.{Word, Command, Task, encode, decode, frame, check, show, show_frame, index, Slot, file, number, read_slots, Setting, level, workers, by_index, read_settings, set_or}
+use Rattle.dsdiff_spec.specs.Words.{Word, Command, Task, encode, decode, frame, check, show, show_frame, index, Slot, file, number, read_slots, Setting, level}
+use Rattle.dsdiff_spec.specs.Words.{workers, by_index, read_settings, set_or}
 use Prim.Native.String.{String}
 
 pub record Row : Type 0 where

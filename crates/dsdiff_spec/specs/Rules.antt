@@ -1,13 +1,18 @@
 -- The rules of the form, in order. The first that fails gives the file's fault; where none fails the file is a form.
-use Rattle.std.specs.Prelude.{ℕ, ◌+◌, ◌*◌, ◌%◌, ◌^◌, Bool, true, false, not, ◌&&◌, ◌||◌, ◌==◌, List, [], ◌∷◌, length, get_or, filter, Option, Some, None, Result, Ok, Err, bytes_eq}
+use Rattle.std.specs.Prelude.{ℕ, ◌+◌, ◌*◌, ◌%◌, ◌^◌, Bool, true, false, not, ◌&&◌, ◌||◌, ◌==◌, List, [], ◌∷◌, length, get_or, filter, Option, Some, None}
+use Rattle.std.specs.Prelude.{Result, Ok, Err, bytes_eq}
 use Rattle.dsdiff_spec.specs.Bytes.{bytes_at, number_at, ◌is◌, ◌below◌, ◌above◌}
 use Rattle.dsdiff_spec.specs.Faults.{◌when◌, ◌otherwise◌}
 use Rattle.dsdiff_spec.specs.Chunks.{Head, the_first, body_place, body_of}
 use Rattle.dsdiff_spec.specs.Form.{Kind, plain, coded, Origin, Form}
-use Rattle.dsdiff_spec.specs.Parts.{form_size, form_end, top_level, all, prop_head, prop, in_prop, local, rate_head, channels_head, cmpr_head, rate, channel_count, compression, multiple, sound_bytes_in, sounds, sound_head, kind, frames_needed, pad_byte, behind_form, frame_count, frame_rate}
+use Rattle.dsdiff_spec.specs.Parts.{form_size, form_end, top_level, all, prop_head, prop, in_prop, local, rate_head, channels_head, cmpr_head, rate}
+use Rattle.dsdiff_spec.specs.Parts.{channel_count, compression, multiple, sound_bytes_in, sounds, sound_head, kind, frames_needed, pad_byte, behind_form}
+use Rattle.dsdiff_spec.specs.Parts.{frame_count, frame_rate}
 use Rattle.dsdiff_spec.specs.Origin.{origin_of, is_bad_origin, outside}
 use Rattle.dsdiff_spec.specs.declared.faults.FileFault.{FileFault}
-use Rattle.dsdiff_spec.specs.declared.faults.FileFault.TheVariants.{NotForm, FormType, Overrun, Version, PropMissing, PropTwice, PropType, PropTooLong, Rate, Channels, Compression, SoundMissing, SoundTwice, SoundUneven, FrameRate, TooManyFrames, TooManyChunks, KeptBad, FormTooLarge, CodedChunk, TailTooLong}
+use Rattle.dsdiff_spec.specs.declared.faults.FileFault.TheVariants.{NotForm, FormType, Overrun, Version, PropMissing, PropTwice, PropType, PropTooLong, Rate}
+use Rattle.dsdiff_spec.specs.declared.faults.FileFault.TheVariants.{Channels, Compression, SoundMissing, SoundTwice, SoundUneven, FrameRate, TooManyFrames}
+use Rattle.dsdiff_spec.specs.declared.faults.FileFault.TheVariants.{TooManyChunks, KeptBad, FormTooLarge, CodedChunk, TailTooLong}
 
 -- the file begins with the head of a form, which lies whole in the file and holds whole chunks
 abbrev pub opening_fault : List ℕ → Option FileFault

@@ -1,9 +1,14 @@
 -- The texts of refusals: the number and the name of each fault, and the numbers behind them.
 use Rattle.std.specs.Prelude.{ℕ, List, [], ◌∷◌}
 use Rattle.dst_spec.specs.declared.faults.Reason.{Reason}
-use Rattle.dst_spec.specs.declared.faults.Reason.TheVariants.{Truncated, PlainStuffing, MultiSegment, MapSkips, MethodReserved, TableTooShort, CoefRange, ProbRange, FirstCodeBit, CodeRange}
+use Rattle.dst_spec.specs.declared.faults.Reason.TheVariants.{Truncated, PlainStuffing, MultiSegment, MapSkips, MethodReserved, TableTooShort, CoefRange}
+use Rattle.dst_spec.specs.declared.faults.Reason.TheVariants.{ProbRange, FirstCodeBit, CodeRange}
 use Rattle.dsdiff_spec.specs.declared.faults.FileFault.{FileFault}
-use Rattle.dsdiff_spec.specs.declared.faults.FileFault.TheVariants.{NotForm, FormType, Overrun, Version, PropMissing, PropTwice, PropType, PropTooLong, Rate, Channels, Compression, SoundMissing, SoundTwice, SoundUneven, FrameRate, CountDiffers, FrameTooLong, TooManyFrames, TooManyChunks, NotPlain, KeptBad, Range, IndexMissing, IndexBad, FormTooLarge, CodedChunk, NotCoded, TailTooLong, DsfForm, DsfFormat, DsfCount, DsfKeptBad, RangePast}
+use Rattle.dsdiff_spec.specs.declared.faults.FileFault.TheVariants.{NotForm, FormType, Overrun, Version, PropMissing, PropTwice, PropType, PropTooLong, Rate}
+use Rattle.dsdiff_spec.specs.declared.faults.FileFault.TheVariants.{Channels, Compression, SoundMissing, SoundTwice, SoundUneven, FrameRate, CountDiffers}
+use Rattle.dsdiff_spec.specs.declared.faults.FileFault.TheVariants.{FrameTooLong, TooManyFrames, TooManyChunks, NotPlain, KeptBad, Range, IndexMissing}
+use Rattle.dsdiff_spec.specs.declared.faults.FileFault.TheVariants.{IndexBad, FormTooLarge, CodedChunk, NotCoded, TailTooLong, DsfForm, DsfFormat, DsfCount}
+use Rattle.dsdiff_spec.specs.declared.faults.FileFault.TheVariants.{DsfKeptBad, RangePast}
 use Prim.Native.String.{String}
 
 -- why a file is refused

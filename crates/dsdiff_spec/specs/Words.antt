@@ -1,5 +1,6 @@
 -- Words of a command line, and the command that they give, if any. A word is the list of its bytes.
-use Rattle.std.specs.Prelude.{ℕ, zero, suc, ◌+◌, ◌-◌, ◌*◌, Bool, true, false, not, ◌&&◌, ◌||◌, ◌==◌, if◌then◌else◌, List, [], ◌∷◌, ◌++◌, length, fold, filter, find, Option, Some, None, option_map}
+use Rattle.std.specs.Prelude.{ℕ, zero, suc, ◌+◌, ◌-◌, ◌*◌, Bool, true, false, not, ◌&&◌, ◌||◌, ◌==◌, if◌then◌else◌, List, [], ◌∷◌, ◌++◌, length, fold, filter}
+use Rattle.std.specs.Prelude.{find, Option, Some, None, option_map}
 use Rattle.std.specs.List.{list_all}
 use Rattle.dsdiff_spec.specs.Bytes.{◌is◌, ◌above◌}
 use Rattle.dsdiff_spec.specs.Origin.{outside}

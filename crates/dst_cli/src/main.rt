@@ -1,6 +1,7 @@
-//! The program `dst_cli`: reads Direct Stream Transfer in DSDIFF files.
+//! The program `dst_cli`: codes and decodes Direct Stream Transfer in DSDIFF files.
 //!
 //! ```text
+//! dst_cli encode IN OUT --level 2 --workers 4
 //! dst_cli decode IN OUT --workers 4
 //! dst_cli --help
 //! ```

@@ -18,9 +18,6 @@ use Rattle.dsdiff_chunks.specs.declared.open.OpenFault.{OpenFault}
 use Rattle.dsdiff_chunks.specs.declared.open.OpenFault.TheVariants.{Read, Memory, File}
 use Rattle.dsdiff_chunks.specs.Opening.{Stops}
 
-pub first_refuses : (a b : Option FileFault) (fault : FileFault) → a ≡ Some fault → (a otherwise b) ≡ Some fault
-first_refuses a b fault e = ap (λ a. a otherwise b) e
-
 pub then_is : (a b : Option FileFault) → a ≡ None → (a otherwise b) ≡ b
 then_is a b e = ap (λ a. a otherwise b) e
 
@@ -69,7 +66,8 @@ names_one k frames e = ltb-true k frames (not-false (frames above k) (when_not (
 
 -- ---- why a step stops
 pub stops_by : (rules : List ℕ → Option FileFault) (fault : OpenFault) (bytes : Option (List ℕ)) (before now : ℕ) →
-    ((f : FileFault) → fault ≡ File f → (file : List ℕ) → bytes ≡ Some file → rules file ≡ Some f) → (fault ≡ Read → Rose before now) → Stops rules bytes before now fault
+    ((f : FileFault) → fault ≡ File f → (file : List ℕ) → bytes ≡ Some file → rules file ≡ Some f) → (fault ≡ Read → Rose before now) →
+    Stops rules bytes before now fault
 stops_by rules (File f) bytes before now h read = h f refl
 stops_by rules Read bytes before now h read = read refl
 stops_by rules Memory bytes before now h read = tt
@@ -78,7 +76,8 @@ stops_by rules Memory bytes before now h read = tt
 pub indexed_is : (k : ℕ) (file : List ℕ) (f : Form) (fault : FileFault) → no_frame k f.frames ≡ None → by_index_fault file f k ≡ Some fault → f.kind ≡ coded →
     command_fault (frame k true) file f ≡ Some fault
 indexed_is k file f fault none e is_coded =
-    then_is (not_coded f) (no_frame k f.frames otherwise by_index_fault file f k) (coded_passes f is_coded) ∙ then_is (no_frame k f.frames) (by_index_fault file f k) none ∙ e
+    then_is (not_coded f) (no_frame k f.frames otherwise by_index_fault file f k) (coded_passes f is_coded)
+    ∙ then_is (no_frame k f.frames) (by_index_fault file f k) none ∙ e
 
 -- ---- the commands whose rules are these
 pub rules_of_decode : (file : List ℕ) → refusal decode file ≡ form_refusal index file
@@ -110,7 +109,8 @@ unfolding refusal
 rules_by_index k file = refl
 
 -- rules that refuse the same stop a step for the same cause
-pub stops_as : (a b : List ℕ → Option FileFault) (fault : OpenFault) (bytes : Option (List ℕ)) (before now : ℕ) → ((file : List ℕ) → b file ≡ a file) → Stops a bytes before now fault → Stops b bytes before now fault
+pub stops_as : (a b : List ℕ → Option FileFault) (fault : OpenFault) (bytes : Option (List ℕ)) (before now : ℕ) → ((file : List ℕ) → b file ≡ a file) →
+    Stops a bytes before now fault → Stops b bytes before now fault
 stops_as a b (File f) bytes before now same stops = λ file told. same file ∙ stops file told
 stops_as a b Read bytes before now same stops = stops
 stops_as a b Memory bytes before now same stops = stops

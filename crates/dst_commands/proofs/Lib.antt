@@ -2,3 +2,4 @@ pub mod InOrder
 pub mod Writing
 pub mod PassedOn
 pub mod InTurn
+pub mod Rooms

@@ -1,5 +1,6 @@
 -- Chunks of a lawful form: where they lie, how long they are, and what is written of the first ones.
-use Rattle.std.proofs.Common.{◌≡◌, ℕ, ◌+◌, ◌-◌, ◌*◌, ◌%◌, ◌<◌, ◌≤◌, Bool, true, false, if◌then◌else◌, List, [], ◌∷◌, ◌++◌, length, take, drop, get_or, map, filter, Option, Some, None, refl, ap, sym, subst, ◌∙◌, arith, length-append, length-drop, append-nil}
+use Rattle.std.proofs.Common.{◌≡◌, ℕ, zero, suc, ◌+◌, ◌-◌, ◌*◌, ◌%◌, ◌<◌, ◌≤◌, Bool, true, false, if◌then◌else◌, List, [], ◌∷◌, ◌++◌, length, take, drop, filter}
+use Rattle.std.proofs.Common.{get_or, map, Option, Some, None, refl, ap, sym, subst, ◌∙◌, arith, length-append, length-drop, append-nil}
 use Rattle.std.specs.Prelude.{min, bytes_eq, codes, OnOk, OnErr, MatchResult, Result, Ok, Err}
 use Rattle.dst_streams.specs.Told.{and_then, IsCutShort}
 use Rattle.dsdiff_spec.specs.Written.{prop_with}
@@ -31,11 +32,13 @@ use Rattle.dst_commands.specs.declared.chunks.Passed.{Passed}
 use Rattle.dst_commands.specs.Passing.{form_of, bytes_of, all_of, cmpr_for, goes, passed_chunk, ref_seen, whole_end, FailedBy, IsCmpr, IsCmprIfAny}
 
 -- ---- the chunk `CMPR` of the plain file, and the size of the sound
-cmpr_if_any : (channels n count : ℕ) (origin : Option Origin) → IsOriginIfAny channels n count origin → (is_one_chunk "CMPR" (plain_cmpr origin) ≡ true) × (length (plain_cmpr origin) ≤ 65536)
+cmpr_if_any : (channels n count : ℕ) (origin : Option Origin) → IsOriginIfAny channels n count origin →
+    (is_one_chunk "CMPR" (plain_cmpr origin) ≡ true) × (length (plain_cmpr origin) ≤ 65536)
 cmpr_if_any channels n count None k = (refl, omega arith)
 cmpr_if_any channels n count (Some origin) k = (k.cmpr, k.cmpr_most)
 
-pub cmpr_is_chunk : (form : Form) → IsLawful form → form.kind ≡ coded → (is_one_chunk "CMPR" (plain_cmpr form.origin) ≡ true) × (length (plain_cmpr form.origin) ≤ 65536)
+pub cmpr_is_chunk : (form : Form) → IsLawful form → form.kind ≡ coded →
+    (is_one_chunk "CMPR" (plain_cmpr form.origin) ≡ true) × (length (plain_cmpr form.origin) ≤ 65536)
 cmpr_is_chunk form lawful e = cmpr_if_any form.channels (sound_bytes_of form) form.frames form.origin (coded_parts form lawful e).origin
 
 pub plain_cmpr_is_one : (form : Form) → IsLawful form → form.kind ≡ coded → (cmpr : List ℕ) → cmpr ≡ plain_cmpr form.origin → IsCmpr cmpr
@@ -51,7 +54,8 @@ needed n size frames h e =
     let whole : n * frames + (size + n - 1) % n ≡ size + n - 1 = ap (λ m. n * m + (size + n - 1) % n) (sym e) ∙ div-add-mod (size + n - 1) n in
     (omega arith, λ k l. let more = mul-le-mul_right n l in omega arith)
 
-needed_if_any : (channels n count : ℕ) (origin : Option Origin) → 0 < n → IsOriginIfAny channels n count origin → (plain_size origin (count * n) ≤ count * n) × ((k : ℕ) → k < count → k * n < plain_size origin (count * n))
+needed_if_any : (channels n count : ℕ) (origin : Option Origin) → 0 < n → IsOriginIfAny channels n count origin →
+    (plain_size origin (count * n) ≤ count * n) × ((k : ℕ) → k < count → k * n < plain_size origin (count * n))
 needed_if_any channels n count None h k = (omega arith, λ k l. let more = mul-le-mul_right n l in omega arith)
 needed_if_any channels n count (Some origin) h k = needed n origin.sound count h k.count
 
@@ -74,7 +78,8 @@ sound_is_needed form lawful e some =
     }
 
 -- ---- what is written of a chunk
-pub length-whole_chunk : (file : List ℕ) (form : Form) (h : Head) → form.end ≤ length file → body_end h ≤ form.end → length (whole_chunk file form h) ≡ whole_end form h - h.place
+pub length-whole_chunk : (file : List ℕ) (form : Form) (h : Head) → form.end ≤ length file → body_end h ≤ form.end →
+    length (whole_chunk file form h) ≡ whole_end form h - h.place
 length-whole_chunk file form h fits inside = omega (arith, length-take (min (next_place h) form.end - h.place) (drop h.place file), length-drop h.place file)
 
 -- ---- what is written of the first j chunks, on one side of the sound
@@ -85,30 +90,38 @@ pub all_passed : (side : Side) (file : List ℕ) (p : Passed) → passed (goes s
 all_passed Before file p = refl
 all_passed Behind file p = refl
 
-pub one_more : (side : Side) (file : List ℕ) (p : Passed) (xs : List ChunkHead) (j : ℕ) (d : ChunkHead) (b : Bool) → (form_of p).chunks ≡ map head_seen xs → j < length xs →
+pub one_more : (side : Side) (file : List ℕ) (p : Passed) (xs : List ChunkHead) (j : ℕ) (d : ChunkHead) (b : Bool) → (form_of p).chunks ≡ map head_seen xs →
+    j < length xs →
     goes side (form_of p) (head_seen (get_or xs j d)) ≡ b →
     passed_to side file p (j + 1) ≡ passed_to side file p j ++ (if b then bytes_of file p (head_seen (get_or xs j d)) else [])
 one_more side file p xs j d b is l e =
     let form = form_of p in
     let long : length form.chunks ≡ length xs = ap length is ∙ length-map xs head_seen in
-    let here : get_or form.chunks j (head_seen d) ≡ head_seen (get_or xs j d) = ap (λ hs. get_or hs j (head_seen d)) is ∙ get_or-map head_seen xs j d (head_seen d) l in
+    let here : get_or form.chunks j (head_seen d) ≡ head_seen (get_or xs j d) = ap (λ hs. get_or hs j (head_seen d)) is
+    ∙ get_or-map head_seen xs j d (head_seen d) l in
     passed_more (goes side form) (bytes_of file p) form.chunks j (head_seen d) (omega arith)
     ∙ ap (λ h. passed_to side file p j ++ (if goes side form h then bytes_of file p h else [])) here
     ∙ ap (λ b. passed_to side file p j ++ (if b then bytes_of file p (head_seen (get_or xs j d)) else [])) e
 
 -- how many of the first j chunks pass
-pub one_more_counted : (side : Side) (p : Passed) (xs : List ChunkHead) (j : ℕ) (d : ChunkHead) (b : Bool) → (form_of p).chunks ≡ map head_seen xs → j < length xs →
+pub one_more_counted : (side : Side) (p : Passed) (xs : List ChunkHead) (j : ℕ) (d : ChunkHead) (b : Bool) → (form_of p).chunks ≡ map head_seen xs →
+    j < length xs →
     goes side (form_of p) (head_seen (get_or xs j d)) ≡ b →
-    length (filter (goes side (form_of p)) (take (j + 1) (form_of p).chunks)) ≡ length (filter (goes side (form_of p)) (take j (form_of p).chunks)) + (if b then 1 else 0)
+    length (filter (goes side (form_of p)) (take (j + 1) (form_of p).chunks))
+    ≡ length (filter (goes side (form_of p)) (take j (form_of p).chunks)) + (if b then 1 else 0)
 one_more_counted side p xs j d b is l e =
     let form = form_of p in
     let front = take j form.chunks in
+    let next = get_or form.chunks j (head_seen d) in
     let long : length form.chunks ≡ length xs = ap length is ∙ length-map xs head_seen in
-    let here : get_or form.chunks j (head_seen d) ≡ head_seen (get_or xs j d) = ap (λ hs. get_or hs j (head_seen d)) is ∙ get_or-map head_seen xs j d (head_seen d) l in
+    let here : next ≡ head_seen (get_or xs j d) =
+    ap (λ hs. get_or hs j (head_seen d)) is ∙ get_or-map head_seen xs j d (head_seen d) l in
     ap (λ hs. length (filter (goes side form) hs)) (take_more form.chunks j (head_seen d) (omega arith))
-    ∙ ap length (filter-append (goes side form) front (get_or form.chunks j (head_seen d) ∷ []))
-    ∙ length-append (filter (goes side form) front) (filter (goes side form) (get_or form.chunks j (head_seen d) ∷ []))
-    ∙ ap (λ n. length (filter (goes side form) front) + n) (ap (λ h. length (filter (goes side form) (h ∷ []))) here ∙ alone (goes side form (head_seen (get_or xs j d))) b (head_seen (get_or xs j d)) e)
+    ∙ ap length (filter-append (goes side form) front (next ∷ []))
+    ∙ length-append (filter (goes side form) front) (filter (goes side form) (next ∷ []))
+    ∙ ap (λ n. length (filter (goes side form) front) + n)
+    (ap (λ h. length (filter (goes side form) (h ∷ []))) here
+    ∙ alone (goes side form (head_seen (get_or xs j d))) b (head_seen (get_or xs j d)) e)
   where
     alone : (a b : Bool) (h : Head) → a ≡ b → length (if a then h ∷ [] else []) ≡ (if b then 1 else 0)
     alone true true h e = refl
@@ -116,11 +129,14 @@ one_more_counted side p xs j d b is l e =
     alone true false h e = absurd cc
     alone false true h e = absurd cc
 
-pub one_more_passed : (side : Side) (file : List ℕ) (p : Passed) (xs : List ChunkHead) (j : ℕ) (d : ChunkHead) → (form_of p).chunks ≡ map head_seen xs → j < length xs →
-    goes side (form_of p) (head_seen (get_or xs j d)) ≡ true → passed_to side file p j ++ bytes_of file p (head_seen (get_or xs j d)) ≡ passed_to side file p (j + 1)
+pub one_more_passed : (side : Side) (file : List ℕ) (p : Passed) (xs : List ChunkHead) (j : ℕ) (d : ChunkHead) → (form_of p).chunks ≡ map head_seen xs →
+    j < length xs →
+    goes side (form_of p) (head_seen (get_or xs j d)) ≡ true →
+    passed_to side file p j ++ bytes_of file p (head_seen (get_or xs j d)) ≡ passed_to side file p (j + 1)
 one_more_passed side file p xs j d is l e = sym (one_more side file p xs j d true is l e)
 
-pub one_more_left : (side : Side) (file : List ℕ) (p : Passed) (xs : List ChunkHead) (j : ℕ) (d : ChunkHead) → (form_of p).chunks ≡ map head_seen xs → j < length xs →
+pub one_more_left : (side : Side) (file : List ℕ) (p : Passed) (xs : List ChunkHead) (j : ℕ) (d : ChunkHead) → (form_of p).chunks ≡ map head_seen xs →
+    j < length xs →
     goes side (form_of p) (head_seen (get_or xs j d)) ≡ false → passed_to side file p j ≡ passed_to side file p (j + 1)
 one_more_left side file p xs j d is l e = sym (one_more side file p xs j d false is l e ∙ append-nil (passed_to side file p j))
 
@@ -128,7 +144,8 @@ one_more_left side file p xs j d is l e = sym (one_more side file p xs j d false
 pub passed_all : (side : Side) (file : List ℕ) (p : Passed) (n : ℕ) → length (form_of p).chunks ≤ n → passed_to side file p n ≡ all_of side file p
 passed_all side file p n h = ap (passed (goes side (form_of p)) (bytes_of file p)) (take_all n (form_of p).chunks h) ∙ all_passed side file p
 
-pub passed_all_of : (side : Side) (file : List ℕ) (p : Passed) (xs : List ChunkHead) (n : ℕ) → (form_of p).chunks ≡ map head_seen xs → length xs ≤ n → passed_to side file p n ≡ all_of side file p
+pub passed_all_of : (side : Side) (file : List ℕ) (p : Passed) (xs : List ChunkHead) (n : ℕ) → (form_of p).chunks ≡ map head_seen xs → length xs ≤ n →
+    passed_to side file p n ≡ all_of side file p
 passed_all_of side file p xs n is h =
     let long : length (form_of p).chunks ≡ length xs = ap length is ∙ length-map xs head_seen in
     passed_all side file p n (omega arith)
@@ -150,10 +167,12 @@ few_heads p xs is =
     omega (arith, (lent_is_lawful p.form).few)
 
 -- ---- one chunk that is written
-pub passed_prop : (file : List ℕ) (form : Form) (h : Head) (o : Option (List ℕ)) (prop cmpr : List ℕ) → Some cmpr ≡ cmpr_for o h → prop ≡ form.prop → prop_with prop cmpr ≡ passed_chunk o file form h
+pub passed_prop : (file : List ℕ) (form : Form) (h : Head) (o : Option (List ℕ)) (prop cmpr : List ℕ) → Some cmpr ≡ cmpr_for o h → prop ≡ form.prop →
+    prop_with prop cmpr ≡ passed_chunk o file form h
 passed_prop file form h o prop cmpr e p = ap (λ w. prop_with w cmpr) p ∙ go o (bytes_eq h.id (codes "PROP")) refl e
   where
-    go : (o : Option (List ℕ)) (b : Bool) → (bytes_eq h.id (codes "PROP")) ≡ b → Some cmpr ≡ (if b then o else None) → prop_with form.prop cmpr ≡ passed_chunk o file form h
+    go : (o : Option (List ℕ)) (b : Bool) → (bytes_eq h.id (codes "PROP")) ≡ b → Some cmpr ≡ (if b then o else None) →
+        prop_with form.prop cmpr ≡ passed_chunk o file form h
     go o false is e = absurd cc
     go None true is e = absurd cc
     go (Some other) true is e =
@@ -163,7 +182,8 @@ passed_prop file form h o prop cmpr e p = ap (λ w. prop_with w cmpr) p ∙ go o
 pub passed_whole : (file : List ℕ) (form : Form) (h : Head) (o : Option (List ℕ)) → None ≡ cmpr_for o h → whole_chunk file form h ≡ passed_chunk o file form h
 passed_whole file form h o e = go o (bytes_eq h.id (codes "PROP")) refl e
   where
-    go : (o : Option (List ℕ)) (b : Bool) → (bytes_eq h.id (codes "PROP")) ≡ b → None ≡ (if b then o else None) → whole_chunk file form h ≡ passed_chunk o file form h
+    go : (o : Option (List ℕ)) (b : Bool) → (bytes_eq h.id (codes "PROP")) ≡ b → None ≡ (if b then o else None) →
+        whole_chunk file form h ≡ passed_chunk o file form h
     go None b is e = refl
     go (Some other) true is e = absurd cc
     go (Some other) false is e = sym (ap (λ b. if b then prop_with form.prop other else whole_chunk file form h) is)
@@ -176,7 +196,8 @@ cmpr_is_one o h cmpr e is = go o (bytes_eq h.id (codes "PROP")) e is
     go None true e is = absurd cc
     go (Some other) true e is = let same : other ≡ cmpr = cc in subst IsCmpr same is
 
-pub length-passed : (file : List ℕ) (form : Form) (h : Head) (o : Option (List ℕ)) (to : ℕ) → to ≡ whole_end form h → form.end ≤ length file → body_end h ≤ form.end →
+pub length-passed : (file : List ℕ) (form : Form) (h : Head) (o : Option (List ℕ)) (to : ℕ) → to ≡ whole_end form h → form.end ≤ length file →
+    body_end h ≤ form.end →
     None ≡ cmpr_for o h → to - h.place ≡ length (passed_chunk o file form h)
 length-passed file form h o to is fits inside e =
     ap (λ to. to - h.place) is ∙ sym (length-whole_chunk file form h fits inside) ∙ ap length (passed_whole file form h o e)
@@ -185,26 +206,31 @@ pub of_ok : {T E : Type 0} (result : Result T E) (P Q : Type 0) → (P → Q) �
 of_ok (Ok t) P Q f p = f p
 of_ok (Err e) P Q f p = p
 
-pub copied_chunk : {T : Type 0} (result : Result T CopyFault) (bytes : Option (List ℕ)) (file : List ℕ) (form : Form) (h : Head) (cmpr : Option (List ℕ)) (to : ℕ) (old new : Option (List ℕ)) (room left : Option ℕ) →
+pub copied_chunk : {T : Type 0} (result : Result T CopyFault) (bytes : Option (List ℕ)) (file : List ℕ) (form : Form) (h : Head) (cmpr : Option (List ℕ))
+    (to : ℕ) (old new : Option (List ℕ)) (room left : Option ℕ) →
     to ≡ whole_end form h → bytes ≡ Some file → form.end ≤ length file → body_end h ≤ form.end → None ≡ cmpr_for cmpr h →
     OnOk result ((xs : List ℕ) → bytes ≡ Some xs → new ≡ and_then old (take (to - h.place) (drop h.place xs))) →
     OnErr result ((xs : List ℕ) → bytes ≡ Some xs → IsCutShort old (take (to - h.place) (drop h.place xs)) new) →
     ((m : ℕ) → room ≡ Some m → to - h.place ≤ m → OnOk result (left ≡ Some (m - (to - h.place)))) →
     ((m : ℕ) → room ≡ Some m → to - h.place ≤ m → result ≡ Err CopyFault.Write → ⊥) →
-    MatchResult result (λ _. Adds (passed_chunk cmpr file form h) old new room left) (λ fault. Stops (fault ≡ CopyFault.Write) (passed_chunk cmpr file form h) old new room)
+    MatchResult result (λ _. Adds (passed_chunk cmpr file form h) old new room left)
+    (λ fault. Stops (fault ≡ CopyFault.Write) (passed_chunk cmpr file form h) old new room)
 copied_chunk result bytes file form h cmpr to old new room left is told fits inside other ok err sure taken =
     let part : List ℕ → List ℕ = λ xs. take (to - h.place) (drop h.place xs) in
     let whole : part file ≡ whole_chunk file form h = ap (λ e. take (e - h.place) (drop h.place file)) is in
     let long : length (part file) ≡ to - h.place = ap length whole ∙ length-whole_chunk file form h fits inside ∙ ap (λ e. e - h.place) (sym is) in
-    subst (λ w. MatchResult result (λ _. Adds w old new room left) (λ fault. Stops (fault ≡ CopyFault.Write) w old new room)) (whole ∙ passed_whole file form h cmpr other)
+    subst (λ w. MatchResult result (λ _. Adds w old new room left) (λ fault. Stops (fault ≡ CopyFault.Write) w old new room))
+    (whole ∙ passed_whole file form h cmpr other)
     (copied result bytes file part (to - h.place) old new room left told long ok err sure taken)
 
 -- a device that failed since later on failed since before
-pub failed_since : (fault : CopyFault) (source_first source_before source_now sink_first sink_before sink_now : ℕ) → source_first ≤ source_before → sink_first ≤ sink_before →
+pub failed_since : (fault : CopyFault) (source_first source_before source_now sink_first sink_before sink_now : ℕ) → source_first ≤ source_before →
+    sink_first ≤ sink_before →
     FailedBy fault source_before source_now sink_before sink_now → FailedBy fault source_first source_now sink_first sink_now
 failed_since Read a b c d e f le le' h = Rose-earlier a b c le h
 failed_since Write a b c d e f le le' h = Rose-earlier d e f le' h
 
 -- the head of a form of the told size
-pub opening_by : (size sound : ℕ) (file : List ℕ) (form : Form) → size ≡ decoded_size sound file form → codes "FRM8" ++ big_bytes 8 size ++ codes "DSD " ≡ opening sound file form
+pub opening_by : (size sound : ℕ) (file : List ℕ) (form : Form) → size ≡ decoded_size sound file form →
+    codes "FRM8" ++ big_bytes 8 size ++ codes "DSD " ≡ opening sound file form
 opening_by size sound file form e = ap (λ n. codes "FRM8" ++ big_bytes 8 n ++ codes "DSD ") e

@@ -1,5 +1,6 @@
 -- Pieces that are written one after the other, up to the one at which it stops.
-use Rattle.std.proofs.Common.{◌≡◌, ℕ, ◌+◌, ◌-◌, ◌≤◌, false, true, List, [], ◌++◌, length, take, Option, Some, None, Result, Ok, Err, refl, ap, sym, subst, ◌∙◌, arith, length-append, append-nil}
+use Rattle.std.proofs.Common.{◌≡◌, ℕ, ◌+◌, ◌-◌, ◌≤◌, false, true, List, [], ◌++◌, length, take, Option, Some, None, Result, Ok, Err, refl, ap, sym, subst, ◌∙◌}
+use Rattle.std.proofs.Common.{arith, length-append, append-nil}
 use Rattle.std.specs.Prelude.{IsOk, OnOk, OnErr, MatchResult}
 use Rattle.std.proofs.lemmas.List.{take-append-le, take_all}
 use Rattle.std.proofs.Math.Seq.{take-append-add}
@@ -27,10 +28,12 @@ stops_at_once P piece w room not = record {
 }
 
 -- ---- one call of a sink
-pub added : {T E : Type 0} (result : Result T E) (piece : List ℕ) (old new : Option (List ℕ)) (room left : Option ℕ) → IsSure room left (length piece) result → new ≡ and_then old piece → Adds piece old new room left
+pub added : {T E : Type 0} (result : Result T E) (piece : List ℕ) (old new : Option (List ℕ)) (room left : Option ℕ) → IsSure room left (length piece) result →
+    new ≡ and_then old piece → Adds piece old new room left
 added result piece old new room left s w = record { written = w; lowered = s.lowered }
 
-pub cut_off : {T E : Type 0} (fault : E) (piece : List ℕ) (old new : Option (List ℕ)) (room left : Option ℕ) → IsSure {T = T} {E = E} room left (length piece) (Err fault) → IsCutShort old piece new → Stops (Unit {0}) piece old new room
+pub cut_off : {T E : Type 0} (fault : E) (piece : List ℕ) (old new : Option (List ℕ)) (room left : Option ℕ) →
+    IsSure {T = T} {E = E} room left (length piece) (Err fault) → IsCutShort old piece new → Stops (Unit {0}) piece old new room
 cut_off fault piece old new room left s w = record { cut = w; lacks = λ p n is fits. let never : false ≡ true = s.taken n is fits in cc }
 
 -- a piece by another name
@@ -40,11 +43,13 @@ adds_same a b old new room left e h = subst (λ w. Adds w old new room left) e h
 pub stops_same : (P : Type 0) (a b : List ℕ) (old new : Option (List ℕ)) (room : Option ℕ) → a ≡ b → Stops P a old new room → Stops P b old new room
 stops_same P a b old new room e h = subst (λ w. Stops P w old new room) e h
 
-pub stops_for : (P Q : Type 0) (piece : List ℕ) (old new : Option (List ℕ)) (room : Option ℕ) → (Q → P) → Stops P piece old new room → Stops Q piece old new room
+pub stops_for : (P Q : Type 0) (piece : List ℕ) (old new : Option (List ℕ)) (room : Option ℕ) → (Q → P) → Stops P piece old new room →
+    Stops Q piece old new room
 stops_for P Q piece old new room f h = record { cut = h.cut; lacks = λ q. h.lacks (f q) }
 
 -- behind a whole piece
-pub stops_behind : (P : Type 0) (piece : List ℕ) (old new : Option (List ℕ)) (room left : Option ℕ) → (P → ⊥) → Adds piece old new room left → Stops P piece old new room
+pub stops_behind : (P : Type 0) (piece : List ℕ) (old new : Option (List ℕ)) (room left : Option ℕ) → (P → ⊥) → Adds piece old new room left →
+    Stops P piece old new room
 stops_behind P piece old new room left not h = record {
   cut = record { kept = length piece; within = omega arith; written = h.written ∙ ap (and_then old) (sym (take_all (length piece) piece (omega arith))) };
   lacks = λ p. absurd (not p);
@@ -54,11 +59,17 @@ stops_behind P piece old new room left not h = record {
 pub stops_unsettled : (piece : List ℕ) (old mid new : Option (List ℕ)) (room left : Option ℕ) → Adds piece old mid room left → new ≡ mid →
     ((n : ℕ) → left ≡ Some n → false ≡ true) → Stops (Unit {0}) piece old new room
 stops_unsettled piece old mid new room left h same sure = record {
-  cut = record { kept = length piece; within = omega arith; written = same ∙ h.written ∙ ap (and_then old) (sym (take_all (length piece) piece (omega arith))) };
+  cut = record {
+    kept = length piece;
+    within = omega arith;
+    written = same ∙ h.written
+        ∙ ap (and_then old) (sym (take_all (length piece) piece (omega arith)));
+  };
   lacks = λ p n is fits. let never : false ≡ true = sure (n - length piece) (h.lowered n is fits) in cc;
 }
 
-pub then_settled : {T E : Type 0} (result : Result T E) (piece : List ℕ) (old mid new : Option (List ℕ)) (room left : Option ℕ) → Adds piece old mid room left → new ≡ mid →
+pub then_settled : {T E : Type 0} (result : Result T E) (piece : List ℕ) (old mid new : Option (List ℕ)) (room left : Option ℕ) →
+    Adds piece old mid room left → new ≡ mid →
     ((n : ℕ) → left ≡ Some n → IsOk result) → MatchResult result (λ _. new ≡ and_then old piece) (λ _. Stops (Unit {0}) piece old new room)
 then_settled (Ok u) piece old mid new room left h same sure = same ∙ h.written
 then_settled (Err fault) piece old mid new room left h same sure = stops_unsettled piece old mid new room left h same sure
@@ -116,11 +127,13 @@ then_appended (Ok u) a b old mid new room half left p w s = adds_then a b old mi
 then_appended (Err fault) a b old mid new room half left p w s = stops_then (Unit {0}) a b old mid new room half p (cut_off fault b mid new half left s w)
 
 -- it stops in bytes that begin with the piece
-pub stops_in : (P : Type 0) (whole piece : List ℕ) (old new : Option (List ℕ)) (room : Option ℕ) → BeginsWith whole piece → Stops P piece old new room → Stops P whole old new room
+pub stops_in : (P : Type 0) (whole piece : List ℕ) (old new : Option (List ℕ)) (room : Option ℕ) → BeginsWith whole piece → Stops P piece old new room →
+    Stops P whole old new room
 stops_in P whole piece old new room b h = stops_same P (piece ++ b.rest) whole old new room (sym b.is) (stops_first P piece b.rest old new room h)
 
 -- ---- a range that is copied
-pub copied : {T : Type 0} (result : Result T CopyFault) (bytes : Option (List ℕ)) (file : List ℕ) (part : List ℕ → List ℕ) (n : ℕ) (old new : Option (List ℕ)) (room left : Option ℕ) →
+pub copied : {T : Type 0} (result : Result T CopyFault) (bytes : Option (List ℕ)) (file : List ℕ) (part : List ℕ → List ℕ) (n : ℕ) (old new : Option (List ℕ))
+    (room left : Option ℕ) →
     bytes ≡ Some file → length (part file) ≡ n →
     OnOk result ((xs : List ℕ) → bytes ≡ Some xs → new ≡ and_then old (part xs)) →
     OnErr result ((xs : List ℕ) → bytes ≡ Some xs → IsCutShort old (part xs) new) →

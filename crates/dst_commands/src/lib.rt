@@ -12,6 +12,7 @@
 
 mod around;
 mod chunks;
+mod jobs;
 mod opened;
 mod opening;
 mod pieces;
@@ -20,6 +21,7 @@ mod sizes;
 
 pub use around::{write_end, write_front, write_opening, write_pad};
 pub use chunks::{FormRef, Passed, Side, chunks_count, chunks_length, pass_chunks};
+pub use jobs::job_count;
 pub use opened::{AnyForm, FoundFrame, WalkedForm};
 pub use opening::{Rules, open_file};
 pub use pieces::write_any;

@@ -1,5 +1,6 @@
 -- What checking a file comes to, by its rules and its frames.
-use Rattle.std.proofs.Common.{◌≡◌, ◌⊎◌, inl, inr, ℕ, suc, ◌<◌, List, [], ◌∷◌, ◌++◌, length, map, take, drop, get_or, None, Err, refl, ap, sym, subst, ◌∙◌, arith, take-append-drop}
+use Rattle.std.proofs.Common.{◌≡◌, ◌⊎◌, inl, inr, ℕ, suc, ◌<◌, List, [], ◌∷◌, ◌++◌, length, map, take, drop, get_or, None, Err, refl, ap, sym, subst, ◌∙◌}
+use Rattle.std.proofs.Common.{arith, take-append-drop}
 use Rattle.std.specs.Prelude.{sum}
 use Rattle.std.specs.List.{AllZip, enumerate_from}
 use Rattle.std.proofs.lemmas.List.{take_all}
@@ -22,7 +23,8 @@ use Rattle.dst_read.specs.declared.faults.CheckFault.TheVariants.{Source, Frame}
 use Rattle.dst_read.specs.Checking.{AreHeard, IsRefusedAt, TailsEnd, CheckingEnds}
 
 -- ---- an outcome of an accepted file
-of_accepted : (file : List ℕ) (f : Form) (o : Answer) → accepted file ≡ f → refusal check file ≡ None → (IsStopped check file f o ⊎ IsDone check file f o) → OutcomeOf check file o
+of_accepted : (file : List ℕ) (f : Form) (o : Answer) → accepted file ≡ f → refusal check file ≡ None → (IsStopped check file f o ⊎ IsDone check file f o) →
+    OutcomeOf check file o
 of_accepted file f o e none h =
     let here = subst (λ f. IsStopped check file f o ⊎ IsDone check file f o) (sym e) h in
     subst (λ q. OfCommand check file q o) (sym none) here
@@ -33,7 +35,8 @@ DoneBy k file f o =
     × ((sounds : List (List ℕ × ℕ)) × AllZip (λ w s. MeansWithTail (shape f) w s.0 s.1) (frames_if_coded k file f) sounds
     × (o ≡ done [] (check_line f.frames (sum (map (λ s. s.1) sounds)) ∷ [])))
 
-pub plain_is_sound : (file : List ℕ) (f : Form) → accepted file ≡ f → f.kind ≡ plain → refusal check file ≡ None → OutcomeOf check file (done [] (check_line f.frames 0 ∷ []))
+pub plain_is_sound : (file : List ℕ) (f : Form) → accepted file ≡ f → f.kind ≡ plain → refusal check file ≡ None →
+    OutcomeOf check file (done [] (check_line f.frames 0 ∷ []))
 plain_is_sound file f e k none =
     let o = done [] (check_line f.frames 0 ∷ []) in
     of_accepted file f o e none (inr (subst (λ k. DoneBy k file f o) (sym k) (tt {0}, ([], tt {0}, refl))))
@@ -49,13 +52,16 @@ coded_is_sound unread file f sounds e k none h is =
     of_accepted file f o e none (inr (subst (λ k. DoneBy k file f o) (sym k) (first, (sounds, each, ap (λ n. done [] (check_line f.frames n ∷ [])) is))))
 
 -- ---- the first frame that is refused, by its number
-stopped_at : (k : ℕ) (fault : FrameFault) (file : List ℕ) (f : Form) → f.kind ≡ coded → IsRefusedAt file f k fault → IsStopped check file f (frame_refused k fault [])
+stopped_at : (k : ℕ) (fault : FrameFault) (file : List ℕ) (f : Form) → f.kind ≡ coded → IsRefusedAt file f k fault →
+    IsStopped check file f (frame_refused k fault [])
 stopped_at k fault file f kind s =
     let frames = frames_of file f in
     let all = enumerate_from 0 frames in
     let within : k < length all = omega (arith, s.within, length-enumerate_from 0 frames) in
-    let here : get_or all k (0, []) ≡ (k, get_or frames k []) = get_or-enumerate_from 0 frames k (0, []) s.within ∙ ap {B = ℕ × List ℕ} (λ i. (i, get_or frames k [])) (omega arith) in
-    let whole : all ≡ take k all ++ (k, get_or frames k []) ∷ drop (suc k) all = sym (take-append-drop k all) ∙ ap (λ l. take k all ++ l) (drop-cons all k (0, []) within ∙ ap (λ p. p ∷ drop (suc k) all) here) in
+    let here : get_or all k (0, []) ≡ (k, get_or frames k []) = get_or-enumerate_from 0 frames k (0, []) s.within
+    ∙ ap {B = ℕ × List ℕ} (λ i. (i, get_or frames k [])) (omega arith) in
+    let whole : all ≡ take k all ++ (k, get_or frames k []) ∷ drop (suc k) all = sym (take-append-drop k all)
+    ∙ ap (λ l. take k all ++ l) (drop-cons all k (0, []) within ∙ ap (λ p. p ∷ drop (suc k) all) here) in
     record {
       before = take k all;
       stop = (k, get_or frames k []);
@@ -69,11 +75,13 @@ stopped_at k fault file f kind s =
       answer = refl;
     }
 
-pub refused_at : (k : ℕ) (fault : FrameFault) (file : List ℕ) (f : Form) → accepted file ≡ f → f.kind ≡ coded → refusal check file ≡ None → IsRefusedAt file f k fault → OutcomeOf check file (frame_refused k fault [])
+pub refused_at : (k : ℕ) (fault : FrameFault) (file : List ℕ) (f : Form) → accepted file ≡ f → f.kind ≡ coded → refusal check file ≡ None →
+    IsRefusedAt file f k fault → OutcomeOf check file (frame_refused k fault [])
 refused_at k fault file f e kind none s = of_accepted file f (frame_refused k fault []) e none (inl (stopped_at k fault file f kind s))
 
 -- where the frames stop it
-pub stopped : (fault : CheckFault) (file : List ℕ) (f : Form) → accepted file ≡ f → f.kind ≡ coded → refusal check file ≡ None → TailsEnd (Err fault) file f → CheckingEnds (Err fault) file
+pub stopped : (fault : CheckFault) (file : List ℕ) (f : Form) → accepted file ≡ f → f.kind ≡ coded → refusal check file ≡ None → TailsEnd (Err fault) file f →
+    CheckingEnds (Err fault) file
 stopped (Frame k fault) file f e kind none s = refused_at k fault file f e kind none s
 stopped (Source (File fault)) file f e kind none s = absurd s
 stopped (Source Read) file f e kind none s = tt {0}

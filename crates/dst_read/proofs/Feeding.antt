@@ -12,9 +12,11 @@ use Rattle.dst_read.specs.declared.feed.StoredFrames.{StoredFrames}
 use Rattle.dsdiff_chunks.specs.Forms.{coded_seen}
 use Rattle.dst_commands.specs.declared.opened.WalkedForm.{WalkedForm}
 use Rattle.dst_read.specs.Feeding.{IsLater, GivesFrame, FailsToRead, feed_shape}
-use Rattle.dst_read.specs.Jobs.{shape_number, stored_in}
+use Rattle.dst_commands.specs.Rooms.{shape_number}
+use Rattle.dst_read.specs.Jobs.{stored_in}
 use Rattle.dst_read.proofs.Framing.{entry_inside}
-use Rattle.dst_read.proofs.Shapes.{readable, few_channels}
+use Rattle.dst_commands.proofs.Rooms.{few_channels}
+use Rattle.dst_read.proofs.Shapes.{readable}
 
 -- the shape of a feed of a source that has the form
 pub ready_shape : (known : Option ℕ) (w : WalkedForm) → (n : ℕ) × (known ≡ Some n) × (w.form.end ≤ n) → IsShape w.form.channels →
@@ -43,23 +45,30 @@ module _ {S : Type 0} (bytes : S → Option (List ℕ)) (known : S → Option �
     later = omega (arith, p.later, q.later);
   }
 
-  pub rose_since : (s t u : StoredFrames S) (e : Failed) → IsLater bytes known faults s t → FailsToRead bytes known faults t e u → Rose (faults s.source.now) (faults u.source.now)
+  pub rose_since : (s t u : StoredFrames S) (e : Failed) → IsLater bytes known faults s t → FailsToRead bytes known faults t e u →
+      Rose (faults s.source.now) (faults u.source.now)
   rose_since s t u e p q = Rose-earlier (faults s.source.now) (faults t.source.now) (faults u.source.now) p.later q.rose
 
   fed_on : (s t : StoredFrames S) (jobs : List Job) → Runs (GivesFrame bytes known faults) s jobs t → IsLater bytes known faults s t
-  fed_on s t jobs run = Runs-keep (GivesFrame bytes known faults) (IsLater bytes known faults s) (λ u job v p q. later_on s u v p q.same) s t jobs run (is_itself s)
+  fed_on s t jobs run = Runs-keep (GivesFrame bytes known faults) (IsLater bytes known faults s) (λ u job v p q. later_on s u v p q.same) s t jobs run
+      (is_itself s)
 
   -- behind a job, where the feed went on ahead and may have failed
-  pub fed_ahead : (s t u v w : StoredFrames S) (job : Job) (jobs : List Job) → IsLater bytes known faults s t → GivesFrame bytes known faults t job u → Runs (GivesFrame bytes known faults) u jobs v →
+  pub fed_ahead : (s t u v w : StoredFrames S) (job : Job) (jobs : List Job) → IsLater bytes known faults s t → GivesFrame bytes known faults t job u →
+      Runs (GivesFrame bytes known faults) u jobs v →
       ((w ≡ v) ⊎ ((e : Failed) × FailsToRead bytes known faults v e w)) → IsLater bytes known faults s w
-  fed_ahead s t u v w job jobs p given run (inl same) = subst (IsLater bytes known faults s) (sym same) (later_on s u v (later_on s t u p given.same) (fed_on u v jobs run))
+  fed_ahead s t u v w job jobs p given run (inl same) =
+      subst (IsLater bytes known faults s) (sym same) (later_on s u v (later_on s t u p given.same) (fed_on u v jobs run))
   fed_ahead s t u v w job jobs p given run (inr (e, fails)) = later_on s v w (later_on s u v (later_on s t u p given.same) (fed_on u v jobs run)) fails.same
 
   -- the frame that it gave is the one that stands there
-  pub given_frame : (s t u : StoredFrames S) (job : Job) (n : ℕ) (file : List ℕ) → IsLater bytes known faults s t → t.next ≡ n → GivesFrame bytes known faults t job u → bytes s.source.now ≡ Some file →
+  pub given_frame : (s t u : StoredFrames S) (job : Job) (n : ℕ) (file : List ℕ) → IsLater bytes known faults s t → t.next ≡ n →
+      GivesFrame bytes known faults t job u → bytes s.source.now ≡ Some file →
       stored_in job ≡ frame_at file (entry s.walked.now.index n)
   given_frame s t u job n file p at given told =
-      given.frame file (p.bytes_are ∙ told) ∙ ap (λ (es : List Entry). frame_at file (entry es t.next)) p.index_is ∙ ap (λ k. frame_at file (entry s.walked.now.index k)) at
+      given.frame file (p.bytes_are ∙ told) ∙ ap (λ (es : List Entry). frame_at file (entry es t.next)) p.index_is
+      ∙ ap (λ k. frame_at file (entry s.walked.now.index k)) at
 
-  pub given_within : (s t u : StoredFrames S) (job : Job) (n : ℕ) → IsLater bytes known faults s t → t.next ≡ n → GivesFrame bytes known faults t job u → n < length s.walked.now.index
+  pub given_within : (s t u : StoredFrames S) (job : Job) (n : ℕ) → IsLater bytes known faults s t → t.next ≡ n → GivesFrame bytes known faults t job u →
+      n < length s.walked.now.index
   given_within s t u job n p at given = omega (arith, given.within, at, ap (λ (es : List Entry). length es) p.index_is)

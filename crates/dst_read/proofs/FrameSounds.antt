@@ -32,27 +32,57 @@ pub found_short : (f : FoundFrame) → f.entry.size ≤ 2 * (sound_bytes f.form.
 found_short f = subst (λ s. f.entry.size ≤ 2 * (sound_bytes s + 1)) f.form.shape f.inside.short
 
 -- what decoding says of a frame, without its tail
-pub is_sound_of : (f : Shape) (w sound : List ℕ) (tail : ℕ) → IsShape f → MeansWithTail f w sound tail → ((fault : FrameFault) → Offends f w fault → ⊥) → IsSoundOf f w sound
+pub is_sound_of : (f : Shape) (w sound : List ℕ) (tail : ℕ) → IsShape f → MeansWithTail f w sound tail → ((fault : FrameFault) → Offends f w fault → ⊥) →
+    IsSoundOf f w sound
 is_sound_of f w sound tail lawful h none = record { means = (tail_law f w lawful).2 sound tail h; not_refused = none }
 
 -- ---- the frame that the command names
-stops_there : (file : List ℕ) (form : Form) (k : ℕ) (b : Bool) (fault : FrameFault) → Offends (shape form) (frame_at file (named_entry b file form k)) fault → IsStopped (frame k b) file form (frame_refused k fault [])
+stops_there : (file : List ℕ) (form : Form) (k : ℕ) (b : Bool) (fault : FrameFault) → Offends (shape form) (frame_at file (named_entry b file form k)) fault →
+    IsStopped (frame k b) file form (frame_refused k fault [])
 stops_there file form k false fault o =
-    record { before = []; stop = (k, frame_at file (named_entry false file form k)); behind = []; is_run = refl; fault = fault; refuses = o; first = tt; out = []; written = refl; answer = refl }
+    record {
+      before = [];
+      stop = (k, frame_at file (named_entry false file form k));
+      behind = [];
+      is_run = refl;
+      fault = fault;
+      refuses = o;
+      first = tt;
+      out =
+          [];
+      written = refl;
+      answer = refl;
+    }
 stops_there file form k true fault o =
-    record { before = []; stop = (k, frame_at file (named_entry true file form k)); behind = []; is_run = refl; fault = fault; refuses = o; first = tt; out = []; written = refl; answer = refl }
+    record {
+      before = [];
+      stop = (k, frame_at file (named_entry true file form k));
+      behind = [];
+      is_run = refl;
+      fault = fault;
+      refuses = o;
+      first = tt;
+      out =
+          [];
+      written = refl;
+      answer = refl;
+    }
 
-is_done : (file : List ℕ) (form : Form) (k : ℕ) (b : Bool) (sound : List ℕ) → IsSoundOf (shape form) (frame_at file (named_entry b file form k)) sound → IsDone (frame k b) file form (done sound (frame_line k (length sound) ∷ []))
+is_done : (file : List ℕ) (form : Form) (k : ℕ) (b : Bool) (sound : List ℕ) → IsSoundOf (shape form) (frame_at file (named_entry b file form k)) sound →
+    IsDone (frame k b) file form (done sound (frame_line k (length sound) ∷ []))
 is_done file form k false sound s = ((s.not_refused, tt), (sound, s.means, refl))
 is_done file form k true sound s = ((s.not_refused, tt), (sound, s.means, refl))
 
-pub sound_is_refused : (file : List ℕ) (form : Form) (k : ℕ) (b : Bool) (f : Shape) (w : List ℕ) (fault : FrameFault) → IsAccepted (refusal (frame k b)) file form → shape form ≡ f → frame_at file (named_entry b file form k) ≡ w →
+pub sound_is_refused : (file : List ℕ) (form : Form) (k : ℕ) (b : Bool) (f : Shape) (w : List ℕ) (fault : FrameFault) →
+    IsAccepted (refusal (frame k b)) file form → shape form ≡ f → frame_at file (named_entry b file form k) ≡ w →
     Offends f w fault → OutcomeOf (frame k b) file (frame_refused k fault [])
 sound_is_refused file form k b f w fault a same is o =
     let named = subst (λ w. Offends f w fault) (sym is) o in
-    stopped_outcome (frame k b) file form (frame_refused k fault []) a (stops_there file form k b fault (subst (λ f. Offends f (frame_at file (named_entry b file form k)) fault) (sym same) named))
+    stopped_outcome (frame k b) file form (frame_refused k fault []) a
+    (stops_there file form k b fault (subst (λ f. Offends f (frame_at file (named_entry b file form k)) fault) (sym same) named))
 
-pub sound_is_written : (file : List ℕ) (form : Form) (k : ℕ) (b : Bool) (f : Shape) (w sound : List ℕ) (bytes : ℕ) → IsAccepted (refusal (frame k b)) file form → shape form ≡ f → frame_at file (named_entry b file form k) ≡ w →
+pub sound_is_written : (file : List ℕ) (form : Form) (k : ℕ) (b : Bool) (f : Shape) (w sound : List ℕ) (bytes : ℕ) →
+    IsAccepted (refusal (frame k b)) file form → shape form ≡ f → frame_at file (named_entry b file form k) ≡ w →
     IsSoundOf f w sound → bytes ≡ length sound → OutcomeOf (frame k b) file (done sound (frame_line k bytes ∷ []))
 sound_is_written file form k b f w sound bytes a same is s count =
     let named = subst (λ w. IsSoundOf f w sound) (sym is) s in
@@ -61,7 +91,8 @@ sound_is_written file form k b f w sound bytes a same is s count =
     (done_outcome (frame k b) file form (done sound (frame_line k (length sound) ∷ [])) a (is_done file form k b sound shaped))
 
 -- ---- a sink that is sure to take the sound doesn't fail
-pub sink_is_sure : (c : Command) (file out : List ℕ) (lines : List Line) (old new : Option (List ℕ)) (room : Option ℕ) → HasOutcome c → AreBytes file → OutcomeOf c file (done out lines) →
+pub sink_is_sure : (c : Command) (file out : List ℕ) (lines : List Line) (old new : Option (List ℕ)) (room : Option ℕ) → HasOutcome c → AreBytes file →
+    OutcomeOf c file (done out lines) →
     Stops (Unit {0}) out old new room → (o : Answer) → OutcomeOf c file o → (n : ℕ) → room ≡ Some n → length o.out ≤ n → ⊥
 sink_is_sure c file out lines old new room reads bytes is s o other n told fits =
     let long = ap (λ (a : Answer). length a.out) (one_answer c file o (done out lines) reads bytes other is) in

@@ -1,4 +1,3 @@
-pub mod Bytes
 pub mod Checks
 pub mod ReportedLines
 pub mod Ending

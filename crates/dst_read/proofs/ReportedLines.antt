@@ -17,7 +17,7 @@ use Rattle.dsdiff_spec.specs.Outcome.{Answer, done, frame_refused, Refuses, Show
 use Rattle.dsdiff_spec.specs.declared.faults.FileFault.{FileFault}
 use Rattle.dst_spec.specs.declared.faults.FrameFault.{FrameFault}
 use Rattle.dsdiff_spec.proofs.OneAnswer.{HasOutcome, command_has_one_outcome}
-use Rattle.dsdiff_spec.proofs.Verdicts.{NotRefused}
+use Rattle.dsdiff_spec.specs.Progress.{NotRefused}
 use Rattle.dsdiff_chunks.specs.declared.open.OpenFault.{OpenFault}
 use Rattle.dsdiff_chunks.specs.declared.open.OpenFault.TheVariants.{Read, Memory, File}
 use Rattle.dst_read.specs.declared.faults.ShowFault.{ShowFault}
@@ -40,7 +40,8 @@ done_outcome c file form o a d = subst (λ r. OfCommand c file r o) (sym a.accep
 pub stopped_outcome : (c : Command) (file : List ℕ) (form : Form) (o : Answer) → IsAccepted (refusal c) file form → IsStopped c file form o → OutcomeOf c file o
 stopped_outcome c file form o a s = subst (λ r. OfCommand c file r o) (sym a.accepts) (inl (subst (λ f. IsStopped c file f o) (sym a.form_is) s))
 
-pub index_outcome : (file : List ℕ) (form : Form) (es : List Entry) → IsAccepted (refusal index) file form → entries file form ≡ es → OutcomeOf index file (done [] (index_lines es))
+pub index_outcome : (file : List ℕ) (form : Form) (es : List Entry) → IsAccepted (refusal index) file form → entries file form ≡ es →
+    OutcomeOf index file (done [] (index_lines es))
 index_outcome file form es a e = done_outcome index file form (done [] (index_lines es)) a (tt, ap (λ es. done [] (index_lines es)) (sym e))
 
 pub show_outcome : (file : List ℕ) (form : Form) → IsAccepted (refusal show) file form → OutcomeOf show file (done [] (show_lines form (entries file form)))
@@ -53,7 +54,8 @@ one_answer c file a b reads bytes p q =
     one.2 a p ∙ sym (one.2 b q)
 
 -- so a report of its lines doesn't fail where it is sure to take them
-pub report_is_sure : (c : Command) (file : List ℕ) (lines : List Line) (old new : Option (List ℕ)) (room : Option ℕ) → HasOutcome c → AreBytes file → OutcomeOf c file (done [] lines) →
+pub report_is_sure : (c : Command) (file : List ℕ) (lines : List Line) (old new : Option (List ℕ)) (room : Option ℕ) → HasOutcome c → AreBytes file →
+    OutcomeOf c file (done [] lines) →
     Stops (Unit {0}) (report lines) old new room → (o : Answer) → OutcomeOf c file o → (n : ℕ) → room ≡ Some n → length (report o.lines) ≤ n → ⊥
 report_is_sure c file lines old new room reads bytes is s o other n told fits =
     let same : report o.lines ≡ report lines = ap (λ (a : Answer). report a.lines) (one_answer c file o (done [] lines) reads bytes other is) in
@@ -61,13 +63,15 @@ report_is_sure c file lines old new room reads bytes is s o other n told fits =
     s.lacks (tt {0}) n told (omega (arith, long, fits))
 
 -- ---- one call of a sink, and one piece behind another
-pub appended : {T : Type 0} (r : Result T Failed) (piece : List ℕ) (old new : Option (List ℕ)) (room left : Option ℕ) → MatchResult r (λ _. new ≡ and_then old piece) (λ _. IsCutShort old piece new) →
+pub appended : {T : Type 0} (r : Result T Failed) (piece : List ℕ) (old new : Option (List ℕ)) (room left : Option ℕ) →
+    MatchResult r (λ _. new ≡ and_then old piece) (λ _. IsCutShort old piece new) →
     IsSure room left (length piece) r → MatchResult r (λ _. Adds piece old new room left) (λ _. Stops (Unit {0}) piece old new room)
 appended (Ok u) piece old new room left w s = added (Ok u) piece old new room left s w
 appended (Err failed) piece old new room left w s = cut_off failed piece old new room left s w
 
 pub then_written : {T : Type 0} (r : Result T Failed) (a b : List ℕ) (old mid new : Option (List ℕ)) (room half left : Option ℕ) → Adds a old mid room half →
-    MatchResult r (λ _. Adds b mid new half left) (λ _. Stops (Unit {0}) b mid new half) → MatchResult r (λ _. Adds (a ++ b) old new room left) (λ _. Stops (Unit {0}) (a ++ b) old new room)
+    MatchResult r (λ _. Adds b mid new half left) (λ _. Stops (Unit {0}) b mid new half) →
+    MatchResult r (λ _. Adds (a ++ b) old new room left) (λ _. Stops (Unit {0}) (a ++ b) old new room)
 then_written (Ok u) a b old mid new room half left p w = adds_then a b old mid new room half left p w
 then_written (Err failed) a b old mid new room half left p w = stops_then (Unit {0}) a b old mid new room half p w
 
@@ -81,18 +85,26 @@ five kind channels sound frames chunks =
     ∷ (codes "chunks " ++ decimal chunks)
     ∷ []
 
-pub same_five : (kind : List ℕ) (channels sound size frames chunks count : ℕ) → sound ≡ size → chunks ≡ count → report (five kind channels sound frames chunks) ≡ report (five kind channels size frames count)
+pub same_five : (kind : List ℕ) (channels sound size frames chunks count : ℕ) → sound ≡ size → chunks ≡ count →
+    report (five kind channels sound frames chunks) ≡ report (five kind channels size frames count)
 same_five kind channels sound size frames chunks count s c =
     ap (λ s. report (five kind channels s frames chunks)) s ∙ ap (λ c. report (five kind channels size frames c)) c
 
-pub lines_of_coded : (form : Form) (es : List Entry) → form.kind ≡ coded → report (summary_lines (codes "coded") form) ++ report (coded_summary_lines form es) ≡ report (show_lines form es)
+pub lines_of_coded : (form : Form) (es : List Entry) → form.kind ≡ coded →
+    report (summary_lines (codes "coded") form) ++ report (coded_summary_lines form es) ≡ report (show_lines form es)
 lines_of_coded form es e =
     sym (flat_map-append (λ (line : Line). line ++ 10 ∷ []) (summary_lines (codes "coded") form) (coded_summary_lines form es))
-    ∙ sym (ap (λ k. report (elim k [ plain ↦ summary_lines (codes "plain") form | coded ↦ summary_lines (codes "coded") form ++ coded_summary_lines form es ])) e)
+    ∙ sym (ap (λ k. report (elim k [
+      | plain ↦ summary_lines (codes "plain") form
+      | coded ↦ summary_lines
+          (codes "coded") form ++ coded_summary_lines form es
+    ])) e)
 
 -- ---- how a report ends
-pub reported_ends : {T : Type 0} (r : Result T Failed) (frames : ℕ) (c : Command) (file : List ℕ) (form : Form) (lines : List Line) (old new : Option (List ℕ)) (room left : Option ℕ) → accepted file ≡ form → frames ≡ form.frames →
-    OutcomeOf c file (done [] lines) → MatchResult r (λ _. Adds (report lines) old new room left) (λ _. Stops (Unit {0}) (report lines) old new room) → ReportEnds (reported_as r frames) c file old new room
+pub reported_ends : {T : Type 0} (r : Result T Failed) (frames : ℕ) (c : Command) (file : List ℕ) (form : Form) (lines : List Line) (old new : Option (List ℕ))
+    (room left : Option ℕ) → accepted file ≡ form → frames ≡ form.frames →
+    OutcomeOf c file (done [] lines) → MatchResult r (λ _. Adds (report lines) old new room left) (λ _. Stops (Unit {0}) (report lines) old new room) →
+    ReportEnds (reported_as r frames) c file old new room
 reported_ends (Ok u) frames c file form lines old new room left is count outcome w = (count ∙ ap (λ (f : Form). f.frames) (sym is), lines, outcome, w.written)
 reported_ends (Err failed) frames c file form lines old new room left is count outcome w = (lines, outcome, w)
 
@@ -100,18 +112,21 @@ pub only_reported : {T : Type 0} (r : Result T Failed) (frames : ℕ) (fault : S
 only_reported (Ok u) frames fault e = absurd cc
 only_reported (Err failed) frames fault e = cc
 
-pub ends_unopened : (fault : OpenFault) (c : Command) (bytes : Option (List ℕ)) (before now : ℕ) (file : List ℕ) (old new : Option (List ℕ)) (room : Option ℕ) → bytes ≡ Some file → opening.Stops (refusal c) bytes before now fault →
+pub ends_unopened : (fault : OpenFault) (c : Command) (bytes : Option (List ℕ)) (before now : ℕ) (file : List ℕ) (old new : Option (List ℕ))
+    (room : Option ℕ) → bytes ≡ Some file → opening.Stops (refusal c) bytes before now fault →
     ReportEnds (Err (Source fault)) c file old new room
 ends_unopened (File f) c bytes before now file old new room told stops = stops file told
 ends_unopened Read c bytes before now file old new room told stops = tt {0}
 ends_unopened Memory c bytes before now file old new room told stops = tt {0}
 
-pub cause_of_report : {T : Type 0} (r : Result T Failed) (frames source_before source_now before now : ℕ) → HasCause before now r → IfErr (reported_as r frames) (λ fault. HasReportCause fault source_before source_now before now)
+pub cause_of_report : {T : Type 0} (r : Result T Failed) (frames source_before source_now before now : ℕ) → HasCause before now r →
+    IfErr (reported_as r frames) (λ fault. HasReportCause fault source_before source_now before now)
 cause_of_report (Ok u) frames source_before source_now before now h = tt {0}
 cause_of_report (Err failed) frames source_before source_now before now h = h.failed
 
 -- ---- one frame that is shown, or refused
-pub frame_is_shown : (file : List ℕ) (form : Form) (k : ℕ) (f : Shape) (w : List ℕ) (told : Line) → IsAccepted (refusal (show_frame k)) file form → shape form ≡ f → frame_at file (entry (entries file form) k) ≡ w →
+pub frame_is_shown : (file : List ℕ) (form : Form) (k : ℕ) (f : Shape) (w : List ℕ) (told : Line) → IsAccepted (refusal (show_frame k)) file form →
+    shape form ≡ f → frame_at file (entry (entries file form) k) ≡ w →
     Shows f k w told → NotRefused (show_frame k) f w → OutcomeOf (show_frame k) file (done [] (told ∷ []))
 frame_is_shown file form k f w told a same is shows none =
     let named = frame_at file (entry (entries file form) k) in
@@ -119,7 +134,8 @@ frame_is_shown file form k f w told a same is shows none =
     let shown = subst (λ f. Shows f k named told) (sym same) (subst (λ w. Shows f k w told) (sym is) shows) in
     done_outcome (show_frame k) file form (done [] (told ∷ [])) a ((none_of_it, tt), (told, shown, refl))
 
-pub frame_is_refused : (file : List ℕ) (form : Form) (k : ℕ) (f : Shape) (w : List ℕ) (fault : FrameFault) → IsAccepted (refusal (show_frame k)) file form → shape form ≡ f → frame_at file (entry (entries file form) k) ≡ w →
+pub frame_is_refused : (file : List ℕ) (form : Form) (k : ℕ) (f : Shape) (w : List ℕ) (fault : FrameFault) → IsAccepted (refusal (show_frame k)) file form →
+    shape form ≡ f → frame_at file (entry (entries file form) k) ≡ w →
     Refuses (show_frame k) f w fault → OutcomeOf (show_frame k) file (frame_refused k fault [])
 frame_is_refused file form k f w fault a same is r =
     stopped_outcome (show_frame k) file form (frame_refused k fault []) a
@@ -136,10 +152,13 @@ frame_is_refused file form k f w fault a same is r =
       answer = refl;
     })
 
-pub ends_unshown : (fault : ShowFault) (bytes : Option (List ℕ)) (before now : ℕ) (file : List ℕ) (form : Form) (k : ℕ) (f : Shape) (e : Entry) (old new : Option (List ℕ)) (room : Option ℕ) → bytes ≡ Some file →
-    IsAccepted (refusal (show_frame k)) file form → shape form ≡ f → entry (entries file form) k ≡ e → IsUnshown f k e fault bytes before now → ReportEnds (Err fault) (show_frame k) file old new room
+pub ends_unshown : (fault : ShowFault) (bytes : Option (List ℕ)) (before now : ℕ) (file : List ℕ) (form : Form) (k : ℕ) (f : Shape) (e : Entry)
+    (old new : Option (List ℕ)) (room : Option ℕ) → bytes ≡ Some file →
+    IsAccepted (refusal (show_frame k)) file form → shape form ≡ f → entry (entries file form) k ≡ e → IsUnshown f k e fault bytes before now →
+    ReportEnds (Err fault) (show_frame k) file old new room
 ends_unshown (Frame j fault) bytes before now file form k f e old new room told a same is h =
-    subst (λ j. OutcomeOf (show_frame k) file (frame_refused j fault [])) (sym h.0) (frame_is_refused file form k f (frame_at file e) fault a same (ap (frame_at file) is) (h.1 file told))
+    subst (λ j. OutcomeOf (show_frame k) file (frame_refused j fault [])) (sym h.0)
+    (frame_is_refused file form k f (frame_at file e) fault a same (ap (frame_at file) is) (h.1 file told))
 ends_unshown (Source Read) bytes before now file form k f e old new room told a same is h = tt {0}
 ends_unshown (Source Memory) bytes before now file form k f e old new room told a same is h = tt {0}
 ends_unshown Report bytes before now file form k f e old new room told a same is h = absurd h

@@ -1,11 +1,8 @@
 -- A run of batches is read as one loop, a frame at a time.
-use Rattle.std.proofs.Common.{◌≡◌, ℕ, ◌≤◌, List, length, Option, Some, Ok, Err, Result, ap, sym, subst, ◌∙◌}
+use Rattle.std.proofs.Common.{◌≡◌, ℕ, ◌≤◌, List, length, Option, Some, Ok, Err, sym, subst}
 use Rattle.dst_spec.specs.Sample.{Shape, IsShape}
 use Rattle.dst_streams.specs.declared.source.Failed.{Failed}
 use Rattle.dsdiff_spec.specs.Form.{Form, shape, size_of_sound}
-use Rattle.frame_crew.specs.declared.ordered.RunFault.{RunFault}
-use Rattle.frame_crew.specs.declared.ordered.RunFault.TheVariants as run
-use Rattle.frame_crew.specs.Answers.{IfFeedFault, IfDrainFault}
 use Rattle.frame_crew.specs.Runs.{Ran, FailsAtFeed, FailsAtDrain}
 use Rattle.frame_crew.specs.Laws.{Ran-keep}
 use Rattle.dst_read.specs.declared.jobs.Job.{Job}
@@ -22,13 +19,6 @@ use Rattle.dst_read.specs.Frames.{HasRun}
 use Rattle.dst_read.proofs.Feeding as fed
 use Rattle.dst_read.proofs.Underway as under
 
--- ---- whose fault it was
-pub fault_of_feed : {A F D : Type 0} (r : Result A (RunFault F D)) (x : RunFault F D) (e : F) (P : F → Type 0) → r ≡ Err x → x ≡ run.Feed e → IfFeedFault r P → P e
-fault_of_feed {A} {F} {D} r x e P is found h = subst (λ (r : Result A (RunFault F D)). IfFeedFault r P) (is ∙ ap Err found) h
-
-pub fault_of_drain : {A F D : Type 0} (r : Result A (RunFault F D)) (x : RunFault F D) (e : D) (P : D → Type 0) → r ≡ Err x → x ≡ run.Drain e → IfDrainFault r P → P e
-fault_of_drain {A} {F} {D} r x e P is found h = subst (λ (r : Result A (RunFault F D)). IfDrainFault r P) (is ∙ ap Err found) h
-
 -- what is known before the first frame
 pub record IsBegun {S K : Type 0} (bytes : S → Option (List ℕ)) (form : Form) (f : Shape) (s : StoredFrames S) (t : SoundWriter K) : Type 0 where
   pub same : shape form ≡ f
@@ -38,7 +28,8 @@ pub record IsBegun {S K : Type 0} (bytes : S → Option (List ℕ)) (form : Form
   pub count : length s.walked.now.index ≡ form.frames
   pub opened : (file : List ℕ) → bytes s.source.now ≡ Some file → IsOpened file form s.walked.now.index
 
-module _ {S K : Type 0} (bytes : S → Option (List ℕ)) (known : S → Option ℕ) (faults : S → ℕ) (written : K → Option (List ℕ)) (room : K → Option ℕ) (sink_faults : K → ℕ) (form : Form) (f : Shape) (s0 : StoredFrames S) (t0 : SoundWriter K) where
+module _ {S K : Type 0} (bytes : S → Option (List ℕ)) (known : S → Option ℕ) (faults : S → ℕ) (written : K → Option (List ℕ)) (room : K → Option ℕ)
+    (sink_faults : K → ℕ) (form : Form) (f : Shape) (s0 : StoredFrames S) (t0 : SoundWriter K) where
   abbrev gives : StoredFrames S → Job → StoredFrames S → Type 0
   gives = GivesFrame bytes known faults
 
@@ -60,13 +51,16 @@ module _ {S K : Type 0} (bytes : S → Option (List ℕ)) (known : S → Option 
   worked_so : IsBegun bytes form f s0 t0 → (job worked : Job) → IsWorked f job worked → IsWorked (shape form) job worked
   worked_so b job worked = subst (λ f. IsWorked f job worked) (sym b.same)
 
-  ran_on : IsBegun bytes form f s0 t0 → (s : StoredFrames S) (t : SoundWriter K) (count : ℕ) → Ran gives takes (IsWorked f) s0 s t0 t count → IsUnderway count s t
+  ran_on : IsBegun bytes form f s0 t0 → (s : StoredFrames S) (t : SoundWriter K) (count : ℕ) → Ran gives takes (IsWorked f) s0 s t0 t count →
+      IsUnderway count s t
   ran_on b s t count ran =
       Ran-keep gives takes (IsWorked f) IsUnderway
-      (λ n u v x y job worked p given work took. under.goes_on bytes known faults written room sink_faults form s0 t0 (lawful_shape b) n u v x y job worked p given (worked_so b job worked work) took)
+      (λ n u v x y job worked p given work took. under.goes_on bytes known faults written room sink_faults form s0 t0
+      (lawful_shape b) n u v x y job worked p given (worked_so b job worked work) took)
       s0 s t0 t count ran (under.begins bytes known faults written room sink_faults form s0 t0 b.first b.left)
 
-  pub run_ended : IsBegun bytes form f s0 t0 → (s : StoredFrames S) (t : SoundWriter K) (count : ℕ) → Ran gives takes (IsWorked f) s0 s t0 t count → length s.walked.now.index ≤ s.next →
+  pub run_ended : IsBegun bytes form f s0 t0 → (s : StoredFrames S) (t : SoundWriter K) (count : ℕ) → Ran gives takes (IsWorked f) s0 s t0 t count →
+      length s.walked.now.index ≤ s.next →
       HasRun bytes known faults written room sink_faults form s0 s t0 t (Ok tt)
   run_ended b s t count ran ended =
       let p = ran_on b s t count ran in
@@ -77,7 +71,8 @@ module _ {S K : Type 0} (bytes : S → Option (List ℕ)) (known : S → Option 
         ends = λ file told. under.ends_whole bytes known faults written room sink_faults form s0 t0 count s t file p ended b.count told (b.opened file told);
       }
 
-  pub run_at_read : IsBegun bytes form f s0 t0 → (s : StoredFrames S) (t : SoundWriter K) (e : Failed) → FailsAtFeed gives feed_failed takes (IsWorked f) s0 s t0 t e →
+  pub run_at_read : IsBegun bytes form f s0 t0 → (s : StoredFrames S) (t : SoundWriter K) (e : Failed) →
+      FailsAtFeed gives feed_failed takes (IsWorked f) s0 s t0 t e →
       HasRun bytes known faults written room sink_faults form s0 s t0 t (Err (Source Read))
   run_at_read b s t e stop =
       let p = ran_on b stop.feed_before t stop.count stop.ran in
@@ -85,17 +80,21 @@ module _ {S K : Type 0} (bytes : S → Option (List ℕ)) (known : S → Option 
         feed = fed.later_on bytes known faults s0 stop.feed_before s p.feed stop.fails.same;
         drain = p.drain;
         cause = fed.rose_since bytes known faults s0 stop.feed_before s e p.feed stop.fails;
-        ends = λ file told. under.ends_at_read bytes known faults written room sink_faults form s0 t0 stop.count stop.feed_before t file p told (b.opened file told);
+        ends = λ file told. under.ends_at_read bytes known faults written room sink_faults form s0 t0 stop.count stop.feed_before t file p told
+            (b.opened file told);
       }
 
-  pub run_at_job : IsBegun bytes form f s0 t0 → (s : StoredFrames S) (t : SoundWriter K) (most : ℕ) (fault : DecodeFault) → FailsAtDrain gives feed_failed takes failed (IsWorked f) most s0 s t0 t fault →
+  pub run_at_job : IsBegun bytes form f s0 t0 → (s : StoredFrames S) (t : SoundWriter K) (most : ℕ) (fault : DecodeFault) →
+      FailsAtDrain gives feed_failed takes failed (IsWorked f) most s0 s t0 t fault →
       HasRun bytes known faults written room sink_faults form s0 s t0 t (Err fault)
   run_at_job b s t most fault stop =
       let p = ran_on b stop.feed_before stop.drain_before stop.place stop.ran in
       record {
-        feed = fed.fed_ahead bytes known faults s0 stop.feed_before stop.feed_after stop.feed_ahead s stop.job stop.ahead p.feed stop.given stop.fed_ahead stop.feed_left;
+        feed = fed.fed_ahead bytes known faults s0 stop.feed_before stop.feed_after stop.feed_ahead s stop.job stop.ahead p.feed stop.given stop.fed_ahead
+            stop.feed_left;
         drain = under.drained_on bytes known faults written room sink_faults form s0 t0 stop.drain_before t p.drain stop.fails.same;
         cause = under.caused bytes known faults written room sink_faults form s0 t0 stop.drain_before t stop.worked fault _ _ p.drain stop.fails.ends;
-        ends = λ file told. under.ends_at_job bytes known faults written room sink_faults form s0 t0 (lawful_shape b) stop.place stop.feed_before stop.feed_after stop.drain_before t stop.job stop.worked fault file p b.count
+        ends = λ file told. under.ends_at_job bytes known faults written room sink_faults form s0 t0
+            (lawful_shape b) stop.place stop.feed_before stop.feed_after stop.drain_before t stop.job stop.worked fault file p b.count
             stop.given (worked_so b stop.job stop.worked stop.work) stop.fails.ends told (b.opened file told);
       }

@@ -1,43 +1,16 @@
--- What the shapes of jobs, of the work on them and of their feed say, where they are the same number.
-use Rattle.std.proofs.Common.{◌≡◌, ℕ, zero, suc, ◌+◌, ◌*◌, ◌^◌, ◌<◌, ◌≤◌, Bool, true, false, List, [], ◌∷◌, length, get_or, Option, Some, None, refl, sym, ap, ap₂, ◌∙◌, arith}
+-- What the numbers of jobs and of their feed say, where they are the same.
+use Rattle.std.proofs.Common.{◌≡◌, ℕ, zero, suc, ◌+◌, ◌*◌, ◌^◌, ◌<◌, ◌≤◌, Bool, true, false, List, [], ◌∷◌, length, get_or, Option, Some, None, refl, sym, ap}
+use Rattle.std.proofs.Common.{◌∙◌, arith}
 use Rattle.std.specs.Prelude.{◌&&◌, not, if◌then◌else◌}
 use Rattle.std.specs.List.{list_all}
-use Rattle.std.proofs.lemmas.Bool.{and_parts, and_from, eqb-true, le-ltb, lt-ltb, ltb-true, ltb-false, not-true}
-use Rattle.dst_spec.specs.Sample.{Shape, IsShape, sound_bytes}
+use Rattle.std.proofs.lemmas.Bool.{and_parts, and_from, le-ltb, lt-ltb, ltb-true, ltb-false, not-true}
+use Rattle.dst_spec.specs.Sample.{Shape, sound_bytes}
 use Rattle.dsdiff_spec.specs.Bytes.{◌below◌, ◌above◌}
 use Rattle.dsdiff_spec.specs.Walk.{Entry}
-use Rattle.dst_read.specs.Jobs.{shape_number, has_room, job_shape}
+use Rattle.dst_commands.specs.Rooms.{shape_number, has_room, room_number}
+use Rattle.dst_commands.proofs.Rooms.{room_for, never_one}
+use Rattle.dst_read.specs.Jobs.{longest}
 use Rattle.dst_read.specs.Feeding.{lies_in, feed_shape}
-
--- ---- a job that has a shape's number has room for its frames
-pub record HasRoom (size frame sound : ℕ) (f g : Shape) : Type 0 where
-  pub same : f ≡ g
-  pub short : size ≤ frame
-  pub frame_long : frame ≡ 2 * (sound_bytes g + 1)
-  pub sound_long : sound ≡ sound_bytes g
-
-same_shape : (f g : Shape) → f.channels < 8 → g.channels < 8 → shape_number f ≡ shape_number g → f ≡ g
-same_shape f g p q e = ap₂ {A = ℕ} {B = ℕ} {C = Shape} (λ c o. record { channels = c; octets = o }) (omega (arith, p, q, e)) (omega (arith, p, q, e))
-
-pub room_for : (size frame sound : ℕ) (f g : Shape) → g.channels < 8 → job_shape size frame sound f ≡ shape_number g → HasRoom size frame sound f g
-room_for size frame sound f g small e = go (has_room size frame sound f) refl e
-  where
-    go : (b : Bool) → has_room size frame sound f ≡ b → (if b then shape_number f else 0) ≡ shape_number g → HasRoom size frame sound f g
-    go false h n = absurd (omega (arith, n))
-    go true h n =
-        let r = and_parts _ _ h in
-        let q = and_parts _ _ r.0 in
-        let p = and_parts _ _ q.0 in
-        let same = same_shape f g (ltb-true f.channels 8 p.0) small n in
-        record {
-          same = same;
-          short = ltb-false frame size (not-true _ p.1);
-          frame_long = eqb-true frame (2 * (sound_bytes f + 1)) q.1 ∙ ap (λ f. 2 * (sound_bytes f + 1)) same;
-          sound_long = eqb-true sound (sound_bytes f) r.1 ∙ ap sound_bytes same;
-        }
-
-pub few_channels : (f : Shape) → IsShape f → f.channels < 8
-few_channels f lawful = omega (arith, lawful.most)
 
 -- ---- a feed that has a job's number has the frames
 all_at : {A : Type 0} (p : A → Bool) (xs : List A) (k : ℕ) (d : A) → list_all p xs ≡ true → k < length xs → p (get_or xs k d) ≡ true
@@ -60,29 +33,28 @@ pub record CanFill (known : Option ℕ) (index : List Entry) (size frame sound :
   pub fits : (k : ℕ) (d : Entry) → k < length index → (get_or index k d).offset + (get_or index k d).size < 2 ^ 64
   pub short : (k : ℕ) (d : Entry) → k < length index → (get_or index k d).size ≤ frame
 
-lies : (bytes : ℕ) (g : Shape) (e : Entry) → lies_in bytes g e ≡ true → (e.offset + e.size ≤ bytes) × (e.offset + e.size < 2 ^ 64) × (e.size ≤ 2 * (sound_bytes g + 1))
+lies : (bytes : ℕ) (g : Shape) (e : Entry) → lies_in bytes g e ≡ true →
+    (e.offset + e.size ≤ bytes) × (e.offset + e.size < 2 ^ 64) × (e.size ≤ 2 * (sound_bytes g + 1))
 lies bytes g e h =
     let q = and_parts (not (e.offset + e.size above bytes) && e.offset + e.size below 2 ^ 64) (not (e.size above 2 * (sound_bytes g + 1))) h in
-    let p = and_parts (not (e.offset + e.size above bytes)) (e.offset + e.size below 2 ^ 64) q.0 in
-    (ltb-false bytes (e.offset + e.size) (not-true _ p.0), ltb-true (e.offset + e.size) (2 ^ 64) p.1, ltb-false (2 * (sound_bytes g + 1)) e.size (not-true _ q.1))
+    let p = and_parts (not (e.offset + e.size above bytes)) (e.offset + e.size below 2 ^ 64) q.0 in (
+      ltb-false bytes (e.offset + e.size) (not-true _ p.0),
+      ltb-true (e.offset + e.size) (2 ^ 64) p.1,
+      ltb-false (2 * (sound_bytes g + 1)) e.size (not-true _ q.1),
+    )
 
-numbered : (size frame sound : ℕ) (f : Shape) → job_shape size frame sound f ≡ 1 → ⊥
-numbered size frame sound f e = go (has_room size frame sound f) e
-  where
-    go : (b : Bool) → (if b then shape_number f else 0) ≡ 1 → ⊥
-    go true n = omega (arith, n)
-    go false n = omega (arith, n)
-
-pub can_fill : (known : Option ℕ) (index : List Entry) (size frame sound : ℕ) (f g : Shape) → job_shape size frame sound f ≡ feed_shape known index g → CanFill known index size frame sound f g
-can_fill None index size frame sound f g e = absurd (numbered size frame sound f e)
+pub can_fill : (known : Option ℕ) (index : List Entry) (size frame sound : ℕ) (f g : Shape) →
+    room_number longest size frame sound f ≡ feed_shape known index g → CanFill known index size frame sound f g
+can_fill None index size frame sound f g e = absurd (never_one longest size frame sound f e)
 can_fill (Some bytes) index size frame sound f g e = go (g.channels below 8 && list_all (lies_in bytes g) index) refl e
   where
-    go : (b : Bool) → (g.channels below 8 && list_all (lies_in bytes g) index) ≡ b → job_shape size frame sound f ≡ (if b then shape_number g else 1) → CanFill (Some bytes) index size frame sound f g
-    go false h n = absurd (numbered size frame sound f n)
+    go : (b : Bool) → (g.channels below 8 && list_all (lies_in bytes g) index) ≡ b →
+        room_number longest size frame sound f ≡ (if b then shape_number g else 1) → CanFill (Some bytes) index size frame sound f g
+    go false h n = absurd (never_one longest size frame sound f n)
     go true h n =
         let p = and_parts _ _ h in
         let few = ltb-true g.channels 8 p.0 in
-        let room = room_for size frame sound f g few n in
+        let room = room_for longest size frame sound f g few n in
         let long = room.frame_long in
         record {
           bytes = bytes;
@@ -96,8 +68,10 @@ can_fill (Some bytes) index size frame sound f g e = go (g.channels below 8 && l
           short = λ k d l. let least = (lies bytes g (get_or index k d) (all_at (lies_in bytes g) index k d p.1 l)).2 in omega (arith, long, least);
         }
 
-pub readable : (bytes : ℕ) (index : List Entry) (f : Shape) (d : Entry) → f.channels < 8 → ((k : ℕ) → k < length index → (get_or index k d).offset + (get_or index k d).size ≤ bytes) →
-    ((k : ℕ) → k < length index → (get_or index k d).offset + (get_or index k d).size < 2 ^ 64) → ((k : ℕ) → k < length index → (get_or index k d).size ≤ 2 * (sound_bytes f + 1)) →
+pub readable : (bytes : ℕ) (index : List Entry) (f : Shape) (d : Entry) → f.channels < 8 →
+    ((k : ℕ) → k < length index → (get_or index k d).offset + (get_or index k d).size ≤ bytes) →
+    ((k : ℕ) → k < length index → (get_or index k d).offset + (get_or index k d).size < 2 ^ 64) →
+    ((k : ℕ) → k < length index → (get_or index k d).size ≤ 2 * (sound_bytes f + 1)) →
     feed_shape (Some bytes) index f ≡ shape_number f
 readable bytes index f d few inside fits short =
     let all : list_all (lies_in bytes f) index ≡ true = all_from (lies_in bytes f) index d (λ k l.
@@ -113,15 +87,17 @@ feeds_some (Some bytes) index g e = go (g.channels below 8 && list_all (lies_in 
     go true n = omega (arith, n)
     go false n = omega (arith, n)
 
-pub refilled : (known : Option ℕ) (index : List Entry) (size frame sound new long : ℕ) (f g : Shape) → job_shape size frame sound f ≡ feed_shape known index g →
-    long ≡ frame → new ≤ frame → job_shape new long sound f ≡ job_shape size frame sound f
-refilled known index size frame sound new long f g e same short = go (has_room size frame sound f) refl e
+pub refilled : (known : Option ℕ) (index : List Entry) (size frame sound new long : ℕ) (f g : Shape) →
+    room_number longest size frame sound f ≡ feed_shape known index g →
+    long ≡ frame → new ≤ frame → room_number longest new long sound f ≡ room_number longest size frame sound f
+refilled known index size frame sound new long f g e same short = go (has_room longest size frame sound f) refl e
   where
-    go : (b : Bool) → has_room size frame sound f ≡ b → (if b then shape_number f else 0) ≡ feed_shape known index g → job_shape new long sound f ≡ (if has_room size frame sound f then shape_number f else 0)
+    go : (b : Bool) → has_room longest size frame sound f ≡ b → (if b then shape_number f else 0) ≡ feed_shape known index g →
+        room_number longest new long sound f ≡ (if has_room longest size frame sound f then shape_number f else 0)
     go false h n = absurd (feeds_some known index g n)
     go true h n =
         let r = and_parts _ _ h in
         let q = and_parts _ _ r.0 in
         let p = and_parts _ _ q.0 in
-        let room : has_room new frame sound f ≡ true = and_from _ _ (and_from _ _ (and_from _ _ p.0 (ap not (le-ltb frame new short))) q.1) r.1 in
-        ap (λ m. if has_room new m sound f then shape_number f else 0) same ∙ ap (λ b. if b then shape_number f else 0) (room ∙ sym h)
+        let room : has_room longest new frame sound f ≡ true = and_from _ _ (and_from _ _ (and_from _ _ p.0 (ap not (le-ltb frame new short))) q.1) r.1 in
+        ap (λ m. if has_room longest new m sound f then shape_number f else 0) same ∙ ap (λ b. if b then shape_number f else 0) (room ∙ sym h)

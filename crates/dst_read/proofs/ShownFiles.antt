@@ -20,7 +20,8 @@ reads_shown None = tt
 reads_shown (Some k) = tt
 
 -- of the answer to one of the two questions
-pub ends_as : (q p : Option ℕ) (r : Result Reported ShowFault) (file : List ℕ) (old new : Option (List ℕ)) (room : Option ℕ) → q ≡ p → ReportEnds r (shown p) file old new room → ReportEnds r (shown q) file old new room
+pub ends_as : (q p : Option ℕ) (r : Result Reported ShowFault) (file : List ℕ) (old new : Option (List ℕ)) (room : Option ℕ) → q ≡ p →
+    ReportEnds r (shown p) file old new room → ReportEnds r (shown q) file old new room
 ends_as q p r file old new room e h = subst (λ q. ReportEnds r (shown q) file old new room) (sym e) h
 
 abbrev pub Ends : Result Reported ShowFault → Command → Option (List ℕ) → (old new : Option (List ℕ)) → Option ℕ → Type 0
@@ -40,6 +41,7 @@ pub told_short : (c : Command) (file : List ℕ) (old new : Option (List ℕ)) (
     (lines : List Line) × OutcomeOf c file (done [] lines) × IsCutShort old (report lines) new
 told_short c file old new room h = (h.0, h.1, h.2.cut)
 
-pub told_sure : (c : Command) (file : List ℕ) (old new : Option (List ℕ)) (room : Option ℕ) → HasOutcome c → AreBytes file → ReportEnds (Err Report) c file old new room →
+pub told_sure : (c : Command) (file : List ℕ) (old new : Option (List ℕ)) (room : Option ℕ) → HasOutcome c → AreBytes file →
+    ReportEnds (Err Report) c file old new room →
     (o : Answer) → OutcomeOf c file o → (n : ℕ) → room ≡ Some n → length (report o.lines) ≤ n → ⊥
 told_sure c file old new room reads bytes h = report_is_sure c file h.0 old new room reads bytes h.1 h.2

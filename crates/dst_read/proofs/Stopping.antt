@@ -12,7 +12,9 @@ use Rattle.dsdiff_spec.specs.Lines.{decoded_line}
 use Rattle.dsdiff_spec.specs.Outcome.{Answer, done, frame_refused}
 use Rattle.dsdiff_spec.proofs.CodedFiles.{is_decodable}
 use Rattle.dsdiff_spec.proofs.OneOutcome.{decoding_has_one_outcome}
-use Rattle.dsdiff_spec.proofs.Progress.{BeginsWith, AreDecoded, sound_is_whole, stops_at_frame, ends_with_sound, outcome_begins, outcome_begins_with_head, every_outcome_has_sound}
+use Rattle.dsdiff_spec.specs.Progress.{AreDecoded}
+use Rattle.dsdiff_spec.proofs.Progress.{BeginsWith, sound_is_whole, stops_at_frame, ends_with_sound, outcome_begins, outcome_begins_with_head}
+use Rattle.dsdiff_spec.proofs.Progress.{every_outcome_has_sound}
 use Rattle.dsdiff_chunks.specs.declared.copy.CopyFault.{CopyFault}
 use Rattle.dsdiff_chunks.specs.declared.copy.CopyFault.TheVariants.{Read, Write}
 use Rattle.dst_commands.specs.Commands.{OutcomeOf}
@@ -34,7 +36,8 @@ pub head_is_front : (file : List ℕ) (form : Form) (index : List Entry) → Are
 head_is_front file form index bytes o =
     subst (λ f. IsFront file (head_of file f)) o.form_is (outcome_begins_with_head file bytes o.accepts)
 
-pub sound_is_front : (file : List ℕ) (form : Form) (index : List Entry) (k : ℕ) (sounds : List (List ℕ)) → AreBytes file → IsOpened file form index → AreDecoded file form k sounds →
+pub sound_is_front : (file : List ℕ) (form : Form) (index : List Entry) (k : ℕ) (sounds : List (List ℕ)) → AreBytes file → IsOpened file form index →
+    AreDecoded file form k sounds →
     IsFront file (head_of file form ++ sound_of form sounds)
 sound_is_front file form index k sounds bytes o =
     subst (λ f. AreDecoded file f k sounds → IsFront file (head_of file f ++ sound_of f sounds)) o.form_is (outcome_begins file k sounds bytes o.accepts)
@@ -42,16 +45,19 @@ sound_is_front file form index k sounds bytes o =
 abbrev pub whole : List ℕ → Form → List (List ℕ) → List ℕ
 whole file form sounds = head_of file form ++ sound_of form sounds ++ end_of file form
 
-begins_with_itself : (file : List ℕ) (sounds : List (List ℕ)) (o : Answer) (form : Form) → o ≡ done (whole file form sounds) (decoded_line form.frames (size_of_sound form) ∷ []) → BeginsWith o.out (whole file form sounds)
+begins_with_itself : (file : List ℕ) (sounds : List (List ℕ)) (o : Answer) (form : Form) →
+    o ≡ done (whole file form sounds) (decoded_line form.frames (size_of_sound form) ∷ []) → BeginsWith o.out (whole file form sounds)
 begins_with_itself file sounds o form e = record { rest = []; is = ap (λ (a : Answer). a.out) e ∙ sym (append-nil (whole file form sounds)) }
 
-pub whole_is_front : (file : List ℕ) (form : Form) (index : List Entry) (sounds : List (List ℕ)) → AreBytes file → IsOpened file form index → AreDecoded file form form.frames sounds →
+pub whole_is_front : (file : List ℕ) (form : Form) (index : List Entry) (sounds : List (List ℕ)) → AreBytes file → IsOpened file form index →
+    AreDecoded file form form.frames sounds →
     IsFront file (whole file form sounds)
 whole_is_front file form index sounds bytes o =
     subst (λ f. AreDecoded file f f.frames sounds → IsFront file (whole file f sounds)) o.form_is
     (λ h a p. begins_with_itself file sounds a (accepted file) (every_outcome_has_sound file sounds bytes o.accepts h a p))
 
-pub done_outcome : (file : List ℕ) (form : Form) (index : List Entry) (sounds : List (List ℕ)) → IsOpened file form index → AreDecoded file form form.frames sounds →
+pub done_outcome : (file : List ℕ) (form : Form) (index : List Entry) (sounds : List (List ℕ)) → IsOpened file form index →
+    AreDecoded file form form.frames sounds →
     OutcomeOf decode file (done (whole file form sounds) (decoded_line form.frames (size_of_sound form) ∷ []))
 done_outcome file form index sounds o =
     subst (λ f. AreDecoded file f f.frames sounds → OutcomeOf decode file (done (whole file f sounds) (decoded_line f.frames (size_of_sound f) ∷ []))) o.form_is
@@ -64,26 +70,32 @@ at_accepted file k fault sounds none s =
     subst (λ told. OutcomeOf decode file (frame_refused k fault (head_of file (accepted file) ++ told))) (sym same)
     (stops_at_frame file k sounds fault none s.before s.within s.refuses)
 
-pub refused_outcome : (file : List ℕ) (form : Form) (index : List Entry) (k : ℕ) (fault : FrameFault) (sounds : List (List ℕ)) → IsOpened file form index → StopsAt file form k fault sounds →
+pub refused_outcome : (file : List ℕ) (form : Form) (index : List Entry) (k : ℕ) (fault : FrameFault) (sounds : List (List ℕ)) → IsOpened file form index →
+    StopsAt file form k fault sounds →
     OutcomeOf decode file (frame_refused k fault (head_of file form ++ sound_of form sounds))
 refused_outcome file form index k fault sounds o =
     subst (λ f. StopsAt file f k fault sounds → OutcomeOf decode file (frame_refused k fault (head_of file f ++ sound_of f sounds))) o.form_is
     (at_accepted file k fault sounds o.accepts)
 
 -- ---- a device that failed
-pub stopped_short : (P : Type 0) (file piece : List ℕ) (old new : Option (List ℕ)) (room : Option ℕ) → AreBytes file → IsFront file piece → Stops P piece old new room → IsStoppedShort file old new
+pub stopped_short : (P : Type 0) (file piece : List ℕ) (old new : Option (List ℕ)) (room : Option ℕ) → AreBytes file → IsFront file piece →
+    Stops P piece old new room → IsStoppedShort file old new
 stopped_short P file piece old new room bytes front s =
     let one = decoding_has_one_outcome file bytes in
     (one.0, one.1, (stops_in P one.0.out piece old new room (front one.0 one.1) s).cut)
 
-pub lacks_room : (P : Type 0) (file piece : List ℕ) (old new : Option (List ℕ)) (room : Option ℕ) → P → IsFront file piece → Stops P piece old new room → LacksRoomForOutcome file room
+pub lacks_room : (P : Type 0) (file piece : List ℕ) (old new : Option (List ℕ)) (room : Option ℕ) → P → IsFront file piece → Stops P piece old new room →
+    LacksRoomForOutcome file room
 lacks_room P file piece old new room p front s o is = (stops_in P o.out piece old new room (front o is) s).lacks p
 
-pub ends_at_device : (fault : CopyFault) (file piece : List ℕ) (old new : Option (List ℕ)) (room : Option ℕ) → AreBytes file → IsFront file piece → Stops (fault ≡ CopyFault.Write) piece old new room →
+pub ends_at_device : (fault : CopyFault) (file piece : List ℕ) (old new : Option (List ℕ)) (room : Option ℕ) → AreBytes file → IsFront file piece →
+    Stops (fault ≡ CopyFault.Write) piece old new room →
     DecodingEnds (Err (of_device fault)) file old new room
 ends_at_device Read file piece old new room bytes front s = stopped_short (CopyFault.Read ≡ CopyFault.Write) file piece old new room bytes front s
-ends_at_device Write file piece old new room bytes front s =
-    (stopped_short (CopyFault.Write ≡ CopyFault.Write) file piece old new room bytes front s, lacks_room (CopyFault.Write ≡ CopyFault.Write) file piece old new room refl front s)
+ends_at_device Write file piece old new room bytes front s = (
+  stopped_short (CopyFault.Write ≡ CopyFault.Write) file piece old new room bytes front s,
+  lacks_room (CopyFault.Write ≡ CopyFault.Write) file piece old new room refl front s,
+)
 
 pub nothing_written : (file : List ℕ) (told : Option (List ℕ)) → AreBytes file → IsStoppedShort file told told
 nothing_written file told bytes =

@@ -19,7 +19,8 @@ use Rattle.dst_read.specs.Reporting.{view_line, IsShown}
 use Rattle.dst_spec.proofs.Lists.{same_err as same_fault}
 
 -- a fault of the code is the only one
-only_of_code : (f : Shape) (w : List ℕ) (fault other : FrameFault) → (other.reason ≡ FirstCodeBit) ⊎ (other.reason ≡ CodeRange) → Offends f w other → Refuses (show_frame 0) f w fault → ⊥
+only_of_code : (f : Shape) (w : List ℕ) (fault other : FrameFault) → (other.reason ≡ FirstCodeBit) ⊎ (other.reason ≡ CodeRange) → Offends f w other →
+    Refuses (show_frame 0) f w fault → ⊥
 only_of_code f w fault other of_code o r = go of_code
   where
     same : fault ≡ other
@@ -54,11 +55,14 @@ nowhere_but_in_code f w first bit range whole fault r = go (zero_or_one (get_or 
 
 -- what a view says of a frame that is shown
 pub view_is_shown : (f : Shape) (k bytes : ℕ) (w line : List ℕ) (view : FrameView) → length w ≡ bytes → line ≡ report (view_line k bytes view ∷ []) →
-    IfPlain (Ok view) (λ sound. IsPlain f w sound) → IfPlain (Ok view) (λ sound. OffendsNowhere f w) → IfCoded (Ok view) (λ params code. code.first ≤ 8 * length w) →
+    IfPlain (Ok view) (λ sound. IsPlain f w sound) → IfPlain (Ok view) (λ sound. OffendsNowhere f w) →
+    IfCoded (Ok view) (λ params code. code.first ≤ 8 * length w) →
     IfCoded (Ok view) (λ params code. HasHeader f.channels params (take code.first (bits w))) →
     IfCoded (Ok view) (λ params code. get_or (bits w) code.first 0 ≡ 1 → Offends f w (first_bit_fault code.first)) →
-    IfCoded (Ok view) (λ params code. get_or (bits w) code.first 0 ≡ 0 → number_from (bits w) (code.first + 1) 12 ≡ 4095 → Offends f w (range_fault code.first)) →
-    IfCoded (Ok view) (λ params code. get_or (bits w) code.first 0 ≡ 0 → number_from (bits w) (code.first + 1) 12 ≢ 4095 → OffendsNowhere f w) → IsShown f k w line
+    IfCoded (Ok view) (λ params code. get_or (bits w) code.first 0 ≡ 0 → number_from (bits w) (code.first + 1) 12 ≡ 4095 →
+    Offends f w (range_fault code.first)) →
+    IfCoded (Ok view) (λ params code. get_or (bits w) code.first 0 ≡ 0 → number_from (bits w) (code.first + 1) 12 ≢ 4095 → OffendsNowhere f w) →
+    IsShown f k w line
 view_is_shown f k bytes w line (Plain sound) long is plain nowhere inside header bit range whole = record {
   told = plain_frame_line k bytes;
   shows = inl (sound.now, plain, ap (plain_frame_line k) (sym long));

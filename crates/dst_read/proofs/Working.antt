@@ -8,7 +8,8 @@ use Rattle.dst_spec.specs.declared.faults.FrameFault.{FrameFault}
 use Rattle.dst_read.specs.declared.jobs.Job.{Job}
 use Rattle.dst_read.specs.Jobs.{IsHeard, IsWorked, stored_in}
 
-pub heard_or_refused : (r : Result ℕ FrameFault) (f : Shape) (frame sound : List ℕ) → IfOk r (MeansWithTail f frame sound) → IfOk r (λ _. (fault : FrameFault) → Offends f frame fault → ⊥) →
+pub heard_or_refused : (r : Result ℕ FrameFault) (f : Shape) (frame sound : List ℕ) → IfOk r (MeansWithTail f frame sound) →
+    IfOk r (λ _. (fault : FrameFault) → Offends f frame fault → ⊥) →
     IfErr r (Offends f frame) → MatchResult r (IsHeard f frame sound) (Offends f frame)
 heard_or_refused (Ok tail) f frame sound m n o = record { means = m; not_refused = n }
 heard_or_refused (Err fault) f frame sound m n o = o

@@ -12,7 +12,7 @@ use Rattle.dsdiff_spec.specs.Words.{check}
 use Rattle.dsdiff_spec.specs.Refusal.{refusal}
 use Rattle.dsdiff_spec.specs.Lines.{check_line}
 use Rattle.dsdiff_spec.specs.Outcome.{done, frame_refused}
-use Rattle.dsdiff_spec.proofs.Verdicts.{NoneOf}
+use Rattle.dsdiff_spec.specs.Progress.{NoneOf}
 use Rattle.dsdiff_chunks.specs.declared.open.OpenFault.TheVariants.{Read, File}
 use Rattle.dst_read.specs.declared.faults.CheckFault.{CheckFault}
 use Rattle.dst_read.specs.declared.faults.CheckFault.TheVariants.{Source, Frame}
@@ -46,7 +46,8 @@ HasSourceCause (Source Read) before now = Rose before now
 HasSourceCause fault before now = Unit {0}
 
 -- the frames of a feed were worked, and their unread bytes added, up to the first cause to stop
-pub record HasSummed {S : Type 0} (bytes : S → Option (List ℕ)) (known : S → Option ℕ) (faults : S → ℕ) (form : Form) (s s' : StoredFrames S) (result : Result ℕ CheckFault) : Type 0 where
+pub record HasSummed {S : Type 0} (bytes : S → Option (List ℕ)) (known : S → Option ℕ) (faults : S → ℕ) (form : Form) (s s' : StoredFrames S)
+    (result : Result ℕ CheckFault) : Type 0 where
   pub feed : IsLater bytes known faults s s'
   pub cause : IfErr result (λ fault. HasSourceCause fault (faults s.source.now) (faults s'.source.now))
   pub ends : (file : List ℕ) → bytes s.source.now ≡ Some file → TailsEnd result file form

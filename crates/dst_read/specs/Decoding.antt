@@ -13,7 +13,7 @@ use Rattle.dsdiff_spec.specs.Words.{decode}
 use Rattle.dsdiff_spec.specs.Refusal.{refusal}
 use Rattle.dsdiff_spec.specs.Lines.{decoded_line}
 use Rattle.dsdiff_spec.specs.Outcome.{Answer, done, frame_refused}
-use Rattle.dsdiff_spec.proofs.Progress.{AreDecoded}
+use Rattle.dsdiff_spec.specs.Progress.{AreDecoded}
 use Rattle.dsdiff_chunks.specs.declared.copy.CopyFault.{CopyFault}
 use Rattle.dsdiff_chunks.specs.declared.copy.CopyFault.TheVariants as copying
 use Rattle.dsdiff_chunks.specs.declared.open.OpenFault.TheVariants.{Read}

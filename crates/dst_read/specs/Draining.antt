@@ -22,7 +22,8 @@ pub record IsLater {K : Type 0} (faults : K → ℕ) (s t : SoundWriter K) : Typ
   pub later : faults s.sink.now ≤ faults t.sink.now
 
 -- of the frame's sound as many bytes as are left are written
-pub record TakesSound {K : Type 0} (written : K → Option (List ℕ)) (room : K → Option ℕ) (faults : K → ℕ) (s : SoundWriter K) (job : Job) (t : SoundWriter K) : Type 0 where
+pub record TakesSound {K : Type 0} (written : K → Option (List ℕ)) (room : K → Option ℕ) (faults : K → ℕ) (s : SoundWriter K) (job : Job)
+    (t : SoundWriter K) : Type 0 where
   pub same : IsLater faults s t
   pub tail : ℕ
   pub answer : job.answer ≡ Ok tail
@@ -30,7 +31,8 @@ pub record TakesSound {K : Type 0} (written : K → Option (List ℕ)) (room : K
   pub adds : Adds (take s.left job.sound.items) (written s.sink.now) (written t.sink.now) (room s.sink.now) (room t.sink.now)
 
 -- nothing is written of a refused frame; the sink may fail at those bytes
-pub record FailsToWrite {K : Type 0} (written : K → Option (List ℕ)) (room : K → Option ℕ) (faults : K → ℕ) (s : SoundWriter K) (job : Job) (t : SoundWriter K) : Type 0 where
+pub record FailsToWrite {K : Type 0} (written : K → Option (List ℕ)) (room : K → Option ℕ) (faults : K → ℕ) (s : SoundWriter K) (job : Job)
+    (t : SoundWriter K) : Type 0 where
   pub tail : ℕ
   pub answer : job.answer ≡ Ok tail
   pub stops : Stops (Unit {0}) (take s.left job.sound.items) (written s.sink.now) (written t.sink.now) (room s.sink.now)
@@ -41,7 +43,8 @@ EndsAt written room faults s job Write t = FailsToWrite written room faults s jo
 EndsAt written room faults s job (Frame k fault) t = IsRefusedAs job k fault × (written t.sink.now ≡ written s.sink.now)
 EndsAt written room faults s job (Source fault) t = ⊥
 
-pub record FailsAtSound {K : Type 0} (written : K → Option (List ℕ)) (room : K → Option ℕ) (faults : K → ℕ) (s : SoundWriter K) (job : Job) (fault : DecodeFault) (t : SoundWriter K) : Type 0 where
+pub record FailsAtSound {K : Type 0} (written : K → Option (List ℕ)) (room : K → Option ℕ) (faults : K → ℕ) (s : SoundWriter K) (job : Job)
+    (fault : DecodeFault) (t : SoundWriter K) : Type 0 where
   pub same : IsLater faults s t
   pub ends : EndsAt written room faults s job fault t
 

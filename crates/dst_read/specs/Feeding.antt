@@ -6,7 +6,8 @@ use Rattle.dst_streams.specs.Causes.{Rose}
 use Rattle.dst_streams.specs.declared.source.Failed.{Failed}
 use Rattle.dsdiff_spec.specs.Bytes.{◌below◌, ◌above◌}
 use Rattle.dsdiff_spec.specs.Walk.{Entry, entry, frame_at}
-use Rattle.dst_read.specs.Jobs.{shape_number, stored_in}
+use Rattle.dst_commands.specs.Rooms.{shape_number}
+use Rattle.dst_read.specs.Jobs.{stored_in}
 use Rattle.dst_read.specs.declared.jobs.Job.{Job}
 use Rattle.dst_read.specs.declared.feed.StoredFrames.{StoredFrames}
 
@@ -28,7 +29,8 @@ pub record IsLater {S : Type 0} (bytes : S → Option (List ℕ)) (known : S →
   pub later : faults s.source.now ≤ faults t.source.now
 
 -- the next frame is read
-pub record GivesFrame {S : Type 0} (bytes : S → Option (List ℕ)) (known : S → Option ℕ) (faults : S → ℕ) (s : StoredFrames S) (job : Job) (t : StoredFrames S) : Type 0 where
+pub record GivesFrame {S : Type 0} (bytes : S → Option (List ℕ)) (known : S → Option ℕ) (faults : S → ℕ) (s : StoredFrames S) (job : Job)
+    (t : StoredFrames S) : Type 0 where
   pub same : IsLater bytes known faults s t
   pub next : t.next ≡ s.next + 1
   pub within : s.next < length s.walked.now.index
@@ -36,6 +38,7 @@ pub record GivesFrame {S : Type 0} (bytes : S → Option (List ℕ)) (known : S 
   pub frame : (file : List ℕ) → bytes s.source.now ≡ Some file → stored_in job ≡ frame_at file (entry s.walked.now.index s.next)
 
 -- the source failed
-pub record FailsToRead {S : Type 0} (bytes : S → Option (List ℕ)) (known : S → Option ℕ) (faults : S → ℕ) (s : StoredFrames S) (failed : Failed) (t : StoredFrames S) : Type 0 where
+pub record FailsToRead {S : Type 0} (bytes : S → Option (List ℕ)) (known : S → Option ℕ) (faults : S → ℕ) (s : StoredFrames S) (failed : Failed)
+    (t : StoredFrames S) : Type 0 where
   pub same : IsLater bytes known faults s t
   pub rose : Rose (faults s.source.now) (faults t.source.now)

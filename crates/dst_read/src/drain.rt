@@ -1,5 +1,5 @@
 // Where the worked jobs go: the sounds to a sink, or their unread bytes into a sum.
-ghost use Rattle.dst_read.specs.Jobs.{shape_number};
+ghost use Rattle.dst_commands.specs.Rooms.{shape_number};
 ghost use Rattle.dst_read.specs.Draining.{TakesSound, FailsAtSound, TakesTail, FailsAtTail};
 
 use crate::faults::{CheckFault, DecodeFault};

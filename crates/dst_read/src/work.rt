@@ -1,6 +1,7 @@
 // The work on a job: its frame is decoded.
 ghost use Rattle.std.specs.Prelude.{◌<◌};
-ghost use Rattle.dst_read.specs.Jobs.{shape_number, IsWorked};
+ghost use Rattle.dst_commands.specs.Rooms.{shape_number};
+ghost use Rattle.dst_read.specs.Jobs.{IsWorked};
 
 use crate::jobs::{Job, Tables};
 use dst_frames::decode_frame;

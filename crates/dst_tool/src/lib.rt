@@ -1,8 +1,8 @@
 //! The commands of the coder, and the call that reads words and runs them.
 //!
 //! [`dst_run`] does all that the program does: it reads the words, runs their command over a source and a sink, reports
-//! lines of text, and answers the status. [`decode_file`], [`check_file`], [`frame_out`], [`show_file`] and [`index_file`]
-//! are the commands alone.
+//! lines of text, and answers the status. [`encode_file`], [`decode_file`], [`check_file`], [`frame_out`], [`show_file`] and
+//! [`index_file`] are the commands alone.
 //!
 //! ```text
 //! let mut source = FileSource::new(&rt, "in.dff");
@@ -12,7 +12,9 @@
 //! ```
 //!
 //! Whatever a status is, its clause says what sink and report hold: behind a done command the one output that the file
-//! means, behind a failed device a prefix of it, behind refused words, a refused file or want of memory nothing.
+//! means, behind a failed device a prefix of it, behind refused words, a refused file or want of memory nothing. Encoding writes
+//! two sizes over what it has written, so that it asks for a sink that holds nothing; behind a failed device each of the two is 0 or
+//! what it will be.
 #![tactic(auto)]
 
 mod answers;
@@ -24,6 +26,7 @@ pub use dst_read::{
     check_file, decode_file, frame_out, index_file, show_file,
 };
 pub use dst_words::{Command, Task, read_words};
+pub use dst_write::{EncodeFault, Encoded, encode_file};
 pub use run::dst_run;
 
 #[cfg(test)]

@@ -6,6 +6,7 @@ use std::process::Abort;
 use std::thread::Threads;
 
 mod devices;
+mod encoding;
 mod files;
 mod reading;
 mod refused;

@@ -1,6 +1,7 @@
 -- Frames by their sizes: the bytes of their chunks, and their entries in `DSTI`.
-use Rattle.std.proofs.Common.{◌≡◌, ℕ, ◌+◌, ◌*◌, ◌/◌, ◌%◌, ◌<◌, ◌==◌, Bool, true, false, if◌then◌else◌, List, [], ◌∷◌, ◌++◌, length, map, take, get_or, flat_map, refl, sym, ap, ◌∙◌, arith, length-append, append-nil, append_assoc, drop}
-use Rattle.std.specs.Prelude.{codes, sum_by}
+use Rattle.std.proofs.Common.{◌≡◌, ℕ, ◌+◌, ◌*◌, ◌/◌, ◌%◌, ◌<◌, ◌==◌, Bool, true, false, if◌then◌else◌, List, [], ◌∷◌, ◌++◌, length, map, take, get_or}
+use Rattle.std.proofs.Common.{flat_map, refl, sym, ap, ◌∙◌, arith, length-append, append-nil, append_assoc, drop}
+use Rattle.std.specs.Prelude.{codes}
 use Rattle.std.proofs.lemmas.Bool.{eqb-false}
 use Rattle.std.proofs.Common.{eqb-true}
 use Rattle.std.proofs.lemmas.List.{take_more, take-append-drop}
@@ -22,7 +23,8 @@ length-pad n pad = go (n % 2 == 1) refl
     go true e = let one = eqb-true (n % 2) 1 e in omega arith
     go false e = let not_one = eqb-false (n % 2) 1 e in omega arith
 
-pub length-padded : (name : String) (body : List ℕ) (pad : ℕ) → length (codes name) ≡ 4 → length (padded_chunk name body pad) ≡ 12 + length body + length body % 2
+pub length-padded : (name : String) (body : List ℕ) (pad : ℕ) → length (codes name) ≡ 4 →
+    length (padded_chunk name body pad) ≡ 12 + length body + length body % 2
 length-padded name body pad four =
     let padding : List ℕ = if length body % 2 == 1 then pad ∷ [] else [] in
     omega (
@@ -96,7 +98,8 @@ length-index (e ∷ es) =
       length-index es,
     )
 
-pub dsti_is : (place : ℕ) (sizes : List ℕ) → codes "DSTI" ++ big_bytes 8 (12 * length sizes) ++ flat_map entry_bytes (entries_by place sizes) ≡ dsti (entries_by place sizes)
+pub dsti_is : (place : ℕ) (sizes : List ℕ) →
+    codes "DSTI" ++ big_bytes 8 (12 * length sizes) ++ flat_map entry_bytes (entries_by place sizes) ≡ dsti (entries_by place sizes)
 dsti_is place sizes =
     let body = flat_map entry_bytes (entries_by place sizes) in
     let long : 12 * length sizes ≡ length body = omega (arith, length-index (entries_by place sizes), length-entries place sizes) in
@@ -133,7 +136,8 @@ one_more_entry place sizes j d l =
 abbrev pub dsti_head : List ℕ → List ℕ
 dsti_head sizes = codes "DSTI" ++ big_bytes 8 (12 * length sizes)
 
-pub begins_with_entries : (place : ℕ) (sizes : List ℕ) (j : ℕ) → BeginsWith (dsti (entries_by place sizes)) (dsti_head sizes ++ flat_map entry_bytes (entries_by place (take j sizes)))
+pub begins_with_entries : (place : ℕ) (sizes : List ℕ) (j : ℕ) →
+    BeginsWith (dsti (entries_by place sizes)) (dsti_head sizes ++ flat_map entry_bytes (entries_by place (take j sizes)))
 begins_with_entries place sizes j =
     let front = take j sizes in
     let rest = flat_map entry_bytes (entries_by (place + frames_size front) (drop j sizes)) in

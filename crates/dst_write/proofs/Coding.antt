@@ -1,29 +1,18 @@
 -- The frames that stand for a sound, one after the other, and the sizes that are noted of them.
-use Rattle.std.proofs.Common.{◌≡◌, ℕ, ◌+◌, ◌*◌, ◌<◌, ◌≤◌, List, [], ◌∷◌, ◌++◌, length, map, take, drop, get_or, set, ap, sym, ◌∙◌, arith, length-drop}
-use Rattle.std.specs.List.{range_with_len}
+use Rattle.std.proofs.Common.{◌≡◌, ℕ, ◌+◌, ◌<◌, ◌≤◌, List, [], ◌∷◌, ◌++◌, length, map, take, drop, get_or, set, ap, sym, ◌∙◌, arith, length-drop}
 use Rattle.std.proofs.lemmas.List.{length-map, length-take, get_or-map, map-append, take_more, take_more_set}
-use Rattle.std.proofs.lemmas.List.FromFn.{get_or-map-range_with_len, length-range_with_len}
 use Rattle.dst_spec.specs.Sample.{Shape, sound_bytes}
 use Rattle.dst_spec.specs.Spell.{stored}
-use Rattle.dsdiff_spec.specs.Bytes.{bytes_at}
 use Rattle.dsdiff_spec.specs.Chunks.{body_of}
 use Rattle.dsdiff_spec.specs.Form.{shape, sound_bytes_of, frames_for}
-use Rattle.dsdiff_spec.specs.Coded.{Picks, filled, pieces, stored_frames}
+use Rattle.dsdiff_spec.specs.Coded.{Picks, pieces, stored_frames}
+use Rattle.dsdiff_spec.proofs.SoundPieces.{length-pieces, piece_at}
 use Rattle.dsdiff_chunks.specs.declared.form.PlainForm.{PlainForm}
 use Rattle.dsdiff_chunks.specs.Forms.{plain_seen}
 use Rattle.dsdiff_chunks.specs.Seen.{head_seen}
 use Rattle.dsdiff_chunks.proofs.LawfulForms.{sound_inside}
 use Rattle.dst_write.specs.Feeding.{piece_of}
 use Rattle.dst_write.proofs.Feeding.{piece_in}
-
--- ---- pieces
-length-pieces : (n : ℕ) (sound : List ℕ) → length (pieces n sound) ≡ frames_for n (length sound)
-unfolding pieces
-length-pieces n sound = length-map (range_with_len 0 (frames_for n (length sound))) (λ k. filled n (bytes_at sound (k * n) n)) ∙ length-range_with_len 0 (frames_for n (length sound))
-
-piece_at : (n : ℕ) (sound : List ℕ) (k : ℕ) → k < frames_for n (length sound) → get_or (pieces n sound) k [] ≡ piece_of n sound k
-unfolding pieces
-piece_at n sound k h = get_or-map-range_with_len (λ k. filled n (bytes_at sound (k * n) n)) 0 (frames_for n (length sound)) k k [] h (omega arith)
 
 -- ---- the frames of a plain form that the file holds whole
 abbrev pub frames_in : Picks → List ℕ → PlainForm → List (List ℕ)

@@ -13,3 +13,4 @@ mod CutWhole
 mod CutOutcome
 mod CutCopied
 mod CutRules
+pub mod MadeSounds

@@ -1,5 +1,5 @@
 -- What one call of a sink does, as a piece that is added or cut short.
-use Rattle.std.proofs.Common.{◌≡◌, ℕ, ◌+◌, ◌≤◌, List, ◌++◌, length, replicate, Option, Result, Ok, Err, refl, ap, ◌∙◌, arith}
+use Rattle.std.proofs.Common.{◌≡◌, ℕ, ◌+◌, ◌≤◌, List, ◌++◌, length, replicate, Option, Result, Ok, Err, arith}
 use Rattle.std.specs.Prelude.{MatchResult, OnOk}
 use Rattle.std.proofs.lemmas.List.{length-replicate}
 use Rattle.dst_streams.specs.Told.{and_then, IsCutShort, IsSure}
@@ -21,7 +21,8 @@ call_same (Ok u) a b old new room left e h = adds_same a b old new room left e h
 call_same (Err fault) a b old new room left e h = stops_same (Unit {0}) a b old new room e h
 
 -- a piece behind another, by a call whose device is told
-pub side_then : {T : Type 0} (result : Result T CopyFault) (a b : List ℕ) (old mid new : Option (List ℕ)) (room half left : Option ℕ) → Adds a old mid room half →
+pub side_then : {T : Type 0} (result : Result T CopyFault) (a b : List ℕ) (old mid new : Option (List ℕ)) (room half left : Option ℕ) →
+    Adds a old mid room half →
     MatchResult result (λ _. Adds b mid new half left) (λ fault. Stops (fault ≡ CopyFault.Write) b mid new half) →
     MatchResult result (λ _. Adds (a ++ b) old new room left) (λ fault. Stops (fault ≡ CopyFault.Write) (a ++ b) old new room)
 side_then (Ok u) a b old mid new room half left p q = adds_then a b old mid new room half left p q

@@ -1,11 +1,8 @@
 -- A run of batches is read as one loop, a piece at a time.
-use Rattle.std.proofs.Common.{◌≡◌, ℕ, ◌≤◌, List, length, Option, Some, Ok, Err, Result, ap, subst, ◌∙◌}
+use Rattle.std.proofs.Common.{◌≡◌, ℕ, ◌≤◌, List, length, Option, Some, Ok, Err, Result}
 use Rattle.dst_streams.specs.declared.source.Failed.{Failed}
 use Rattle.dsdiff_spec.specs.Coded.{Picks}
 use Rattle.dsdiff_chunks.specs.declared.open.OpenFault.TheVariants.{Read}
-use Rattle.frame_crew.specs.declared.ordered.RunFault.{RunFault}
-use Rattle.frame_crew.specs.declared.ordered.RunFault.TheVariants as run
-use Rattle.frame_crew.specs.Answers.{IfFeedFault, IfDrainFault}
 use Rattle.frame_crew.specs.Runs.{Ran, FailsAtFeed, FailsAtDrain}
 use Rattle.frame_crew.specs.Laws.{Ran-keep}
 use Rattle.dst_write.specs.declared.jobs.Job.{Job}
@@ -19,13 +16,6 @@ use Rattle.dst_write.specs.Draining.{TakesFrame, FailsAtFrame}
 use Rattle.dst_write.specs.Frames.{HasRun}
 use Rattle.dst_write.proofs.Feeding as fed
 use Rattle.dst_write.proofs.Underway as under
-
--- ---- whose fault it was
-pub fault_of_feed : {A F D : Type 0} (r : Result A (RunFault F D)) (x : RunFault F D) (e : F) (P : F → Type 0) → r ≡ Err x → x ≡ run.Feed e → IfFeedFault r P → P e
-fault_of_feed {A} {F} {D} r x e P is found h = subst (λ (r : Result A (RunFault F D)). IfFeedFault r P) (is ∙ ap Err found) h
-
-pub fault_of_drain : {A F D : Type 0} (r : Result A (RunFault F D)) (x : RunFault F D) (e : D) (P : D → Type 0) → r ≡ Err x → x ≡ run.Drain e → IfDrainFault r P → P e
-fault_of_drain {A} {F} {D} r x e P is found h = subst (λ (r : Result A (RunFault F D)). IfDrainFault r P) (is ∙ ap Err found) h
 
 -- what is known before the first piece
 pub record IsBegun {S K : Type 0} (bytes : S → Option (List ℕ)) (s : SoundPieces S) (t : FrameWriter K) : Type 0 where

@@ -1,5 +1,6 @@
 -- The two size fields: what stands around them, with zeros in them and with the sizes.
-use Rattle.std.proofs.Common.{◌≡◌, ◌⊎◌, inl, inr, ℕ, ◌+◌, ◌*◌, ◌≤◌, List, [], ◌∷◌, ◌++◌, length, map, take, drop, flat_map, replicate, Option, Some, None, Result, Ok, Err}
+use Rattle.std.proofs.Common.{◌≡◌, inr, ℕ, ◌+◌, ◌*◌, ◌≤◌, List, [], ◌∷◌, ◌++◌, length, map, take, drop, flat_map, replicate, Option, Some, None}
+use Rattle.std.proofs.Common.{Result, Ok, Err}
 use Rattle.std.proofs.Common.{refl, sym, ap, subst, ◌∙◌, arith, length-append, append_assoc, append-nil, length-drop}
 use Rattle.std.specs.Prelude.{codes}
 use Rattle.std.specs.List.{concat}
@@ -7,12 +8,12 @@ use Rattle.std.proofs.lemmas.List.{take_at, drop_at, length-take, take-append-dr
 use Rattle.std.proofs.lemmas.List.Folds.{concat-append}
 use Rattle.byteorder.specs.Endian.{big_bytes}
 use Rattle.byteorder.specs.Numbers.{length-bytes_high_first}
-use Rattle.dst_streams.specs.Told.{and_then, written_over, IsOpenIn, IsSameOutside, IsCutShort}
+use Rattle.dst_streams.specs.Told.{written_over, IsOpenIn, IsSameOutside}
 use Rattle.dsdiff_spec.specs.Form.{Form}
 use Rattle.dsdiff_spec.specs.Written.{frte, dstf, dsti, entries_from, behind_sound, copied_with, cmpr_coded}
 use Rattle.dsdiff_spec.specs.Coded.{coded_before, coded_with, dst, first_place, origin_of_plain}
 use Rattle.dst_write.specs.Layout.{before, behind, end, form_size, front, opening, sound_opening, sound_size, unsized}
-use Rattle.dst_write.specs.Unfinished.{HoldsNothing, HoldsUnfinished, IsUnfinished, form_size_place, sized, zero_at, SizesEnd}
+use Rattle.dst_write.specs.Unfinished.{form_size_place, SizesEnd}
 use Rattle.dst_write.proofs.BySize.{entries_are, even_chunk, frames_size_is, half_of_frames, length-dsti, length-frte}
 
 -- ---- a field between two parts
@@ -59,7 +60,8 @@ regroup a z b1 b2 b3 y f s e = simp append_assoc refl
 pub unsized_is : (frames : List (List ℕ)) (file : List ℕ) (form : Form) →
     unsized frames file form ≡ around (big_bytes 8 0) (between_fields file form) (big_bytes 8 0) (behind_fields frames file form)
 unsized_is frames file form =
-    regroup (codes "FRM8") (big_bytes 8 0) (codes "DSD ") (before file form) (codes "DST ") (big_bytes 8 0) (frte form.frames) (flat_map dstf frames) (end (map length frames) file form)
+    regroup (codes "FRM8") (big_bytes 8 0) (codes "DSD ") (before file form) (codes "DST ") (big_bytes 8 0) (frte form.frames) (flat_map dstf frames)
+    (end (map length frames) file form)
 
 -- ---- the coded file
 regroup_chunks : (a z b1 b2 b3 y f s i o e : List ℕ) →
@@ -97,7 +99,8 @@ chunks_are frames file form =
 
 length-index_of : (frames : List (List ℕ)) (file : List ℕ) (form : Form) → length (index_of frames file form) ≡ 12 + 12 * length (sizes_of frames)
 length-index_of frames file form =
-    ap (λ es. length (dsti es)) (sym (entries_are (first_place (coded_before file form)) frames)) ∙ length-dsti (first_place (coded_before file form)) (sizes_of frames)
+    ap (λ es. length (dsti es)) (sym (entries_are (first_place (coded_before file form)) frames)) ∙ length-dsti (first_place (coded_before file form))
+    (sizes_of frames)
 
 length-dst : (frames : List (List ℕ)) → length (dst frames) ≡ 12 + sound_size (sizes_of frames)
 length-dst frames =
@@ -130,7 +133,8 @@ form_size_is frames file form =
 -- it has these sizes in its two fields
 pub coded_is : (frames : List (List ℕ)) (file : List ℕ) (form : Form) → length frames ≡ form.frames →
     coded_with frames file form
-    ≡ around (big_bytes 8 (form_size (sizes_of frames) file form)) (between_fields file form) (big_bytes 8 (sound_size (sizes_of frames))) (behind_fields frames file form)
+    ≡ around (big_bytes 8 (form_size (sizes_of frames) file form)) (between_fields file form) (big_bytes 8 (sound_size (sizes_of frames)))
+    (behind_fields frames file form)
 unfolding coded_with
 coded_is frames file form count =
     let size = big_bytes 8 (form_size (sizes_of frames) file form) in
@@ -140,9 +144,12 @@ coded_is frames file form count =
     ap (λ n. codes "FRM8" ++ big_bytes 8 n ++ codes "DSD " ++ concat (chunks_of frames file form)) (form_size_is frames file form)
     ∙ ap (λ w. head ++ w) (chunks_are frames file form)
     ∙ ap (λ w. head ++ (before file form ++ (w ++ (index_of frames file form ++ (origin_of_plain form ++ []))) ++ behind file form)) (dst_is frames)
-    ∙ regroup_chunks (codes "FRM8") size (codes "DSD ") (before file form) (codes "DST ") sound (frte (length frames)) (flat_map dstf frames) (index_of frames file form) (origin_of_plain form) (behind file form)
-    ∙ ap (λ n. around size (between_fields file form) sound (frte n ++ (flat_map dstf frames ++ (index_of frames file form ++ origin_of_plain form ++ behind file form)))) count
-    ∙ ap (λ es. around size (between_fields file form) sound (frte form.frames ++ (flat_map dstf frames ++ (dsti es ++ origin_of_plain form ++ behind file form)))) (sym (entries_are place frames))
+    ∙ regroup_chunks (codes "FRM8") size (codes "DSD ") (before file form) (codes "DST ") sound (frte (length frames)) (flat_map dstf frames)
+    (index_of frames file form) (origin_of_plain form) (behind file form)
+    ∙ ap (λ n. around size (between_fields file form) sound
+    (frte n ++ (flat_map dstf frames ++ (index_of frames file form ++ origin_of_plain form ++ behind file form)))) count
+    ∙ ap (λ es. around size (between_fields file form) sound
+    (frte form.frames ++ (flat_map dstf frames ++ (dsti es ++ origin_of_plain form ++ behind file form)))) (sym (entries_are place frames))
 
 -- ---- places of the two fields
 abbrev pub sound_place : List ℕ → Form → ℕ
@@ -151,9 +158,17 @@ sound_place file form = 20 + length (before file form)
 length-between : (file : List ℕ) (form : Form) → length (between_fields file form) ≡ 8 + length (before file form)
 length-between file form = omega (arith, length-append (codes "DSD ") (before file form ++ codes "DST "), length-append (before file form) (codes "DST "))
 
-length-to_sound : (size : List ℕ) (file : List ℕ) (form : Form) → length size ≡ 8 → length (codes "FRM8" ++ (size ++ between_fields file form)) ≡ sound_place file form
+length-to_sound : (size : List ℕ) (file : List ℕ) (form : Form) → length size ≡ 8 →
+    length (codes "FRM8" ++ (size ++ between_fields file form)) ≡ sound_place file form
 length-to_sound size file form long =
-    omega (arith, long, length-append (codes "FRM8") (size ++ between_fields file form), length-append size (between_fields file form), length-between file form)
+    omega (
+      arith,
+      long,
+      length-append (codes "FRM8") (size ++ between_fields file form),
+      length-append size
+          (between_fields file form),
+      length-between file form,
+    )
 
 to_sound : (size b sound c : List ℕ) → around size b sound c ≡ (codes "FRM8" ++ (size ++ b)) ++ (sound ++ c)
 to_sound size b sound c = sym (append_assoc (codes "FRM8") (size ++ b) (sound ++ c) ∙ ap (λ w. codes "FRM8" ++ w) (append_assoc size b (sound ++ c)))
@@ -170,7 +185,8 @@ length-front file form =
 
 -- the second field, and then the first, written over
 pub sound_over : (size sound new c : List ℕ) (file : List ℕ) (form : Form) → length size ≡ 8 → length sound ≡ 8 → length new ≡ 8 →
-    take (sound_place file form) (around size (between_fields file form) sound c) ++ new ++ drop (sound_place file form + length new) (around size (between_fields file form) sound c)
+    take (sound_place file form) (around size (between_fields file form) sound c) ++ new ++ drop (sound_place file form + length new)
+    (around size (between_fields file form) sound c)
     ≡ around size (between_fields file form) new c
 sound_over size sound new c file form long held fits =
     let b = between_fields file form in
@@ -199,7 +215,8 @@ abbrev pub zeros : List ℕ
 zeros = replicate 8 0
 
 -- ---- a field that is written over, in any bytes
-pub over_is_outside : (xs piece : List ℕ) (place : ℕ) → place + 8 ≤ length xs → length piece ≡ 8 → IsSameOutside place 8 xs (take place xs ++ piece ++ drop (place + length piece) xs)
+pub over_is_outside : (xs piece : List ℕ) (place : ℕ) → place + 8 ≤ length xs → length piece ≡ 8 →
+    IsSameOutside place 8 xs (take place xs ++ piece ++ drop (place + length piece) xs)
 over_is_outside xs piece place inside long =
     let p = take place xs in
     let q = take 8 (drop place xs) in
@@ -207,7 +224,8 @@ over_is_outside xs piece place inside long =
     let parts : p ++ (q ++ r) ≡ xs = ap (λ w. p ++ w) (take-append-drop 8 (drop place xs)) ∙ take-append-drop place xs in
     let is : length p ≡ place = omega (arith, length-take place xs) in
     let held : length q ≡ 8 = omega (arith, length-take 8 (drop place xs), length-drop place xs) in
-    subst (λ w. IsSameOutside place 8 xs w) (sym (put_over p q r piece place is (omega (arith, held, long))) ∙ ap (λ w. take place w ++ piece ++ drop (place + length piece) w) parts)
+    subst (λ w. IsSameOutside place 8 xs w) (sym (put_over p q r piece place is (omega (arith, held, long))) ∙ ap
+    (λ w. take place w ++ piece ++ drop (place + length piece) w) parts)
     (subst (λ w. IsSameOutside place 8 w (p ++ (piece ++ r))) parts (same_around p q piece r place is held long))
 
 -- the sink is finished, or fails at that
@@ -217,6 +235,7 @@ pub sizes_end : {T E : Type 0} (result : Result T E) (place sound form : ℕ) (o
 sizes_end (Ok u) place sound form old mid last new p q e long = e ∙ q ∙ ap (λ w. written_over w form_size_place (big_bytes 8 form)) p
 sizes_end (Err fault) place sound form old mid last new p q e long = inr (subst (λ w. IsOpenIn form_size_place 8 w new) p (go mid (e ∙ q) long))
   where
-    go : (mid : Option (List ℕ)) → new ≡ written_over mid form_size_place (big_bytes 8 form) → ((xs : List ℕ) → mid ≡ Some xs → 12 ≤ length xs) → IsOpenIn form_size_place 8 mid new
+    go : (mid : Option (List ℕ)) → new ≡ written_over mid form_size_place (big_bytes 8 form) → ((xs : List ℕ) → mid ≡ Some xs → 12 ≤ length xs) →
+        IsOpenIn form_size_place 8 mid new
     go None e long = e
     go (Some xs) e long = (_, e, over_is_outside xs (big_bytes 8 form) 4 (long xs refl) (length-bytes_high_first 8 form))

@@ -15,7 +15,8 @@ use Rattle.dst_write.specs.declared.faults.EncodeFault.{EncodeFault}
 use Rattle.dst_write.specs.declared.faults.EncodeFault.TheVariants.{Source, Write}
 
 -- all frames are written in order, and their sizes noted; or a prefix of them is there
-abbrev pub FramesEnd : Result (Unit {0}) EncodeFault → (frames : List (List ℕ)) → (sizes : List ℕ) → (old new : Option (List ℕ)) → (room left : Option ℕ) → Type 0
+abbrev pub FramesEnd : Result (Unit {0}) EncodeFault → (frames : List (List ℕ)) → (sizes : List ℕ) → (old new : Option (List ℕ)) → (room left : Option ℕ) →
+    Type 0
 FramesEnd (Ok u) frames sizes old new room left = Adds (flat_map dstf frames) old new room left × (sizes ≡ map length frames)
 FramesEnd (Err fault) frames sizes old new room left = Stops (fault ≡ Write) (flat_map dstf frames) old new room
 

@@ -7,7 +7,7 @@ use Rattle.dsdiff_spec.specs.Bytes.{bytes_at, ◌below◌, ◌above◌}
 use Rattle.dsdiff_spec.specs.Chunks.{body_of}
 use Rattle.dsdiff_spec.specs.Coded.{filled}
 use Rattle.dsdiff_chunks.specs.Seen.{head_seen}
-use Rattle.dst_write.specs.Jobs.{shape_number}
+use Rattle.dst_commands.specs.Rooms.{shape_number}
 use Rattle.dst_write.specs.declared.jobs.Job.{Job}
 use Rattle.dst_write.specs.declared.feed.SoundPieces.{SoundPieces}
 

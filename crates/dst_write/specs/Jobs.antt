@@ -1,27 +1,20 @@
 -- Jobs: the buffers that a frame is stored in, told by one number, and what the work leaves in them.
-use Rattle.std.specs.Prelude.{◌≡◌, ℕ, ◌+◌, ◌*◌, ◌<◌, ◌≤◌, Bool, not, ◌&&◌, ◌==◌, if◌then◌else◌, List, All, length, take}
+use Rattle.std.specs.Prelude.{◌≡◌, ℕ, ◌+◌, ◌<◌, ◌≤◌, if◌then◌else◌, List, All, length, take}
 use Rattle.dst_spec.specs.Sample.{Shape, IsShape, sound_bytes}
 use Rattle.dst_spec.specs.Spell.{stored}
-use Rattle.dsdiff_spec.specs.Bytes.{◌below◌, ◌above◌}
+use Rattle.dsdiff_spec.specs.Bytes.{◌below◌}
 use Rattle.dsdiff_spec.specs.Coded.{Picks}
+use Rattle.dst_commands.specs.Rooms.{shape_number, room_number}
 use Rattle.dst_write.specs.declared.jobs.Job.{Job}
 use Rattle.dst_write.specs.declared.jobs.Scratch.{Scratch}
 
--- a number for the shape of a form's frames
-abbrev pub shape_number : Shape → ℕ
-shape_number f = 8 * f.octets + f.channels + 2
-
--- room for the sound of a frame of a shape and for its plain form; a frame of this size lies in its buffer
-abbrev pub has_room : ℕ → ℕ → ℕ → Shape → Bool
-has_room size frame sound f =
-    f.channels below 8 && not (size above frame) && frame == 1 + sound_bytes f && sound == sound_bytes f
+-- no stored frame is longer than the plain form
+abbrev pub longest : Shape → ℕ
+longest f = 1 + sound_bytes f
 
 -- the number of a job's shape, and 0 where its buffers don't have this room
-abbrev pub job_shape : ℕ → ℕ → ℕ → Shape → ℕ
-job_shape size frame sound f = if has_room size frame sound f then shape_number f else 0
-
 abbrev pub shape_of_job : Job → ℕ
-shape_of_job j = job_shape j.size (length j.frame.items) (length j.sound.items) j.channels
+shape_of_job j = room_number longest j.size (length j.frame.items) (length j.sound.items) j.channels
 
 -- at least one job, and each is of this shape
 pub record AreJobsFor (f : Shape) (jobs : List Job) : Type 0 where

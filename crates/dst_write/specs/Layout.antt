@@ -1,5 +1,5 @@
 -- The coded file in the order in which it is written, by the sizes of its stored frames. Its two size fields are 0 until all else is written.
-use Rattle.std.specs.Prelude.{◌≡◌, ℕ, ◌+◌, ◌*◌, ◌%◌, ◌≤◌, sum_by, List, [], ◌∷◌, ◌++◌, length, map, flat_map, codes}
+use Rattle.std.specs.Prelude.{ℕ, ◌+◌, ◌*◌, ◌%◌, sum_by, List, [], ◌∷◌, ◌++◌, length, map, flat_map, codes}
 use Rattle.std.specs.List.{concat}
 use Rattle.byteorder.specs.Endian.{big_bytes}
 use Rattle.dsdiff_spec.specs.Form.{Form}

@@ -7,3 +7,4 @@ pub mod Draining
 pub mod Frames
 pub mod CutLayout
 pub mod Cutting
+pub mod Making

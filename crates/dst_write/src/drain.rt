@@ -1,6 +1,6 @@
 // Where the stored frames go: to a sink, each in a chunk of its own, and their sizes into a list.
 ghost use Rattle.std.specs.Prelude.{◌≡◌, slice_set};
-ghost use Rattle.dst_write.specs.Jobs.{shape_number};
+ghost use Rattle.dst_commands.specs.Rooms.{shape_number};
 ghost use Rattle.dst_write.specs.Draining.{TakesFrame, FailsAtFrame};
 
 use crate::faults::EncodeFault;

@@ -1,8 +1,10 @@
 // The memory that frames are stored in.
 ghost use Rattle.std.specs.Prelude.{◌≡◌, ◌<◌, ◌≤◌, IfOk};
 ghost use Rattle.dst_spec.specs.Sample.{IsShape};
-ghost use Rattle.dst_write.specs.Jobs.{shape_of_job, shape_of_scratch, shape_number, AreJobsFor, AreScratchesFor};
+ghost use Rattle.dst_commands.specs.Rooms.{shape_number};
+ghost use Rattle.dst_write.specs.Jobs.{shape_of_job, shape_of_scratch, AreJobsFor, AreScratchesFor};
 
+use dst_commands::job_count;
 use dst_num::Channels;
 use frame_crew::Slot;
 use frame_store::StoreScratch;
@@ -32,9 +34,6 @@ pub(crate) struct Scratch {
 impl Slot for Scratch {
     ghost shape = { shape_of_scratch };
 }
-
-/// Most jobs for each worker at 64 times 44.1 kHz: they are fewer where frames are longer.
-const MOST_JOBS: u32 = 16;
 
 impl Job {
     /// Room for the sound of a frame of these channels, and for its plain form, which no stored frame is longer than.
@@ -73,8 +72,7 @@ pub(crate) fn jobs_for(
 ) -> Result<Vec<Job>, AllocError>
     ensures { IfOk result (λ jobs. AreJobsFor channels jobs.items) }
 {
-    let each = MOST_JOBS / channels.multiple() as u32;
-    let count = frames.min(each.saturating_mul(workers)).max(1);
+    let count = job_count(channels, frames, workers);
     let mut jobs = Vec::with_capacity(alloc, count as usize)?;
     for _ in 0..count {
         jobs.push(Job::new(alloc, channels)?)?;

@@ -24,9 +24,13 @@ mod faults;
 mod feed;
 mod frames;
 mod jobs;
+mod make;
 mod sizes;
+#[cfg(test)]
+mod tests;
 mod work;
 
 pub use cut::{Cut, CutFault, cut_file};
 pub use encode::encode_file;
 pub use faults::{EncodeFault, Encoded};
+pub use make::{Made, MakeFault, make_file};

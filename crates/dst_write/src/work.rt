@@ -1,7 +1,8 @@
 // The work on a job: its sound is stored.
 ghost use Rattle.std.specs.Prelude.{◌≡◌, ◌<◌, ◌≤◌, length, take};
 ghost use Rattle.dst_spec.specs.Sample.{sound_bytes};
-ghost use Rattle.dst_write.specs.Jobs.{shape_number, IsStored};
+ghost use Rattle.dst_commands.specs.Rooms.{shape_number};
+ghost use Rattle.dst_write.specs.Jobs.{IsStored};
 
 use crate::jobs::{Job, Scratch};
 use dst_num::Channels;

@@ -1,5 +1,6 @@
 -- The index of a file beside its walk.
-use Rattle.std.proofs.Common.{◌≡◌, ℕ, zero, suc, ◌+◌, ◌<◌, Bool, true, false, List, [], ◌∷◌, length, Option, Some, None, Result, Ok, Err, refl, sym, ap, ◌∙◌, arith, add-zero}
+use Rattle.std.proofs.Common.{◌≡◌, ℕ, zero, suc, ◌+◌, ◌<◌, Bool, true, false, List, [], ◌∷◌, length, Option, Some, None, Result, Ok, Err, refl, sym, ap, ◌∙◌}
+use Rattle.std.proofs.Common.{arith, add-zero}
 use Rattle.std.specs.Prelude.{◌==◌, not}
 use Rattle.std.specs.List.{enumerate_from}
 use Rattle.std.proofs.lemmas.Bool.{eq-eqb, eqb-true, ne_eqb, and_from, not-false}
@@ -7,7 +8,8 @@ use Rattle.std.proofs.lemmas.List.{length-map}
 use Rattle.dsdiff_spec.specs.Chunks.{Head}
 use Rattle.dsdiff_spec.specs.Faults.{◌when◌, ◌otherwise◌, first_some}
 use Rattle.dsdiff_spec.specs.Form.{Form}
-use Rattle.dsdiff_spec.specs.Walk.{Entry, entry, entry_of, entries, frame_fault, frame_heads, in_dst, walk, walk_fault, index_heads, has_index_of, indexed, same_entry, check_index_fault}
+use Rattle.dsdiff_spec.specs.Walk.{Entry, entry, entry_of, entries, frame_fault, frame_heads, in_dst, walk, walk_fault, index_heads, has_index_of, indexed}
+use Rattle.dsdiff_spec.specs.Walk.{same_entry, check_index_fault}
 use Rattle.dsdiff_spec.specs.declared.faults.FileFault.{FileFault}
 use Rattle.dsdiff_spec.specs.declared.faults.FileFault.TheVariants.{CountDiffers, IndexMissing, IndexBad}
 use Rattle.dsdiff_spec.proofs.CodedFiles.{count_is_right}

@@ -1,5 +1,6 @@
 -- What a moment's samples are, the moments of a run of samples, and the sound of all of them.
-use Rattle.std.proofs.Common.{◌≡◌, Bool, true, false, if◌then◌else◌, ◌+ℤ◌, ℕ, zero, suc, ◌+◌, ◌-◌, ◌*◌, ◌%◌, ◌<◌, ◌≤◌, ℤ, pos, ◌-ℤ◌, ◌*ℤ◌, nat_abs, List, [], ◌∷◌, ◌++◌, map, length, get_or, take, length-take-le, flat_map, replicate, refl, ap, sym, ◌∙◌, arith, append_assoc, append-nil}
+use Rattle.std.proofs.Common.{◌≡◌, Bool, true, false, if◌then◌else◌, ◌+ℤ◌, ℕ, zero, suc, ◌+◌, ◌-◌, ◌*◌, ◌%◌, ◌<◌, ◌≤◌, ℤ, pos, ◌-ℤ◌, ◌*ℤ◌, nat_abs, List, []}
+use Rattle.std.proofs.Common.{◌∷◌, ◌++◌, map, length, get_or, take, length-take-le, flat_map, replicate, refl, ap, sym, ◌∙◌, arith, append_assoc, append-nil}
 use Rattle.std.specs.Int.{is_negative}
 use Rattle.std.specs.List.{range_with_len}
 use Rattle.std.proofs.lemmas.Grind.{flat_map-append}
@@ -29,7 +30,8 @@ with_channel t c wave past =
       generator = word.1;
     }
 
-pub one_channel_more : (t c : ℕ) (waves : List Wave) (wave : Wave) (g : Lcg) → at_time t c (waves ++ wave ∷ []) g ≡ with_channel t (c + length waves) wave (at_time t c waves g)
+pub one_channel_more : (t c : ℕ) (waves : List Wave) (wave : Wave) (g : Lcg) →
+    at_time t c (waves ++ wave ∷ []) g ≡ with_channel t (c + length waves) wave (at_time t c waves g)
 unfolding at_time
 one_channel_more t c [] wave g =
     let place : c ≡ c + 0 = omega arith in
@@ -56,7 +58,8 @@ length-waves t c (wave ∷ waves) g = ap suc (length-waves t (c + 1) waves (pcg3
 
 -- what a channel's step adds
 pub channel_added : (t c word sample : ℕ) (ws : List Wave) (g0 g new : Lcg) (wave next : Wave) (h : ℤ) → c < length ws → wave ≡ get_or ws c still →
-    g ≡ (at_time t 0 (take c ws) g0).generator → (word, new) ≡ pcg32 g → sample ≡ sample_of wave (dither word) → h ≡ height t c → next ≡ next_wave wave h (level_of sample) →
+    g ≡ (at_time t 0 (take c ws) g0).generator → (word, new) ≡ pcg32 g → sample ≡ sample_of wave (dither word) → h ≡ height t c →
+    next ≡ next_wave wave h (level_of sample) →
     at_time t 0 (take (c + 1) ws) g0 ≡ record {
       samples = (at_time t 0 (take c ws) g0).samples ++ sample ∷ [];
       waves = (at_time t 0 (take c ws) g0).waves ++ next ∷ [];
@@ -200,7 +203,8 @@ sound-more F channels n =
 
     range-more : (n : ℕ) → range_with_len 0 (n + 1) ≡ range_with_len 0 n ++ n ∷ []
     range-more n =
-        sym (map-same (range_with_len 0 (n + 1))) ∙ map-range_with_len_more (λ x. x) 0 n n (omega arith) ∙ ap (λ xs. xs ++ n ∷ []) (map-same (range_with_len 0 n))
+        sym (map-same (range_with_len 0 (n + 1))) ∙ map-range_with_len_more (λ x. x) 0 n n (omega arith)
+        ∙ ap (λ xs. xs ++ n ∷ []) (map-same (range_with_len 0 n))
 
 pub sound-alike : (F G : ℕ → ℕ → ℕ) (channels n : ℕ) → ((c t : ℕ) → t < 8 * n → F c t ≡ G c t) → sound_of F channels n ≡ sound_of G channels n
 unfolding sound_of

@@ -1,8 +1,9 @@
 // Devices that fail: the statuses and the lines.
-use super::decode_words;
-use super::files::{odd_plain, two_frames};
+use super::files::{odd_plain, two_frames, with_bytes};
+use super::{decode_words, split};
 use crate::dst_run;
 use dst_streams::{HonestSource, MemorySink, MemorySource, ShortFlowSink};
+use std::alloc::{AllocError, Global};
 use std::test::Fail;
 
 #[test]
@@ -91,5 +92,81 @@ fn a_report_that_fails_leaves_the_output_whole(rt: HostRuntime) -> Result<(), Fa
         assert!(rt; sink.written() == whole.as_slice());
         assert!(rt; report.written() == line.as_bytes());
     }
+    Ok(())
+}
+
+// The size of the sound in the coded file of two frames.
+const SOUND_SIZE: &[u8; 8] = b"\0\0\0\0\0\0\x24\xee";
+
+// That file before the sizes of the form and of the sound are written.
+fn without_sizes(alloc: Global) -> Result<Vec<u8>, AllocError> {
+    let without_one = with_bytes(alloc, &two_frames(alloc)?, 4, &[0; 8])?;
+    with_bytes(alloc, &without_one, 114, &[0; 8])
+}
+
+#[test]
+fn a_read_that_fails_leaves_a_coded_file_without_sizes(rt: HostRuntime) -> Result<(), Fail> {
+    let alloc = rt.alloc();
+    let words = split(alloc, "encode a b --level 0")?;
+    let file = odd_plain(alloc)?;
+    let whole = two_frames(alloc)?;
+    let without_sizes = without_sizes(alloc)?;
+    let mut done = false;
+    for call in 0..200u64 {
+        let fails = [call];
+        let mut source = MemorySource::new(&file, &[], &fails);
+        let mut sink = MemorySink::new(alloc, 10_000, &[])?;
+        let mut report = MemorySink::new(alloc, 100, &[])?;
+        let status = dst_run(&rt, alloc, &words, &mut source, &mut sink, &mut report);
+        if status == 0 {
+            assert!(rt; sink.written() == whole.as_slice());
+            done = true;
+            break;
+        }
+        assert_eq!(rt; status, 2, "at call {call}");
+        assert!(rt; without_sizes.starts_with(sink.written()), "at call {call}");
+        assert!(rt;
+            report.written() == b"read fault\n".as_slice(),
+            "at call {call}"
+        );
+    }
+    assert!(rt; done);
+    Ok(())
+}
+
+#[test]
+fn a_write_that_fails_leaves_a_coded_file_that_is_not_finished(
+    rt: HostRuntime,
+) -> Result<(), Fail> {
+    let alloc = rt.alloc();
+    let words = split(alloc, "encode a b --level 0")?;
+    let file = odd_plain(alloc)?;
+    let whole = two_frames(alloc)?;
+    let without_sizes = without_sizes(alloc)?;
+    let sound_sized = with_bytes(alloc, &without_sizes, 114, SOUND_SIZE)?;
+    // What the calls leave that fail behind the last byte: those that write the two sizes and finish the sink.
+    let lasts = [&without_sizes, &sound_sized, &whole];
+    let mut seen = [false; 3];
+    for call in 0..200u64 {
+        let fails = [call];
+        let mut source = HonestSource::new(&file);
+        let mut sink = MemorySink::new(alloc, 10_000, &fails)?;
+        let mut report = MemorySink::new(alloc, 100, &[])?;
+        let status = dst_run(&rt, alloc, &words, &mut source, &mut sink, &mut report);
+        let left = sink.written();
+        if status == 0 {
+            assert!(rt; left == whole.as_slice());
+            break;
+        }
+        assert_eq!(rt; status, 3, "at call {call}");
+        let mut is_lawful = without_sizes.starts_with(left);
+        for (last, seen) in lasts.iter().zip(&mut seen) {
+            let is_last = left == last.as_slice();
+            is_lawful = is_lawful || is_last;
+            *seen = *seen || is_last;
+        }
+        assert!(rt; is_lawful, "at call {call}");
+    }
+    assert_eq!(rt; seen, [true; 3]);
     Ok(())
 }

@@ -141,3 +141,20 @@ pub(super) fn two_frames(alloc: Global) -> Result<Vec<u8>, AllocError> {
     )?;
     coded(alloc, 2, &[&first, &second], &behind)
 }
+
+/// The coded file of the plain file without sound and these bytes behind it: no frame, an empty index, and `KEPT`, which begins
+/// with `front`.
+pub(super) fn coded_silent(
+    alloc: Global,
+    front: &[u8],
+    tail: &[u8],
+) -> Result<Vec<u8>, AllocError> {
+    let kept = chunk(alloc, b"KEPT", &[front, PLAIN_CMPR, tail], 0)?;
+    let behind = joined(alloc, &[b"DSTI\0\0\0\0\0\0\0\0", &kept])?;
+    coded(alloc, 0, &[], &behind)
+}
+
+/// The front of `KEPT` in the coded file of the plain one without sound and so many bytes behind it.
+pub(super) const NOTHING_KEPT: &[u8; 14] = b"\x02\0\0\0\0\0\0\0\0\0\0\0\0\0";
+
+pub(super) const THREE_KEPT: &[u8; 14] = b"\x02\0\0\0\0\0\0\0\0\0\0\0\0\x03";

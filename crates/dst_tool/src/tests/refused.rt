@@ -140,7 +140,8 @@ fn other_words_are_not_understood_and_touch_nothing(rt: HostRuntime) -> Result<(
         "decode a",
         "decode a b c",
         "decode - b",
-        "decode a b --workers 17",
+        "encode a b --workers 17",
+        "frame a b 01",
         "undo a b",
     ];
     for text in &cases {

@@ -1,7 +1,7 @@
 // Files whose sound comes back.
 use super::files::{
-    PLAIN_CMPR, SILENT, chunk, coded, frame, joined, odd_plain, one_frame, plain, two_frames,
-    with_bytes,
+    NOTHING_KEPT, SILENT, THREE_KEPT, coded, coded_silent, frame, joined, odd_plain, one_frame,
+    plain, two_frames, with_bytes,
 };
 use super::{decode_words, gives};
 use crate::dst_run;
@@ -122,15 +122,8 @@ fn what_a_plain_file_has_besides_its_sound_comes_back(rt: HostRuntime) -> Result
     // The front of `KEPT`, the bytes behind its `CMPR`, the length of the coded file, and what comes of it.
     let cases: [(&[u8], &[u8], usize, u8, &[u8], &str); 4] = [
         (b"\x01\0\0\0\0\0\0\0\0", &[], 206, 0, SILENT, back),
-        (b"\x02\0\0\0\0\0\0\0\0\0\0\0\0\0", &[], 210, 0, SILENT, back),
-        (
-            b"\x02\0\0\0\0\0\0\0\0\0\0\0\0\x03",
-            &[1, 2, 3],
-            214,
-            0,
-            &with_tail,
-            back,
-        ),
+        (NOTHING_KEPT, &[], 210, 0, SILENT, back),
+        (THREE_KEPT, &[1, 2, 3], 214, 0, &with_tail, back),
         (
             b"\x02\0\0\0\0\0\0\0\0\x01\0\0\0\x03",
             &[1, 2, 3],
@@ -141,9 +134,7 @@ fn what_a_plain_file_has_besides_its_sound_comes_back(rt: HostRuntime) -> Result
         ),
     ];
     for (front, tail, length, status, written, line) in &cases {
-        let kept = chunk(alloc, b"KEPT", &[front, PLAIN_CMPR, tail], 0)?;
-        let behind = joined(alloc, &[b"DSTI\0\0\0\0\0\0\0\0", &kept])?;
-        let file = coded(alloc, 0, &[], &behind)?;
+        let file = coded_silent(alloc, front, tail)?;
         assert_eq!(rt; file.len(), *length);
         gives(&rt, alloc, &file, *status, written, line)?;
     }

@@ -18,7 +18,8 @@ loop-place-preserved c =
 
 pub returns-in_default-clause-untiled : goal.returns-in_default-clause-untiled
 returns-in_default-clause-untiled c =
-    let fault = c.loop-place.invariant.same_fault ∙ ap (λ f. f.fault) (all_cuts c.args.bytes.now c.loop-place.place c.loop-place-test.true c.in_default.ensures.passes) in
+    let fault = c.loop-place.invariant.same_fault
+    ∙ ap (λ f. f.fault) (all_cuts c.args.bytes.now c.loop-place.place c.loop-place-test.true c.in_default.ensures.passes) in
     λ chunks t. overrun_is_untiled c.args.bytes.now c.loop-place.place chunks fault t
 
 pub returns-in_default-clause-cut : goal.returns-in_default-clause-cut
@@ -33,7 +34,11 @@ returns-in_default-clause-overrun c =
 
 pub invariant_of-result : goal.invariant_of-result
 invariant_of-result c =
-    record { within = omega arith; whole = c.loop-place.invariant.same_fault ∙ ap (λ f. f.fault) (all_stops c.args.bytes.now c.loop-place.place c.loop-place-test.false) }
+    record {
+      within = omega arith;
+      whole = c.loop-place.invariant.same_fault
+          ∙ ap (λ f. f.fault) (all_stops c.args.bytes.now c.loop-place.place c.loop-place-test.false);
+    }
 
 pub returns-clause-chunks : goal.returns-clause-chunks
 returns-clause-chunks c =

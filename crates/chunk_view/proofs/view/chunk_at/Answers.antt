@@ -30,7 +30,8 @@ returns-clause-view c =
     (elim c.match-body-rem2.branch [
       | in-0-default w ↦
           ap pad_bytes w.pad-is
-          ∙ no_pad_here c.args.bytes.now c.args.place c.read_u64-size.result (ap (λ (n : ℕ). n % 2) (sym c.split_at.ensures.front_len) ∙ w.in-0-default.is-0) size
+          ∙ no_pad_here c.args.bytes.now c.args.place c.read_u64-size.result
+          (ap (λ (n : ℕ). n % 2) (sym c.split_at.ensures.front_len) ∙ w.in-0-default.is-0) size
       | in_default-Some w ↦
           ap pad_bytes w.pad-is
           ∙ pad_here c.args.bytes.now c.args.place c.read_u64-size.result c.split_at.result.1.now w.in_default-Some.byte.now c.split_at.ensures.back

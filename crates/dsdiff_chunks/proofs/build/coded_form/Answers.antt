@@ -39,7 +39,8 @@ pub returns-in-Err-clause-stops : goal.returns-in-Err-clause-stops
 returns-in-Err-clause-stops g c =
     let p = c.args.parts in
     let parts = c.requires.parts in
-    Stops-in _ form_fault (g.S.Source.bytes c.args.source.now) (g.S.Source.bytes c.args.source.now) (g.S.Source.faults c.args.source.now) (g.S.Source.faults c.args.source.now) _
+    Stops-in _ form_fault (g.S.Source.bytes c.args.source.now) (g.S.Source.bytes c.args.source.now) (g.S.Source.faults c.args.source.now)
+    (g.S.Source.faults c.args.source.now) _
     c.in-Err.fault refl (omega arith)
     (λ xs f told e.
     let has = parts.told xs told in
@@ -54,13 +55,15 @@ returns-in-Err-read_any_origin-clause-stops g c =
     let shape = p.prop.fields.channels in
     let frte = c.in-Ok.ensures in
     let slice = ap (λ (hs : List ChunkHead). named "KEPT" (map head_seen hs)) c.as_slice.ensures.value in
-    Stops-in _ form_fault (g.S.Source.bytes c.args.source.now) (g.S.Source.bytes c.read_frte.new.source) (g.S.Source.faults c.args.source.now) (g.S.Source.faults c.read_frte.new.source) _
+    Stops-in _ form_fault (g.S.Source.bytes c.args.source.now) (g.S.Source.bytes c.read_frte.new.source) (g.S.Source.faults c.args.source.now)
+    (g.S.Source.faults c.read_frte.new.source) _
     c.in-Err-read_any_origin.fault frte.source.same_bytes frte.source.later
     (λ xs f told e.
     let has = parts.told xs told in
     let kind_is = ap (λ (h : Head). if h.id is "DSD " then plain else coded) has.sound ∙ sym parts.sound.kind_is ∙ ap kind_seen c.requires.kind in
     has.left ∙ ap (λ k. kind_fault k xs) kind_is
-    ∙ coded_past_sound xs p.prop.body.items (heads_of p) (head_seen p.sound.head) shape c.in-Ok.frames has.chunks has.body has.sound parts.shape (frte.count xs told) (frte.accepted xs told)
+    ∙ coded_past_sound xs p.prop.body.items (heads_of p) (head_seen p.sound.head) shape c.in-Ok.frames has.chunks has.body has.sound parts.shape
+    (frte.count xs told) (frte.accepted xs told)
     ∙ ap (λ hs. KeptBad when are_bad_origins shape.channels (sound_bytes shape) c.in-Ok.frames xs hs) (sym slice)
     ∙ e)
     c.in-Err-read_any_origin.ensures.stops
@@ -77,7 +80,8 @@ returns-clause-form g c xs told =
     let slice = ap (λ (hs : List ChunkHead). named "KEPT" (map head_seen hs)) c.as_slice.ensures.value in
     let kind_is = ap (λ (h : Head). if h.id is "DSD " then plain else coded) has.sound ∙ sym parts.sound.kind_is ∙ ap kind_seen c.requires.kind in
     let none = has.left ∙ ap (λ k. kind_fault k xs) kind_is
-    ∙ coded_past_sound xs p.prop.body.items (heads_of p) (head_seen p.sound.head) shape c.in-Ok.frames has.chunks has.body has.sound parts.shape (frte.count xs told) (frte.accepted xs told)
+    ∙ coded_past_sound xs p.prop.body.items (heads_of p) (head_seen p.sound.head) shape c.in-Ok.frames has.chunks has.body has.sound parts.shape
+    (frte.count xs told) (frte.accepted xs told)
     ∙ ap (λ hs. KeptBad when are_bad_origins shape.channels (sound_bytes shape) c.in-Ok.frames xs hs) (sym slice)
     ∙ ap (λ b. KeptBad when b) (kept.accepted xs there) in
     form_is_accepted xs none
@@ -118,7 +122,8 @@ invariant_of-result g c =
         frames = c.in-Ok.ensures.few;
         of_kind = record {
           least = c.in-Ok.ensures.least;
-          origin = subst (λ (n : ℕ). IsOriginIfAny shape.channels n c.in-Ok.frames (option_map origin_seen c.in-Ok-read_any_origin.origin)) (sym (ap sound_bytes back)) c.in-Ok-read_any_origin.ensures.lawful;
+          origin = subst (λ (n : ℕ). IsOriginIfAny shape.channels n c.in-Ok.frames (option_map origin_seen c.in-Ok-read_any_origin.origin))
+              (sym (ap sound_bytes back)) c.in-Ok-read_any_origin.ensures.lawful;
           pad = refl;
           behind = refl;
         };

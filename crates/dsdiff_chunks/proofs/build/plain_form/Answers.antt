@@ -16,7 +16,8 @@ use Rattle.dsdiff_chunks.specs.Seen.{head_seen}
 use Rattle.dsdiff_chunks.proofs.Chain.{form_is_accepted}
 use Rattle.dsdiff_chunks.proofs.Only.{passed_is_there}
 use Rattle.dsdiff_chunks.proofs.Stopping.{Stops-in}
-use Rattle.dsdiff_chunks.proofs.Whole.{same_form, multiple_back, shape_back, channels_of, rules_at_0, is_plain_id, next_fits, plain_by_parts, plain_frames, behind_by_parts}
+use Rattle.dsdiff_chunks.proofs.Whole.{same_form, multiple_back, shape_back, channels_of, rules_at_0, is_plain_id, next_fits, plain_by_parts, plain_frames}
+use Rattle.dsdiff_chunks.proofs.Whole.{behind_by_parts}
 use Rattle.dsdiff_chunks.proofs.build.plain_form.Goals as goal
 
 pub read_plain-requires-clause-padded : goal.read_plain-requires-clause-padded
@@ -32,7 +33,8 @@ pub returns-in-Err-clause-stops : goal.returns-in-Err-clause-stops
 returns-in-Err-clause-stops g c =
     let p = c.args.parts in
     let parts = c.requires.parts in
-    Stops-in _ form_fault (g.S.Source.bytes c.args.source.now) (g.S.Source.bytes c.args.source.now) (g.S.Source.faults c.args.source.now) (g.S.Source.faults c.args.source.now) _
+    Stops-in _ form_fault (g.S.Source.bytes c.args.source.now) (g.S.Source.bytes c.args.source.now) (g.S.Source.faults c.args.source.now)
+    (g.S.Source.faults c.args.source.now) _
     c.in-Err.fault refl (omega arith)
     (λ xs f told e.
     let has = parts.told xs told in

@@ -12,13 +12,15 @@ use Rattle.dsdiff_chunks.proofs.build.read_parts.Goals as goal
 
 pub returns-in-Err-clause-stops : goal.returns-in-Err-clause-stops
 returns-in-Err-clause-stops g c =
-    Stops-in opening_fault form_fault (g.S.Source.bytes c.args.source.now) (g.S.Source.bytes c.args.source.now) (g.S.Source.faults c.args.source.now) (g.S.Source.faults c.args.source.now) _
+    Stops-in opening_fault form_fault (g.S.Source.bytes c.args.source.now) (g.S.Source.bytes c.args.source.now) (g.S.Source.faults c.args.source.now)
+    (g.S.Source.faults c.args.source.now) _
     c.in-Err.fault refl (omega arith) (λ xs f told e. at_opening xs f e) c.in-Err.ensures.stops
 
 pub returns-in-Err-check_version-clause-stops : goal.returns-in-Err-check_version-clause-stops
 returns-in-Err-check_version-clause-stops g c =
     let heads = map head_seen c.as_slice-heads.result.now in
-    Stops-in _ form_fault (g.S.Source.bytes c.args.source.now) (g.S.Source.bytes c.read_chunks.new.source) (g.S.Source.faults c.args.source.now) (g.S.Source.faults c.read_chunks.new.source) _
+    Stops-in _ form_fault (g.S.Source.bytes c.args.source.now) (g.S.Source.bytes c.read_chunks.new.source) (g.S.Source.faults c.args.source.now)
+    (g.S.Source.faults c.read_chunks.new.source) _
     c.in-Err-check_version.fault c.in-Ok.ensures.bytes c.in-Ok.ensures.later
     (λ xs f told e.
     let opened = c.in-Ok.ensures.chunks.told xs (c.in-Ok.ensures.bytes ∙ told) in
@@ -38,7 +40,8 @@ pub returns-in-Err-read_body_of_prop-clause-stops : goal.returns-in-Err-read_bod
 returns-in-Err-read_body_of_prop-clause-stops g c =
     let heads = map head_seen c.as_slice-heads.result.now in
     let version = c.in-Ok-check_version.ensures.source in
-    Stops-in _ form_fault (g.S.Source.bytes c.args.source.now) (g.S.Source.bytes c.check_version.new.source) (g.S.Source.faults c.args.source.now) (g.S.Source.faults c.check_version.new.source) _
+    Stops-in _ form_fault (g.S.Source.bytes c.args.source.now) (g.S.Source.bytes c.check_version.new.source) (g.S.Source.faults c.args.source.now)
+    (g.S.Source.faults c.check_version.new.source) _
     c.in-Err-read_body_of_prop.fault (version.same_bytes ∙ c.in-Ok.ensures.bytes) (omega (arith, version.later, c.in-Ok.ensures.later))
     (λ xs f told e.
     let there = c.in-Ok.ensures.bytes ∙ told in
@@ -67,7 +70,8 @@ returns-in-Err-find_sound-clause-stops g c xs told =
     let version = c.in-Ok-check_version.ensures.accepted xs there in
     let prop = c.in-Ok-read_body_of_prop.ensures in
     let body = prop.read xs (c.in-Ok-check_version.ensures.source.same_bytes ∙ there) in
-    let left = past_prop xs heads head opened.rules top version found c.in-Ok-find_prop.ensures.most (sym (ap (local_fault (head.place + 12)) body) ∙ prop.rules) in
+    let left = past_prop xs heads head opened.rules top version found c.in-Ok-find_prop.ensures.most
+    (sym (ap (local_fault (head.place + 12)) body) ∙ prop.rules) in
     at_sound xs heads head.place _ c.in-Err-find_sound.fault left top
     (ap (λ h. h.place) (the_prop xs heads head top found))
     (ap compression (the_body xs heads head top found ∙ sym body) ∙ sym prop.type_is)
@@ -99,14 +103,16 @@ returns-clause-parts g c =
       rules = prop.rules;
       shape = prop.shape;
       sound = subst
-          (λ (hs : List ChunkHead). IsTheSound (map head_seen hs) head.place c.in-Ok-read_body_of_prop.prop.fields.compression (kind_seen c.in-Ok-find_sound.sound.kind) (head_seen c.in-Ok-find_sound.sound.head))
+          (λ (hs : List ChunkHead). IsTheSound (map head_seen hs) head.place c.in-Ok-read_body_of_prop.prop.fields.compression
+          (kind_seen c.in-Ok-find_sound.sound.kind) (head_seen c.in-Ok-find_sound.sound.head))
           slice sound.sound;
       told = λ xs told.
           let there = sym (prop.source.same_bytes ∙ version.source.same_bytes) ∙ told in
           let opened = chunks.told xs there in
           let top = opened.chunks ∙ sym (ap (map head_seen) slice) in
           let body = prop.read xs (version.source.same_bytes ∙ there) in
-          let left = past_prop xs heads head opened.rules top (version.accepted xs there) found c.in-Ok-find_prop.ensures.most (sym (ap (local_fault (head.place + 12)) body) ∙ prop.rules) in
+          let left = past_prop xs heads head opened.rules top (version.accepted xs there) found c.in-Ok-find_prop.ensures.most
+          (sym (ap (local_fault (head.place + 12)) body) ∙ prop.rules) in
           record {
             left = past_sound xs heads head.place c.in-Ok-read_body_of_prop.prop.fields.compression left top
                 (ap (λ h. h.place) (the_prop xs heads head top found))

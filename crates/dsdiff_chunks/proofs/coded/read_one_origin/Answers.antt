@@ -13,7 +13,8 @@ returns-then-head-gt131086-clause-stops g c xs told =
     let long = g.met.S.Source.size_is_length _ xs _ told c.requires.known.1 in
     let size = body_is_long xs (head_seen c.args.head) c.requires.known.0 long c.requires.known.2 in
     ap (λ b. KeptBad when b)
-    (too_long_is_bad c.args.channels.channels (sound_bytes c.args.channels) c.args.frame_count (body_of xs (head_seen c.args.head)) (omega (arith, c.if-head-gt131086.true)))
+    (too_long_is_bad c.args.channels.channels (sound_bytes c.args.channels) c.args.frame_count (body_of xs (head_seen c.args.head))
+    (omega (arith, c.if-head-gt131086.true)))
 
 pub returns-in-Err-clause-stops : goal.returns-in-Err-clause-stops
 returns-in-Err-clause-stops g c = c.in-Err.ensures.stops _
@@ -33,5 +34,6 @@ pub returns-in-Ok-None-clause-stops : goal.returns-in-Ok-None-clause-stops
 returns-in-Ok-None-clause-stops g c xs told =
     let refused = rw c.in-Ok-None.field-0-is at c.in-Ok-None.ensures.refused in
     ap (λ b. KeptBad when b)
-    (sym (ap (is_bad_origin c.args.channels.channels (sound_bytes c.args.channels) c.args.frame_count) (c.as_slice.ensures.value ∙ c.in-Ok.ensures.read xs told))
+    (sym (ap (is_bad_origin c.args.channels.channels (sound_bytes c.args.channels) c.args.frame_count)
+    (c.as_slice.ensures.value ∙ c.in-Ok.ensures.read xs told))
     ∙ refused)

@@ -22,5 +22,7 @@ pub returns-clause-stops : goal.returns-clause-stops
 returns-clause-stops g c =
     let some = eqb-false (length c.args.heads.now) 0 (sym c.if-is_empty.ensures) in
     subst
-    (λ (h : Head). IfErr c.check_first.result (Stops (λ xs. first_fault xs h) (g.S.Source.bytes c.args.source.now) (g.S.Source.faults c.args.source.now) (g.S.Source.faults c.check_first.new.source)))
+    (λ (h : Head). IfErr c.check_first.result
+    (Stops (λ xs. first_fault xs h) (g.S.Source.bytes c.args.source.now) (g.S.Source.faults c.args.source.now)
+    (g.S.Source.faults c.check_first.new.source)))
     (sym (the_first_seen c.args.heads.now _ (omega (arith, some)))) c.check_first.ensures.stops

@@ -20,7 +20,8 @@ returns-in-Err-append-clause-cut_short g c xs told =
     let count = c.in-Ok.ensures.count c.requires.known.0 (c.loop-place.invariant.known ∙ c.requires.known.1) in
     let within = count.within in
     let part = length-take c.min-want.result c.loop-place.buffer in
-    let read = HoldsFrom-later _ xs _ c.args.from c.loop-place.place c.in-Ok.count c.loop-place.invariant.from_place (c.loop-place.invariant.bytes ∙ told) c.in-Ok.ensures.read in
+    let read = HoldsFrom-later _ xs _ c.args.from c.loop-place.place c.in-Ok.count c.loop-place.invariant.from_place
+    (c.loop-place.invariant.bytes ∙ told) c.in-Ok.ensures.read in
     cut_later _ _ _ _ (c.loop-place.place - c.args.from) c.in-Ok.count (c.args.to - c.args.from)
     (omega arith)
     (omega (arith, length-drop c.args.from xs))
@@ -42,14 +43,16 @@ loop-place-preserved g c =
       bytes = search rules;
       known = search rules;
       copied = λ xs told.
-          let read = HoldsFrom-later _ xs _ c.args.from c.loop-place.place c.in-Ok.count c.loop-place.invariant.from_place (c.loop-place.invariant.bytes ∙ told) c.in-Ok.ensures.read in
+          let read = HoldsFrom-later _ xs _ c.args.from c.loop-place.place c.in-Ok.count c.loop-place.invariant.from_place
+          (c.loop-place.invariant.bytes ∙ told) c.in-Ok.ensures.read in
           let e : c.loop-place.place + c.in-Ok.count - c.args.from ≡ c.loop-place.place - c.args.from + c.in-Ok.count = omega arith in
           c.in-Ok-append.ensures.written ∙ rw (read, c.loop-place.invariant.copied xs told, e) (and_then-more _ _ _ _);
       sure = λ room is fits.
           let was = c.loop-place.invariant.sure room is fits in
           let left : length (take c.in-Ok.count c.read_at.new.out) ≤ room - (c.loop-place.place - c.args.from) = omega arith in
           let low = c.in-Ok-append.ensures.sure.lowered (room - (c.loop-place.place - c.args.from)) was left in
-          let e : room - (c.loop-place.place - c.args.from) - length (take c.in-Ok.count c.read_at.new.out) ≡ room - (c.loop-place.place + c.in-Ok.count - c.args.from) = omega arith in
+          let e : room - (c.loop-place.place - c.args.from) - length (take c.in-Ok.count c.read_at.new.out) ≡ room -
+          (c.loop-place.place + c.in-Ok.count - c.args.from) = omega arith in
           low ∙ ap Some e;
       appended = omega arith;
       given = omega (arith, c.in-Ok.ensures.given);

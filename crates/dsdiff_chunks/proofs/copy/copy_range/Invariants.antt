@@ -8,7 +8,8 @@ invariant-loop-place g l = record {
   place_to : l.place ≤ l.to;
   bytes : g.S.Source.bytes l.source ≡ g.S.Source.bytes l.initial.source;
   known : g.S.Source.known l.source ≡ g.S.Source.known l.initial.source;
-  copied : (xs : List ℕ) → g.S.Source.bytes l.initial.source ≡ Some xs → g.K.Sink.written l.sink ≡ and_then (g.K.Sink.written l.initial.sink) (take (l.place - l.from) (drop l.from xs));
+  copied : (xs : List ℕ) → g.S.Source.bytes l.initial.source ≡ Some xs →
+      g.K.Sink.written l.sink ≡ and_then (g.K.Sink.written l.initial.sink) (take (l.place - l.from) (drop l.from xs));
   sure : (room : ℕ) → g.K.Sink.room l.initial.sink ≡ Some room → l.to - l.from ≤ room → g.K.Sink.room l.sink ≡ Some (room - (l.place - l.from));
   appended : g.K.Sink.appended l.sink ≡ g.K.Sink.appended l.initial.sink + (l.place - l.from);
   given : g.S.Source.given l.source ≤ g.S.Source.given l.initial.source + (l.place - l.from);

@@ -10,7 +10,8 @@ returns-clause-lawful c =
     let cmpr : c.from_vec-cmpr.result ≡ c.in-Some.parts.cmpr.now = c.from_vec-cmpr.ensures ∙ c.in_ok-from_slice.ensures.items in
     let kept : c.from_vec-kept.result ≡ c.in-Some.parts.kept.now = c.from_vec-kept.ensures ∙ c.in_ok-from_slice-2.ensures.items in
     let plain = is_plain_cmpr c.in-Some.parts.cmpr.now c.if-not-is_plain_cmpr.ensures in
-    let good : is_bad_sound c.args.channels.channels (sound_bytes c.args.channels) c.args.frame_count c.in-Some.parts.sound ≡ false = c.if-not-is_sound_of.ensures in
+    let good : is_bad_sound c.args.channels.channels (sound_bytes c.args.channels) c.args.frame_count c.in-Some.parts.sound ≡ false =
+    c.if-not-is_sound_of.ensures in
     record {
       cmpr = rw cmpr plain.one;
       cmpr_long = rw cmpr plain.long;

@@ -17,7 +17,9 @@ returns-in-Err-read_pad-clause-stops g c = c.in-Err-read_pad.ensures.stops _
 pub returns-in-Err-read_octets-clause-stops : goal.returns-in-Err-read_octets-clause-stops
 returns-in-Err-read_octets-clause-stops g c =
     let chunks = c.args.chunks.now in
-    let rules = λ (xs : List ℕ). plain_parts_fault chunks.size chunks.end (map head_seen chunks.heads.items) c.args.prop_size c.args.sound.size c.args.channels.channels (sound_bytes c.args.channels) in
-    Stops-in rules rules (g.S.Source.bytes c.args.source.now) (g.S.Source.bytes c.read_pad.new.source) (g.S.Source.faults c.args.source.now) (g.S.Source.faults c.read_pad.new.source) _
+    let rules = λ (xs : List ℕ). plain_parts_fault chunks.size chunks.end
+    (map head_seen chunks.heads.items) c.args.prop_size c.args.sound.size c.args.channels.channels (sound_bytes c.args.channels) in
+    Stops-in rules rules (g.S.Source.bytes c.args.source.now) (g.S.Source.bytes c.read_pad.new.source) (g.S.Source.faults c.args.source.now)
+    (g.S.Source.faults c.read_pad.new.source) _
     c.in-Err-read_octets.fault c.in-Ok-read_pad.ensures.source.same_bytes c.in-Ok-read_pad.ensures.source.later (λ xs f told e. e)
     (c.in-Err-read_octets.ensures.stops rules)

@@ -32,9 +32,11 @@ loop-place-preserved g c =
       known = search rules;
       read = λ xs told.
           let place : c.args.from ≤ c.args.from + c.loop-place.place = omega arith in
-          let more = HoldsFrom-later _ xs _ c.args.from (c.args.from + c.loop-place.place) c.in_ok-count.count place (c.loop-place.invariant.bytes ∙ told) c.in_ok-count.ensures.read in
+          let more = HoldsFrom-later _ xs _ c.args.from (c.args.from + c.loop-place.place) c.in_ok-count.count place
+          (c.loop-place.invariant.bytes ∙ told) c.in_ok-count.ensures.read in
           let behind : c.args.from + c.loop-place.place - c.args.from ≡ c.loop-place.place = omega arith in
-          front_more c.loop-place.out c.read_at.new.out (drop c.args.from xs) c.loop-place.place c.in_ok-count.count (length c.loop-place.out - c.loop-place.place)
+          front_more c.loop-place.out c.read_at.new.out (drop c.args.from xs) c.loop-place.place c.in_ok-count.count
+          (length c.loop-place.out - c.loop-place.place)
           (omega arith)
           (omega (arith, c.read_at.auto.out))
           (c.loop-place.invariant.read xs told)

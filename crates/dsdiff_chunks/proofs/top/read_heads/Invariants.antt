@@ -18,7 +18,9 @@ invariant-loop-place g l = record {
   before : l.place ≤ l.end + 1;
   tiled : (more : List Head) → TileTo l.end l.place more → TileTo l.end 16 (map head_seen l.heads.items ++ more);
   whole : All (λ h. fits may_lack_pad l.end h ≡ true) (map head_seen l.heads.items);
-  found : (xs : List ℕ) → g.S.Source.bytes l.initial.source ≡ Some xs → chunks_from may_lack_pad xs l.end 1024 16 ≡ in_front (map head_seen l.heads.items) (chunks_from may_lack_pad xs l.end (1024 - length l.heads.items) l.place);
+  found : (xs : List ℕ) → g.S.Source.bytes l.initial.source ≡ Some xs →
+      chunks_from may_lack_pad xs l.end 1024 16 ≡ in_front (map head_seen l.heads.items)
+      (chunks_from may_lack_pad xs l.end (1024 - length l.heads.items) l.place);
 }
 
 abbrev pub decreases-loop-place : goal.decreases-loop-place

@@ -5,7 +5,8 @@ use Rattle.std.proofs.lemmas.List.Folds.{length-flat_map-take}
 use Rattle.std.proofs.lemmas.Result.{MatchResult-from_err}
 use Rattle.dst_streams.specs.Told.{and_then}
 use Rattle.dst_streams.proofs.Told.{and_then-twice}
-use Rattle.dsdiff_chunks.proofs.Pieces.{pieces_at, piece_more, cut_piece, room_more, room_taken}
+use Rattle.dsdiff_chunks.proofs.Pieces.{pieces_at, cut_piece, room_more, room_taken}
+use Rattle.dst_spec.proofs.Lists.{flat_map-next}
 use Rattle.dsdiff_chunks.proofs.write.append_all.Goals as goal
 
 abbrev none : Bor (List ℕ)
@@ -18,7 +19,8 @@ pub returns-in_err-append-clause-written : goal.returns-in_err-append-clause-wri
 returns-in_err-append-clause-written g c =
     let i = c.loop-piece.piece-index in
     let pieces = c.args.pieces.now in
-    let cut = cut_piece _ _ _ (flat_map bytes_of (take i pieces)) (get_or pieces i none).now (flat_map bytes_of (drop (i + 1) pieces)) (flat_map bytes_of pieces)
+    let cut = cut_piece _ _ _ (flat_map bytes_of (take i pieces)) (get_or pieces i none).now (flat_map bytes_of (drop (i + 1) pieces))
+    (flat_map bytes_of pieces)
     (pieces_at bytes_of pieces i none c.loop-piece-test.true)
     c.loop-piece.invariant.written
     c.in_err-append.ensures.written in
@@ -29,7 +31,8 @@ returns-in_err-append-clause-sure g c =
     let i = c.loop-piece.piece-index in
     let pieces = c.args.pieces.now in
     let within = length-flat_map-take bytes_of pieces i none c.loop-piece-test.true in
-    let never = room_taken _ _ _ (length (flat_map bytes_of (take i pieces))) (length (get_or pieces i none).now) (length (flat_map bytes_of pieces)) _ within c.loop-piece.invariant.sure c.in_err-append.ensures.sure in
+    let never = room_taken _ _ _ (length (flat_map bytes_of (take i pieces))) (length (get_or pieces i none).now)
+    (length (flat_map bytes_of pieces)) _ within c.loop-piece.invariant.sure c.in_err-append.ensures.sure in
     record {
       taken = λ room is fits. absurd (let no : false ≡ true = never room is fits in cc);
       lowered = λ room is fits. absurd (let no : false ≡ true = never room is fits in cc);
@@ -40,7 +43,7 @@ loop-piece-preserved g c =
     let i = c.loop-piece.piece-index in
     let pieces = c.args.pieces.now in
     let piece = (get_or pieces i none).now in
-    let more = piece_more bytes_of pieces i none c.loop-piece-test.true in
+    let more = flat_map-next bytes_of pieces i none c.loop-piece-test.true in
     let long : length (flat_map bytes_of (take (i + 1) pieces)) ≡ length (flat_map bytes_of (take i pieces)) + length piece =
     ap length more ∙ length-append (flat_map bytes_of (take i pieces)) piece in
     record {

@@ -8,7 +8,13 @@ use Rattle.dsdiff_chunks.proofs.Exchange.{pieces_are}
 use Rattle.dsdiff_chunks.proofs.write.prop_length.Goals as goal
 
 length-pieces : (head front cmpr back : List ℕ) → length (head ++ (front ++ (cmpr ++ (back ++ [])))) ≡ length head + length front + length cmpr + length back
-length-pieces head front cmpr back = omega (arith, length-append head (front ++ (cmpr ++ (back ++ []))), length-append front (cmpr ++ (back ++ [])), length-append cmpr (back ++ []), length-append {A = ℕ} back [])
+length-pieces head front cmpr back = omega (
+  arith,
+  length-append head (front ++ (cmpr ++ (back ++ []))),
+  length-append front (cmpr ++ (back ++ [])),
+  length-append cmpr (back ++ []),
+  length-append {A = ℕ} back [],
+)
 
 pub returns-clause-length : goal.returns-clause-length
 returns-clause-length c =
@@ -20,5 +26,15 @@ returns-clause-length c =
     let head = codes "PROP" ++ big_bytes 8 size in
     let front = take place prop in
     let back = take (length prop - end) (drop end prop) in
-    let whole = pieces_are prop cmpr place end head c.requires.prop c.requires.cmpr c.place_of_cmpr-place.ensures.place c.place_of_cmpr-place.ensures.end refl in
-    omega (arith, ap length whole, length-pieces head front cmpr back, length-append (codes "PROP") (big_bytes 8 size), length-bytes_high_first 8 size, length-take place prop, length-take (length prop - end) (drop end prop), length-drop end prop)
+    let whole = pieces_are prop cmpr place end head c.requires.prop c.requires.cmpr c.place_of_cmpr-place.ensures.place c.place_of_cmpr-place.ensures.end
+    refl in
+    omega (
+      arith,
+      ap length whole,
+      length-pieces head front cmpr back,
+      length-append (codes "PROP") (big_bytes 8 size),
+      length-bytes_high_first 8 size,
+      length-take place prop,
+      length-take (length prop - end) (drop end prop),
+      length-drop end prop,
+    )

@@ -7,4 +7,5 @@ use Rattle.dsdiff_chunks.proofs.write_coded.write_frte.Goals as goal
 pub returns-clause-written : goal.returns-clause-written
 returns-clause-written g c =
     let e = frte_is c.args.frames c.head_bytes-head.result c.to_be_bytes.result c.head_bytes-head.ensures c.to_be_bytes.ensures in
-    subst (λ w. MatchResult c.append_all.result (λ _. g.K.Sink.written c.append_all.new.sink ≡ and_then (g.K.Sink.written c.args.sink.now) w) (λ _. IsCutShort (g.K.Sink.written c.args.sink.now) w (g.K.Sink.written c.append_all.new.sink))) e c.append_all.ensures.written
+    subst (λ w. MatchResult c.append_all.result (λ _. g.K.Sink.written c.append_all.new.sink ≡ and_then (g.K.Sink.written c.args.sink.now) w)
+    (λ _. IsCutShort (g.K.Sink.written c.args.sink.now) w (g.K.Sink.written c.append_all.new.sink))) e c.append_all.ensures.written

@@ -6,5 +6,7 @@ use Rattle.dsdiff_chunks.proofs.write_coded.write_origin.Goals as goal
 
 pub returns-clause-written : goal.returns-clause-written
 returns-clause-written g c =
-    let e = origin_is c.args.sound c.args.pad c.args.cmpr.now c.args.kept.now c.head_bytes-head.result c.origin_bytes-fields.result c.head_bytes-head.ensures c.origin_bytes-fields.ensures in
-    subst (λ w. MatchResult c.append_all.result (λ _. g.K.Sink.written c.append_all.new.sink ≡ and_then (g.K.Sink.written c.args.sink.now) w) (λ _. IsCutShort (g.K.Sink.written c.args.sink.now) w (g.K.Sink.written c.append_all.new.sink))) e c.append_all.ensures.written
+    let e = origin_is c.args.sound c.args.pad c.args.cmpr.now c.args.kept.now c.head_bytes-head.result c.origin_bytes-fields.result c.head_bytes-head.ensures
+    c.origin_bytes-fields.ensures in
+    subst (λ w. MatchResult c.append_all.result (λ _. g.K.Sink.written c.append_all.new.sink ≡ and_then (g.K.Sink.written c.args.sink.now) w)
+    (λ _. IsCutShort (g.K.Sink.written c.args.sink.now) w (g.K.Sink.written c.append_all.new.sink))) e c.append_all.ensures.written

@@ -12,7 +12,8 @@ use Rattle.dst_commands.proofs.PassedOn.{opening_by, plain_cmpr_is_one}
 use Rattle.dst_commands.proofs.around.write_front.Goals as goal
 
 pub pass_chunks-requires-clause-cmpr : goal.pass_chunks-requires-clause-cmpr
-pass_chunks-requires-clause-cmpr g c = plain_cmpr_is_one (coded_seen c.args.form.now) c.args.form.now.lawful refl c.cmpr_of-cmpr.result.now c.cmpr_of-cmpr.ensures
+pass_chunks-requires-clause-cmpr g c = plain_cmpr_is_one
+    (coded_seen c.args.form.now) c.args.form.now.lawful refl c.cmpr_of-cmpr.result.now c.cmpr_of-cmpr.ensures
 
 pub returns-in_default-clause-written : goal.returns-in_default-clause-written
 returns-in_default-clause-written g c file told =
@@ -22,7 +23,8 @@ returns-in_default-clause-written g c file told =
     stops_first (CopyFault.Write ≡ CopyFault.Write) (opening c.args.sound file form ++ concat (decoded_before file form)) (sound_opening c.args.sound) _ _ _
     (stops_first (CopyFault.Write ≡ CopyFault.Write) (opening c.args.sound file form) (concat (decoded_before file form)) _ _ _
     (stops_for (Unit {0}) (CopyFault.Write ≡ CopyFault.Write) (opening c.args.sound file form) _ _ _ (λ e. tt {0})
-    (stops_same (Unit {0}) _ (opening c.args.sound file form) _ _ _ (opening_by c.form_size.result c.args.sound file form (c.form_size.ensures file fits)) c.in_default.ensures.written)))
+    (stops_same (Unit {0}) _ (opening c.args.sound file form) _ _ _
+    (opening_by c.form_size.result c.args.sound file form (c.form_size.ensures file fits)) c.in_default.ensures.written)))
 
 pub returns-in-Err-clause-written : goal.returns-in-Err-clause-written
 returns-in-Err-clause-written g c file told =
@@ -31,8 +33,10 @@ returns-in-Err-clause-written g c file told =
     let fits : c.args.form.now.end ≤ length file = omega (arith, known, c.requires.size.2) in
     stops_first (c.in-Err.fault ≡ CopyFault.Write) (opening c.args.sound file form ++ concat (decoded_before file form)) (sound_opening c.args.sound) _ _ _
     (stops_then (c.in-Err.fault ≡ CopyFault.Write) (opening c.args.sound file form) (concat (decoded_before file form)) _ _ _ _ _
-    (adds_same _ (opening c.args.sound file form) _ _ _ _ (opening_by c.form_size.result c.args.sound file form (c.form_size.ensures file fits)) c.in-Ok.ensures.written)
-    (stops_same (c.in-Err.fault ≡ CopyFault.Write) _ (concat (decoded_before file form)) _ _ _ (ap (λ w. chunks_on Before (Some w) file form) c.cmpr_of-cmpr.ensures) (c.in-Err.ensures.written file told)))
+    (adds_same _ (opening c.args.sound file form) _ _ _ _
+    (opening_by c.form_size.result c.args.sound file form (c.form_size.ensures file fits)) c.in-Ok.ensures.written)
+    (stops_same (c.in-Err.fault ≡ CopyFault.Write) _ (concat (decoded_before file form)) _ _ _
+    (ap (λ w. chunks_on Before (Some w) file form) c.cmpr_of-cmpr.ensures) (c.in-Err.ensures.written file told)))
 
 pub returns-in-Ok-write_head-clause-written : goal.returns-in-Ok-write_head-clause-written
 returns-in-Ok-write_head-clause-written g c file told =
@@ -41,8 +45,10 @@ returns-in-Ok-write_head-clause-written g c file told =
     let fits : c.args.form.now.end ≤ length file = omega (arith, known, c.requires.size.2) in
     adds_then (opening c.args.sound file form ++ concat (decoded_before file form)) (sound_opening c.args.sound) _ _ _ _ _ _
     (adds_then (opening c.args.sound file form) (concat (decoded_before file form)) _ _ _ _ _ _
-    (adds_same _ (opening c.args.sound file form) _ _ _ _ (opening_by c.form_size.result c.args.sound file form (c.form_size.ensures file fits)) c.in-Ok.ensures.written)
-    (adds_same _ (concat (decoded_before file form)) _ _ _ _ (ap (λ w. chunks_on Before (Some w) file form) c.cmpr_of-cmpr.ensures) (c.in_default-pass_chunks.ensures.written file told)))
+    (adds_same _ (opening c.args.sound file form) _ _ _ _
+    (opening_by c.form_size.result c.args.sound file form (c.form_size.ensures file fits)) c.in-Ok.ensures.written)
+    (adds_same _ (concat (decoded_before file form)) _ _ _ _ (ap (λ w. chunks_on Before (Some w) file form) c.cmpr_of-cmpr.ensures)
+    (c.in_default-pass_chunks.ensures.written file told)))
     (added _ (sound_opening c.args.sound) _ _ _ _ c.in-Ok-write_head.ensures.sure c.in-Ok-write_head.ensures.written)
 
 pub returns-in-Err-write_head-clause-written : goal.returns-in-Err-write_head-clause-written
@@ -52,7 +58,9 @@ returns-in-Err-write_head-clause-written g c file told =
     let fits : c.args.form.now.end ≤ length file = omega (arith, known, c.requires.size.2) in
     stops_then (CopyFault.Write ≡ CopyFault.Write) (opening c.args.sound file form ++ concat (decoded_before file form)) (sound_opening c.args.sound) _ _ _ _ _
     (adds_then (opening c.args.sound file form) (concat (decoded_before file form)) _ _ _ _ _ _
-    (adds_same _ (opening c.args.sound file form) _ _ _ _ (opening_by c.form_size.result c.args.sound file form (c.form_size.ensures file fits)) c.in-Ok.ensures.written)
-    (adds_same _ (concat (decoded_before file form)) _ _ _ _ (ap (λ w. chunks_on Before (Some w) file form) c.cmpr_of-cmpr.ensures) (c.in_default-pass_chunks.ensures.written file told)))
+    (adds_same _ (opening c.args.sound file form) _ _ _ _
+    (opening_by c.form_size.result c.args.sound file form (c.form_size.ensures file fits)) c.in-Ok.ensures.written)
+    (adds_same _ (concat (decoded_before file form)) _ _ _ _ (ap (λ w. chunks_on Before (Some w) file form) c.cmpr_of-cmpr.ensures)
+    (c.in_default-pass_chunks.ensures.written file told)))
     (stops_for (Unit {0}) (CopyFault.Write ≡ CopyFault.Write) (sound_opening c.args.sound) _ _ _ (λ e. tt {0})
     (cut_off _ (sound_opening c.args.sound) _ _ _ _ c.in-Err-write_head.ensures.sure c.in-Err-write_head.ensures.written))

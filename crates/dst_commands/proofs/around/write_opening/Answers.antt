@@ -6,9 +6,11 @@ use Rattle.dst_commands.proofs.around.write_opening.Goals as goal
 
 pub returns-in_default-clause-written : goal.returns-in_default-clause-written
 returns-in_default-clause-written g c =
-    stops_first (Unit {0}) (codes "FRM8" ++ big_bytes 8 c.args.size) (codes "DSD ") _ _ _ (cut_off _ (codes "FRM8" ++ big_bytes 8 c.args.size) _ _ _ _ c.in_default.ensures.sure c.in_default.ensures.written)
+    stops_first (Unit {0}) (codes "FRM8" ++ big_bytes 8 c.args.size) (codes "DSD ") _ _ _
+    (cut_off _ (codes "FRM8" ++ big_bytes 8 c.args.size) _ _ _ _ c.in_default.ensures.sure c.in_default.ensures.written)
 
 pub returns-clause-written : goal.returns-clause-written
 returns-clause-written g c =
-    then_appended c.append.result (codes "FRM8" ++ big_bytes 8 c.args.size) (codes "DSD ") _ _ _ _ _ _ (added _ (codes "FRM8" ++ big_bytes 8 c.args.size) _ _ _ _ c.in-Ok.ensures.sure c.in-Ok.ensures.written)
+    then_appended c.append.result (codes "FRM8" ++ big_bytes 8 c.args.size) (codes "DSD ") _ _ _ _ _ _
+    (added _ (codes "FRM8" ++ big_bytes 8 c.args.size) _ _ _ _ c.in-Ok.ensures.sure c.in-Ok.ensures.written)
     c.append.ensures.written c.append.ensures.sure

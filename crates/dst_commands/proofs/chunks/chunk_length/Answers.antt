@@ -18,8 +18,10 @@ prop_length-requires c =
 pub returns-in-Some-clause-length : goal.returns-in-Some-clause-length
 returns-in-Some-clause-length c file fits =
     c.prop_length.ensures.length
-    ∙ ap length (passed_prop file (form_of c.args.passed.now) (head_seen c.args.head.now) (cmpr_of c.args.passed.now) c.prop.result.now c.in-Some.cmpr.now c.in-Some.ensures c.prop.ensures)
+    ∙ ap length (passed_prop file (form_of c.args.passed.now) (head_seen c.args.head.now)
+    (cmpr_of c.args.passed.now) c.prop.result.now c.in-Some.cmpr.now c.in-Some.ensures c.prop.ensures)
 
 pub returns-in-None-clause-length : goal.returns-in-None-clause-length
 returns-in-None-clause-length c file fits =
-    length-passed file (form_of c.args.passed.now) (head_seen c.args.head.now) (cmpr_of c.args.passed.now) c.end_of.result c.end_of.ensures fits c.requires.within c.in-None.ensures
+    length-passed file (form_of c.args.passed.now) (head_seen c.args.head.now)
+    (cmpr_of c.args.passed.now) c.end_of.result c.end_of.ensures fits c.requires.within c.in-None.ensures

@@ -14,7 +14,8 @@ none = record { id = []; place = 0; size = 0 }
 
 pub pass_chunk-requires-clause-within : goal.pass_chunk-requires-clause-within
 pass_chunk-requires-clause-within g c =
-    head_inside (form_of c.args.passed.now) c.heads-head-items.result.now c.loop-head.head-index none (lent_is_lawful c.args.passed.now.form) (sym c.heads-head-items.ensures) c.loop-head-test.true
+    head_inside (form_of c.args.passed.now) c.heads-head-items.result.now c.loop-head.head-index none (lent_is_lawful c.args.passed.now.form)
+    (sym c.heads-head-items.ensures) c.loop-head-test.true
 
 pub pass_chunk-requires-clause-size : goal.pass_chunk-requires-clause-size
 pass_chunk-requires-clause-size g c = (c.requires.size.0, c.loop-head.invariant.known ∙ c.requires.size.1, c.requires.size.2)
@@ -28,9 +29,11 @@ loop-head-preserved-then-not-passes g c = record {
   appended = λ file fits.
       c.loop-head.invariant.appended file fits
       ∙ ap (λ w. g.K.Sink.appended c.args.sink.now + length w)
-      (one_more_left c.args.side file c.args.passed.now c.heads-head-items.result.now c.loop-head.head-index none (sym c.heads-head-items.ensures) c.loop-head-test.true (sym c.passes.ensures ∙ c.if-not-passes.true));
+      (one_more_left c.args.side file c.args.passed.now c.heads-head-items.result.now c.loop-head.head-index none
+      (sym c.heads-head-items.ensures) c.loop-head-test.true (sym c.passes.ensures ∙ c.if-not-passes.true));
   written = λ file told.
-      adds_same _ _ _ _ _ _ (one_more_left c.args.side file c.args.passed.now c.heads-head-items.result.now c.loop-head.head-index none (sym c.heads-head-items.ensures) c.loop-head-test.true (sym c.passes.ensures ∙ c.if-not-passes.true))
+      adds_same _ _ _ _ _ _ (one_more_left c.args.side file c.args.passed.now c.heads-head-items.result.now c.loop-head.head-index none
+      (sym c.heads-head-items.ensures) c.loop-head-test.true (sym c.passes.ensures ∙ c.if-not-passes.true))
       (c.loop-head.invariant.written file told);
 }
 
@@ -43,33 +46,44 @@ loop-head-preserved g c = record {
   appended = λ file fits.
       let p = c.args.passed.now in
       let head = get_or c.heads-head-items.result.now c.loop-head.head-index none in
-      let more = one_more_passed c.args.side file p c.heads-head-items.result.now c.loop-head.head-index none (sym c.heads-head-items.ensures) c.loop-head-test.true (sym c.passes.ensures ∙ c.if-not-passes.false) in
+      let more = one_more_passed c.args.side file p c.heads-head-items.result.now c.loop-head.head-index none
+      (sym c.heads-head-items.ensures) c.loop-head-test.true (sym c.passes.ensures ∙ c.if-not-passes.false) in
       let both = length-append (passed_to c.args.side file p c.loop-head.head-index) (bytes_of file p (head_seen head)) in
       omega (arith, c.loop-head.invariant.appended file fits, c.in_default.ensures.appended file fits, ap length more);
   written = λ file told.
       let p = c.args.passed.now in
       let head = get_or c.heads-head-items.result.now c.loop-head.head-index none in
-      adds_same _ _ _ _ _ _ (one_more_passed c.args.side file p c.heads-head-items.result.now c.loop-head.head-index none (sym c.heads-head-items.ensures) c.loop-head-test.true (sym c.passes.ensures ∙ c.if-not-passes.false))
-      (adds_then (passed_to c.args.side file p c.loop-head.head-index) (bytes_of file p (head_seen head)) _ _ _ _ _ _ (c.loop-head.invariant.written file told) (c.in_default.ensures.written file (c.loop-head.invariant.bytes ∙ told)));
+      adds_same _ _ _ _ _ _ (one_more_passed c.args.side file p c.heads-head-items.result.now c.loop-head.head-index none
+      (sym c.heads-head-items.ensures) c.loop-head-test.true (sym c.passes.ensures ∙ c.if-not-passes.false))
+      (adds_then (passed_to c.args.side file p c.loop-head.head-index) (bytes_of file p (head_seen head)) _ _ _ _ _ _ (c.loop-head.invariant.written file told)
+      (c.in_default.ensures.written file (c.loop-head.invariant.bytes ∙ told)));
 }
 
 pub returns-in-Err-clause-written : goal.returns-in-Err-clause-written
 returns-in-Err-clause-written g c file told =
     let p = c.args.passed.now in
     let head = get_or c.heads-head-items.result.now c.loop-head.head-index none in
-    stops_in (c.in-Err.fault ≡ CopyFault.Write) (all_of c.args.side file p) (passed_to c.args.side file p (c.loop-head.head-index + 1)) _ _ _ (begins_with_some c.args.side file p (c.loop-head.head-index + 1))
-    (stops_same (c.in-Err.fault ≡ CopyFault.Write) _ _ _ _ _ (one_more_passed c.args.side file p c.heads-head-items.result.now c.loop-head.head-index none (sym c.heads-head-items.ensures) c.loop-head-test.true (sym c.passes.ensures ∙ c.if-not-passes.false))
-    (stops_then (c.in-Err.fault ≡ CopyFault.Write) (passed_to c.args.side file p c.loop-head.head-index) (bytes_of file p (head_seen head)) _ _ _ _ _ (c.loop-head.invariant.written file told) (c.in-Err.ensures.written file (c.loop-head.invariant.bytes ∙ told))))
+    stops_in (c.in-Err.fault ≡ CopyFault.Write) (all_of c.args.side file p) (passed_to c.args.side file p (c.loop-head.head-index + 1)) _ _ _
+    (begins_with_some c.args.side file p (c.loop-head.head-index + 1))
+    (stops_same (c.in-Err.fault ≡ CopyFault.Write) _ _ _ _ _
+    (one_more_passed c.args.side file p c.heads-head-items.result.now c.loop-head.head-index none (sym c.heads-head-items.ensures) c.loop-head-test.true
+    (sym c.passes.ensures ∙ c.if-not-passes.false))
+    (stops_then (c.in-Err.fault ≡ CopyFault.Write) (passed_to c.args.side file p c.loop-head.head-index) (bytes_of file p (head_seen head)) _ _ _ _ _
+    (c.loop-head.invariant.written file told) (c.in-Err.ensures.written file (c.loop-head.invariant.bytes ∙ told))))
 
 pub returns-in-Err-clause-cause : goal.returns-in-Err-clause-cause
-returns-in-Err-clause-cause g c = failed_since c.in-Err.fault _ _ _ _ _ _ c.loop-head.invariant.source_later c.loop-head.invariant.sink_later c.in-Err.ensures.cause
+returns-in-Err-clause-cause g c = failed_since c.in-Err.fault _ _ _ _ _ _ c.loop-head.invariant.source_later c.loop-head.invariant.sink_later
+    c.in-Err.ensures.cause
 
 pub returns-clause-appended : goal.returns-clause-appended
 returns-clause-appended g c file fits =
     c.loop-head.invariant.appended file fits
-    ∙ ap (λ w. g.K.Sink.appended c.args.sink.now + length w) (passed_all_of c.args.side file c.args.passed.now c.heads-head-items.result.now c.loop-head.head-index (sym c.heads-head-items.ensures) c.loop-head-test.false)
+    ∙ ap (λ w. g.K.Sink.appended c.args.sink.now + length w)
+    (passed_all_of c.args.side file c.args.passed.now c.heads-head-items.result.now c.loop-head.head-index
+    (sym c.heads-head-items.ensures) c.loop-head-test.false)
 
 pub returns-clause-written : goal.returns-clause-written
 returns-clause-written g c file told =
-    adds_same _ _ _ _ _ _ (passed_all_of c.args.side file c.args.passed.now c.heads-head-items.result.now c.loop-head.head-index (sym c.heads-head-items.ensures) c.loop-head-test.false)
+    adds_same _ _ _ _ _ _ (passed_all_of c.args.side file c.args.passed.now c.heads-head-items.result.now c.loop-head.head-index
+    (sym c.heads-head-items.ensures) c.loop-head-test.false)
     (c.loop-head.invariant.written file told)

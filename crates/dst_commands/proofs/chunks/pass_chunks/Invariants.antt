@@ -14,5 +14,6 @@ invariant-loop-head g l = record {
   appended : (file : List ℕ) → (form_of l.passed).end ≤ length file →
       g.K.Sink.appended l.sink ≡ g.K.Sink.appended l.initial.sink + length (passed_to l.side file l.passed l.head-index);
   written : (file : List ℕ) → g.S.Source.bytes l.initial.source ≡ Some file →
-      Adds (passed_to l.side file l.passed l.head-index) (g.K.Sink.written l.initial.sink) (g.K.Sink.written l.sink) (g.K.Sink.room l.initial.sink) (g.K.Sink.room l.sink);
+      Adds (passed_to l.side file l.passed l.head-index) (g.K.Sink.written l.initial.sink) (g.K.Sink.written l.sink) (g.K.Sink.room l.initial.sink)
+      (g.K.Sink.room l.sink);
 }

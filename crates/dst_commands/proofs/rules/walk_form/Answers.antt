@@ -12,5 +12,6 @@ returns-in-Ok-clause-entries g c file told = (walk_passes file (coded_seen c.arg
 
 pub returns-in-Err-clause-stops : goal.returns-in-Err-clause-stops
 returns-in-Err-clause-stops g c =
-    stops_by (λ file. walk_fault file (coded_seen c.args.form)) c.in-Err.fault (g.S.Source.bytes c.args.source.now) (g.S.Source.faults c.args.source.now) (g.S.Source.faults c.walk.new.source)
+    stops_by (λ file. walk_fault file (coded_seen c.args.form)) c.in-Err.fault (g.S.Source.bytes c.args.source.now) (g.S.Source.faults c.args.source.now)
+    (g.S.Source.faults c.walk.new.source)
     (λ f is file told. walk_fails file (coded_seen c.args.form) f (c.in-Err.ensures.fault f (ap Err is) file told)) (λ is. c.in-Err.ensures.read (ap Err is))

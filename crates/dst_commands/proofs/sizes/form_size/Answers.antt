@@ -7,10 +7,16 @@ use Rattle.dst_commands.proofs.PassedOn.{plain_cmpr_is_one}
 use Rattle.dst_commands.proofs.sizes.form_size.Goals as goal
 
 pub chunks_length-before-requires : goal.chunks_length-before-requires
-chunks_length-before-requires c = record { cmpr = plain_cmpr_is_one (coded_seen c.args.form.now) c.args.form.now.lawful refl c.cmpr_of-cmpr.result.now c.cmpr_of-cmpr.ensures }
+chunks_length-before-requires c = record {
+  cmpr =
+      plain_cmpr_is_one (coded_seen c.args.form.now) c.args.form.now.lawful refl c.cmpr_of-cmpr.result.now c.cmpr_of-cmpr.ensures;
+}
 
 pub chunks_length-behind-requires : goal.chunks_length-behind-requires
-chunks_length-behind-requires c = record { cmpr = plain_cmpr_is_one (coded_seen c.args.form.now) c.args.form.now.lawful refl c.cmpr_of-cmpr.result.now c.cmpr_of-cmpr.ensures }
+chunks_length-behind-requires c = record {
+  cmpr =
+      plain_cmpr_is_one (coded_seen c.args.form.now) c.args.form.now.lawful refl c.cmpr_of-cmpr.result.now c.cmpr_of-cmpr.ensures;
+}
 
 pub returns : goal.returns
 returns c file fits =

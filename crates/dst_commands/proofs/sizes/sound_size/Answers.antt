@@ -13,5 +13,6 @@ returns-in-Some-clause-most c =
     let whole : sound_bytes_of form ≡ c.sound_bytes-whole.result = ap sound_bytes c.args.form.now.shape ∙ sym c.sound_bytes-whole.ensures.bytes in
     let need = sound_is_needed form c.args.form.now.lawful refl (omega (arith, whole, c.sound_bytes-whole.ensures.least)) in
     let most = need.most (omega (arith, whole, c.sound_bytes-whole.ensures.most)) in
-    let size : size_of_sound form ≡ c.in-Some.origin.sound = coded_size form refl ∙ ap (λ k. plain_size (option_map origin_seen k) (form.frames * sound_bytes_of form)) c.in-Some.is in
+    let size : size_of_sound form ≡ c.in-Some.origin.sound = coded_size form refl
+    ∙ ap (λ k. plain_size (option_map origin_seen k) (form.frames * sound_bytes_of form)) c.in-Some.is in
     omega (arith, size, most)

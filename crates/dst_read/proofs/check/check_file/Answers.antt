@@ -26,11 +26,13 @@ same_source a b e = cc
 pub returns-in-Err-clause-file : goal.returns-in-Err-clause-file
 returns-in-Err-clause-file g c fault e file told =
     rules_of_check file
-    ∙ (subst (λ f. opening.Stops (form_refusal check) (g.S.Source.bytes c.args.source.now) (g.S.Source.faults c.args.source.now) (g.S.Source.faults c.open_file.new.source) f) (same_source c.in-Err.fault _ e) c.in-Err.ensures.stops) file told
+    ∙ (subst (λ f. opening.Stops (form_refusal check) (g.S.Source.bytes c.args.source.now) (g.S.Source.faults c.args.source.now)
+    (g.S.Source.faults c.open_file.new.source) f) (same_source c.in-Err.fault _ e) c.in-Err.ensures.stops) file told
 
 pub returns-in-Err-clause-read : goal.returns-in-Err-clause-read
 returns-in-Err-clause-read g c e =
-    subst (λ f. opening.Stops (form_refusal check) (g.S.Source.bytes c.args.source.now) (g.S.Source.faults c.args.source.now) (g.S.Source.faults c.open_file.new.source) f) (same_source c.in-Err.fault _ e) c.in-Err.ensures.stops
+    subst (λ f. opening.Stops (form_refusal check) (g.S.Source.bytes c.args.source.now) (g.S.Source.faults c.args.source.now)
+    (g.S.Source.faults c.open_file.new.source) f) (same_source c.in-Err.fault _ e) c.in-Err.ensures.stops
 
 -- ---- of a plain form
 pub returns-in-Plain-clause-sound : goal.returns-in-Plain-clause-sound
@@ -59,10 +61,12 @@ if_counted (Ok s) bytes h = λ file told. (h file told).1
 if_counted (Err fault) bytes h = tt {0}
 
 pub returns-in-Coded-clause-sound : goal.returns-in-Coded-clause-sound
-returns-in-Coded-clause-sound g c = if_sound c.check_frames.result (g.S.Source.bytes c.args.source.now) (λ file told. c.check_frames.ensures.ends file (c.in-Ok.ensures.bytes ∙ told))
+returns-in-Coded-clause-sound g c = if_sound c.check_frames.result (g.S.Source.bytes c.args.source.now)
+    (λ file told. c.check_frames.ensures.ends file (c.in-Ok.ensures.bytes ∙ told))
 
 pub returns-in-Coded-clause-frames : goal.returns-in-Coded-clause-frames
-returns-in-Coded-clause-frames g c = if_counted c.check_frames.result (g.S.Source.bytes c.args.source.now) (λ file told. c.check_frames.ensures.ends file (c.in-Ok.ensures.bytes ∙ told))
+returns-in-Coded-clause-frames g c = if_counted c.check_frames.result (g.S.Source.bytes c.args.source.now)
+    (λ file told. c.check_frames.ensures.ends file (c.in-Ok.ensures.bytes ∙ told))
 
 pub returns-in-Coded-clause-file : goal.returns-in-Coded-clause-file
 returns-in-Coded-clause-file g c fault e file told = subst (λ r. CheckingEnds r file) e (c.check_frames.ensures.ends file (c.in-Ok.ensures.bytes ∙ told))

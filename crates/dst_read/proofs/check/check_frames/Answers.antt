@@ -14,4 +14,5 @@ returns-in-Ok-sum_tails-clause-ends g c file told =
 
 pub returns-clause-ends : goal.returns-clause-ends
 returns-clause-ends g c file told =
-    stopped c.in-Err.fault file (coded_seen c.args.walked.now.form) (c.requires.walked file told).form_is refl (c.requires.accepted file told) (c.in-Err.ensures.summed file told)
+    stopped c.in-Err.fault file (coded_seen c.args.walked.now.form) (c.requires.walked file told).form_is refl (c.requires.accepted file told)
+    (c.in-Err.ensures.summed file told)

@@ -25,14 +25,17 @@ same_source a b e = cc
 pub returns-in-Err-clause-file : goal.returns-in-Err-clause-file
 returns-in-Err-clause-file g c fault e file told =
     rules_of_decode file
-    ∙ (subst (λ f. opening.Stops (form_refusal index) (g.S.Source.bytes c.args.source.now) (g.S.Source.faults c.args.source.now) (g.S.Source.faults c.open_file.new.source) f) (same_source c.in-Err.fault _ e) c.in-Err.ensures.stops) file told
+    ∙ (subst (λ f. opening.Stops (form_refusal index) (g.S.Source.bytes c.args.source.now) (g.S.Source.faults c.args.source.now)
+    (g.S.Source.faults c.open_file.new.source) f) (same_source c.in-Err.fault _ e) c.in-Err.ensures.stops) file told
 
 pub returns-in-Err-clause-read : goal.returns-in-Err-clause-read
 returns-in-Err-clause-read g c e =
-    subst (λ f. opening.Stops (form_refusal index) (g.S.Source.bytes c.args.source.now) (g.S.Source.faults c.args.source.now) (g.S.Source.faults c.open_file.new.source) f) (same_source c.in-Err.fault _ e) c.in-Err.ensures.stops
+    subst (λ f. opening.Stops (form_refusal index) (g.S.Source.bytes c.args.source.now) (g.S.Source.faults c.args.source.now)
+    (g.S.Source.faults c.open_file.new.source) f) (same_source c.in-Err.fault _ e) c.in-Err.ensures.stops
 
 pub returns-in-Err-clause-cut_short : goal.returns-in-Err-clause-cut_short
-returns-in-Err-clause-cut_short g c e file told = nothing_written file (g.K.Sink.written c.args.sink.now) (g.met.S.Source.told_are_bytes c.args.source.now file told)
+returns-in-Err-clause-cut_short g c e file told =
+    nothing_written file (g.K.Sink.written c.args.sink.now) (g.met.S.Source.told_are_bytes c.args.source.now file told)
 
 -- ---- of writing
 pub write_decoded-requires-clause-opened : goal.write_decoded-requires-clause-opened
@@ -41,29 +44,36 @@ write_decoded-requires-clause-opened g c κs within file told =
     let is = c.in-Ok.ensures.opened file told_before in
     record { accepts = rules_of_decode file ∙ c.in-Ok.ensures.accepted file told_before; form_is = is.form_is; entries_are = is.entries_are }
 
-if_decoded : (r : Result Decoded DecodeFault) (bytes : Option (List ℕ)) (old new : Option (List ℕ)) (room : Option ℕ) → ((file : List ℕ) → bytes ≡ Some file → DecodingEnds r file old new room) →
-    IfOk r (λ s. (file : List ℕ) → bytes ≡ Some file → (out : List ℕ) × OutcomeOf decode file (done out (decoded_line s.frames s.bytes ∷ [])) × (new ≡ and_then old out))
+if_decoded : (r : Result Decoded DecodeFault) (bytes : Option (List ℕ)) (old new : Option (List ℕ)) (room : Option ℕ) →
+    ((file : List ℕ) → bytes ≡ Some file → DecodingEnds r file old new room) →
+    IfOk r (λ s. (file : List ℕ) → bytes ≡ Some file →
+    (out : List ℕ) × OutcomeOf decode file (done out (decoded_line s.frames s.bytes ∷ [])) × (new ≡ and_then old out))
 if_decoded (Ok s) bytes old new room h = h
 if_decoded (Err fault) bytes old new room h = tt {0}
 
 pub returns-clause-decoded : goal.returns-clause-decoded
 returns-clause-decoded g c =
-    if_decoded c.write_decoded.result (g.S.Source.bytes c.args.source.now) (g.K.Sink.written c.args.sink.now) (g.K.Sink.written c.write_decoded.new.sink) (g.K.Sink.room c.args.sink.now)
+    if_decoded c.write_decoded.result (g.S.Source.bytes c.args.source.now) (g.K.Sink.written c.args.sink.now) (g.K.Sink.written c.write_decoded.new.sink)
+    (g.K.Sink.room c.args.sink.now)
     (λ file told. c.write_decoded.ensures.written file (c.in-Ok.ensures.bytes ∙ told))
 
 pub returns-clause-frame : goal.returns-clause-frame
 returns-clause-frame g c k fault e file told =
-    subst (λ r. DecodingEnds r file (g.K.Sink.written c.args.sink.now) (g.K.Sink.written c.write_decoded.new.sink) (g.K.Sink.room c.args.sink.now)) e (c.write_decoded.ensures.written file (c.in-Ok.ensures.bytes ∙ told))
+    subst (λ r. DecodingEnds r file (g.K.Sink.written c.args.sink.now) (g.K.Sink.written c.write_decoded.new.sink) (g.K.Sink.room c.args.sink.now)) e
+    (c.write_decoded.ensures.written file (c.in-Ok.ensures.bytes ∙ told))
 
 pub returns-clause-cut_short : goal.returns-clause-cut_short
 returns-clause-cut_short g c (inl e) file told =
-    subst (λ r. DecodingEnds r file (g.K.Sink.written c.args.sink.now) (g.K.Sink.written c.write_decoded.new.sink) (g.K.Sink.room c.args.sink.now)) e (c.write_decoded.ensures.written file (c.in-Ok.ensures.bytes ∙ told))
+    subst (λ r. DecodingEnds r file (g.K.Sink.written c.args.sink.now) (g.K.Sink.written c.write_decoded.new.sink) (g.K.Sink.room c.args.sink.now)) e
+    (c.write_decoded.ensures.written file (c.in-Ok.ensures.bytes ∙ told))
 returns-clause-cut_short g c (inr e) file told =
-    (subst (λ r. DecodingEnds r file (g.K.Sink.written c.args.sink.now) (g.K.Sink.written c.write_decoded.new.sink) (g.K.Sink.room c.args.sink.now)) e (c.write_decoded.ensures.written file (c.in-Ok.ensures.bytes ∙ told))).0
+    (subst (λ r. DecodingEnds r file (g.K.Sink.written c.args.sink.now) (g.K.Sink.written c.write_decoded.new.sink) (g.K.Sink.room c.args.sink.now)) e
+    (c.write_decoded.ensures.written file (c.in-Ok.ensures.bytes ∙ told))).0
 
 pub returns-clause-sure : goal.returns-clause-sure
 returns-clause-sure g c e file told =
-    (subst (λ r. DecodingEnds r file (g.K.Sink.written c.args.sink.now) (g.K.Sink.written c.write_decoded.new.sink) (g.K.Sink.room c.args.sink.now)) e (c.write_decoded.ensures.written file (c.in-Ok.ensures.bytes ∙ told))).1
+    (subst (λ r. DecodingEnds r file (g.K.Sink.written c.args.sink.now) (g.K.Sink.written c.write_decoded.new.sink) (g.K.Sink.room c.args.sink.now)) e
+    (c.write_decoded.ensures.written file (c.in-Ok.ensures.bytes ∙ told))).1
 
 -- what is answered
 if_done : (r : Result Decoded DecodeFault) (is : Decoded) (P : Decoded → Type 0) → IfOk r (λ d. d ≡ is) → P is → IfOk r P
@@ -72,10 +82,12 @@ if_done (Err fault) is P e h = tt {0}
 
 pub returns-clause-frames : goal.returns-clause-frames
 returns-clause-frames g c =
-    if_done c.write_decoded.result _ (λ s. (file : List ℕ) → g.S.Source.bytes c.args.source.now ≡ Some file → s.frames ≡ (accepted file).frames) c.write_decoded.ensures.done
+    if_done c.write_decoded.result _ (λ s. (file : List ℕ) → g.S.Source.bytes c.args.source.now ≡ Some file →
+    s.frames ≡ (accepted file).frames) c.write_decoded.ensures.done
     (λ file told. ap (λ (form : Form). form.frames) (sym (c.in-Ok.ensures.opened file told).form_is))
 
 pub returns-clause-size : goal.returns-clause-size
 returns-clause-size g c =
-    if_done c.write_decoded.result _ (λ s. (file : List ℕ) → g.S.Source.bytes c.args.source.now ≡ Some file → s.bytes ≡ size_of_sound (accepted file)) c.write_decoded.ensures.done
+    if_done c.write_decoded.result _ (λ s. (file : List ℕ) → g.S.Source.bytes c.args.source.now ≡ Some file →
+    s.bytes ≡ size_of_sound (accepted file)) c.write_decoded.ensures.done
     (λ file told. ap size_of_sound (sym (c.in-Ok.ensures.opened file told).form_is))

@@ -1,7 +1,8 @@
 -- The jobs so far are of the shape.
 use Rattle.std.proofs.Common.{◌≡◌, ◌<◌, All, length}
 use Rattle.dst_spec.specs.Sample.{IsShape}
-use Rattle.dst_read.specs.Jobs.{shape_of_job, shape_number}
+use Rattle.dst_commands.specs.Rooms.{shape_number}
+use Rattle.dst_read.specs.Jobs.{shape_of_job}
 use Rattle.dst_read.proofs.jobs.jobs_for.Given as goal
 
 abbrev pub invariant-loop : goal.invariant-loop

@@ -2,7 +2,8 @@
 use Rattle.std.proofs.Common.{◌<◌, [], length, ◌∙◌, arith}
 use Rattle.dsdiff_spec.specs.Lines.{index_lines}
 use Rattle.dst_commands.proofs.Writing.{added, cut_off}
-use Rattle.dst_read.proofs.InTurn.{one_more_part, stops_in_part, all_parts, with_feed, length-index_lines, line_of_entry}
+use Rattle.dst_commands.proofs.InTurn.{one_more_part, stops_in_part, all_parts}
+use Rattle.dst_read.proofs.InTurn.{with_feed, length-index_lines, line_of_entry}
 use Rattle.dst_read.proofs.listing.report_entries.Goals as goal
 
 pub returns-in_default-clause-written : goal.returns-in_default-clause-written
@@ -10,7 +11,8 @@ returns-in_default-clause-written g c =
     let within : c.loop-k.k < length c.args.index.now = omega (arith, c.length-k-end.ensures.length, c.loop-k-test.true) in
     let count = length-index_lines c.args.index.now in
     let inside : c.loop-k.k < length (index_lines c.args.index.now) = omega (arith, within, count) in
-    let line = line_of_entry c.args.index.now c.loop-k.k c.entry-entry.result.offset c.entry-entry.result.size c.as_bytes.result.now within c.entry-entry.ensures (c.as_bytes.ensures.value ∙ c.deref.ensures.0 ∙ c.entry-line.ensures) in
+    let line = line_of_entry c.args.index.now c.loop-k.k c.entry-entry.result.offset c.entry-entry.result.size c.as_bytes.result.now within
+    c.entry-entry.ensures (c.as_bytes.ensures.value ∙ c.deref.ensures.0 ∙ c.entry-line.ensures) in
     stops_in_part (Unit {0}) with_feed (index_lines c.args.index.now) c.loop-k.k [] c.as_bytes.result.now _ _ _ _ _ inside line c.loop-k.invariant.written
     (cut_off _ c.as_bytes.result.now _ _ _ _ c.in_default.ensures.sure c.in_default.ensures.written)
 
@@ -19,7 +21,8 @@ loop-k-preserved g c =
     let within : c.loop-k.k < length c.args.index.now = omega (arith, c.length-k-end.ensures.length, c.loop-k-test.true) in
     let count = length-index_lines c.args.index.now in
     let inside : c.loop-k.k < length (index_lines c.args.index.now) = omega (arith, within, count) in
-    let line = line_of_entry c.args.index.now c.loop-k.k c.entry-entry.result.offset c.entry-entry.result.size c.as_bytes.result.now within c.entry-entry.ensures (c.as_bytes.ensures.value ∙ c.deref.ensures.0 ∙ c.entry-line.ensures) in
+    let line = line_of_entry c.args.index.now c.loop-k.k c.entry-entry.result.offset c.entry-entry.result.size c.as_bytes.result.now within
+    c.entry-entry.ensures (c.as_bytes.ensures.value ∙ c.deref.ensures.0 ∙ c.entry-line.ensures) in
     record {
       later = omega (arith, c.loop-k.invariant.later, c.in-Ok.ensures.cause.later);
       silent = λ none. absurd (omega (arith, none, within));
@@ -30,4 +33,5 @@ loop-k-preserved g c =
 pub returns-clause-written : goal.returns-clause-written
 returns-clause-written g c =
     let count = length-index_lines c.args.index.now in
-    all_parts with_feed (index_lines c.args.index.now) c.loop-k.k _ _ _ _ (omega (arith, count, c.length-k-end.ensures.length, c.loop-k-test.false)) c.loop-k.invariant.written
+    all_parts with_feed (index_lines c.args.index.now) c.loop-k.k _ _ _ _
+    (omega (arith, count, c.length-k-end.ensures.length, c.loop-k-test.false)) c.loop-k.invariant.written

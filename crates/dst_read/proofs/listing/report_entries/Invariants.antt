@@ -10,5 +10,6 @@ abbrev pub invariant-loop-k : goal.invariant-loop-k
 invariant-loop-k g l = record {
   later : g.T.Sink.faults l.initial.report ≤ g.T.Sink.faults l.report;
   silent : length l.index ≡ 0 → l.report ≡ l.initial.report;
-  written : Adds (flat_map with_feed (take l.k (index_lines l.index))) (g.T.Sink.written l.initial.report) (g.T.Sink.written l.report) (g.T.Sink.room l.initial.report) (g.T.Sink.room l.report);
+  written : Adds (flat_map with_feed (take l.k (index_lines l.index))) (g.T.Sink.written l.initial.report) (g.T.Sink.written l.report)
+      (g.T.Sink.room l.initial.report) (g.T.Sink.room l.report);
 }

@@ -1,12 +1,13 @@
 -- One more line behind those that are reported.
 use Rattle.std.proofs.Common.{ap, ◌∙◌, arith}
 use Rattle.dst_commands.proofs.Writing.{added, cut_off}
-use Rattle.dst_read.proofs.InTurn.{one_more_part, stops_in_part}
+use Rattle.dst_commands.proofs.InTurn.{one_more_part, stops_in_part}
 use Rattle.dst_read.proofs.listing.report_lines.Goals as goal
 
 pub returns-in_default-clause-written : goal.returns-in_default-clause-written
 returns-in_default-clause-written g c =
-    stops_in_part (Unit {0}) (λ line. line.bytes) c.args.lines.now c.loop-line.line-index c.line-item.result c.as_bytes.result.now _ _ _ _ _ c.loop-line-test.true
+    stops_in_part (Unit {0}) (λ line. line.bytes) c.args.lines.now c.loop-line.line-index c.line-item.result c.as_bytes.result.now _ _ _ _ _
+    c.loop-line-test.true
     (c.as_bytes.ensures.value ∙ c.deref.ensures.0 ∙ ap (λ line. line.bytes) c.line-item.is) c.loop-line.invariant.written
     (cut_off _ c.as_bytes.result.now _ _ _ _ c.in_default.ensures.sure c.in_default.ensures.written)
 

@@ -7,5 +7,6 @@ use Rattle.dst_read.proofs.listing.report_lines.Given as goal
 abbrev pub invariant-loop-line : goal.invariant-loop-line
 invariant-loop-line g l = record {
   later : g.T.Sink.faults l.initial.report ≤ g.T.Sink.faults l.report;
-  written : Adds (flat_map (λ line. line.bytes) (take l.line-index l.lines)) (g.T.Sink.written l.initial.report) (g.T.Sink.written l.report) (g.T.Sink.room l.initial.report) (g.T.Sink.room l.report);
+  written : Adds (flat_map (λ line. line.bytes) (take l.line-index l.lines)) (g.T.Sink.written l.initial.report) (g.T.Sink.written l.report)
+      (g.T.Sink.room l.initial.report) (g.T.Sink.room l.report);
 }

@@ -30,21 +30,25 @@ same_source a b e = cc
 
 pub returns-in-Err-clause-file : goal.returns-in-Err-clause-file
 returns-in-Err-clause-file g c fault e file told =
-    (subst (λ f. opening.Stops (refusal (frame c.args.frame c.args.by_index)) (g.S.Source.bytes c.args.source.now) (g.S.Source.faults c.args.source.now) (g.S.Source.faults c.open_frame.new.source) f) (same_source c.in-Err.fault _ e) c.in-Err.ensures.stops) file told
+    (subst (λ f. opening.Stops (refusal (frame c.args.frame c.args.by_index)) (g.S.Source.bytes c.args.source.now) (g.S.Source.faults c.args.source.now)
+    (g.S.Source.faults c.open_frame.new.source) f) (same_source c.in-Err.fault _ e) c.in-Err.ensures.stops) file told
 
 pub returns-in-Err-clause-read : goal.returns-in-Err-clause-read
 returns-in-Err-clause-read g c e =
-    subst (λ f. opening.Stops (refusal (frame c.args.frame c.args.by_index)) (g.S.Source.bytes c.args.source.now) (g.S.Source.faults c.args.source.now) (g.S.Source.faults c.open_frame.new.source) f) (same_source c.in-Err.fault _ e) c.in-Err.ensures.stops
+    subst (λ f. opening.Stops (refusal (frame c.args.frame c.args.by_index)) (g.S.Source.bytes c.args.source.now) (g.S.Source.faults c.args.source.now)
+    (g.S.Source.faults c.open_frame.new.source) f) (same_source c.in-Err.fault _ e) c.in-Err.ensures.stops
 
 pub returns-in-Err-read_sound-clause-frame : goal.returns-in-Err-read_sound-clause-frame
 returns-in-Err-read_sound-clause-frame g c k fault e file told =
     let found = c.in-Ok.found in
     let is = c.in-Ok.ensures.found file told in
-    let refused = subst (λ f. HasNoSound found.form.channels c.args.frame (entry_seen found.entry) f (g.S.Source.bytes c.open_frame.new.source) (g.S.Source.faults c.open_frame.new.source) (g.S.Source.faults c.read_sound.new.source))
+    let refused = subst (λ f. HasNoSound found.form.channels c.args.frame (entry_seen found.entry) f (g.S.Source.bytes c.open_frame.new.source)
+    (g.S.Source.faults c.open_frame.new.source) (g.S.Source.faults c.read_sound.new.source))
     (same_fault c.in-Err-read_sound.fault _ e) c.in-Err-read_sound.ensures.no_sound in
     subst (λ k. OutcomeOf (frame c.args.frame c.args.by_index) file (frame_refused k fault [])) (sym refused.0)
     (sound_is_refused file (coded_seen found.form) c.args.frame c.args.by_index found.form.channels (frame_at file (entry_seen found.entry)) fault
-    (record { accepts = c.in-Ok.ensures.accepted file told; form_is = is.form_is }) found.form.shape (ap (frame_at file) is.entry_is) (refused.1 file (c.in-Ok.ensures.bytes ∙ told)))
+    (record { accepts = c.in-Ok.ensures.accepted file told; form_is = is.form_is }) found.form.shape (ap (frame_at file) is.entry_is)
+    (refused.1 file (c.in-Ok.ensures.bytes ∙ told)))
 
 pub returns-in-Ok-write_sound-clause-written : goal.returns-in-Ok-write_sound-clause-written
 returns-in-Ok-write_sound-clause-written g c file told =
@@ -54,7 +58,8 @@ returns-in-Ok-write_sound-clause-written g c file told =
     let count : c.len.result ≡ length sound = c.len.ensures ∙ sym c.deref.ensures.len ∙ ap length c.deref.ensures.value in (
       sound,
       sound_is_written file (coded_seen found.form) c.args.frame c.args.by_index found.form.channels (frame_at file (entry_seen found.entry)) sound c.len.result
-          (record { accepts = c.in-Ok.ensures.accepted file told; form_is = is.form_is }) found.form.shape (ap (frame_at file) is.entry_is) (c.in-Ok-read_sound.ensures.sound file (c.in-Ok.ensures.bytes ∙ told)) count,
+          (record { accepts = c.in-Ok.ensures.accepted file told; form_is = is.form_is }) found.form.shape (ap (frame_at file) is.entry_is)
+          (c.in-Ok-read_sound.ensures.sound file (c.in-Ok.ensures.bytes ∙ told)) count,
       c.in-Ok-write_sound.ensures.written ∙ ap (and_then (g.K.Sink.written c.args.sink.now)) c.deref.ensures.value,
     )
 
@@ -64,9 +69,12 @@ returns-clause-cut_short g c e file told =
     let is = c.in-Ok.ensures.found file told in
     let sound = c.in-Ok-read_sound.sound.items in (
       done sound (frame_line c.args.frame (length sound) ∷ []),
-      sound_is_written file (coded_seen found.form) c.args.frame c.args.by_index found.form.channels (frame_at file (entry_seen found.entry)) sound (length sound)
-          (record { accepts = c.in-Ok.ensures.accepted file told; form_is = is.form_is }) found.form.shape (ap (frame_at file) is.entry_is) (c.in-Ok-read_sound.ensures.sound file (c.in-Ok.ensures.bytes ∙ told)) refl,
-      subst (λ w. IsCutShort (g.K.Sink.written c.args.sink.now) w (g.K.Sink.written c.write_sound.new.sink)) c.deref.ensures.value c.in-Err-write_sound.ensures.written.cut,
+      sound_is_written file (coded_seen found.form) c.args.frame c.args.by_index found.form.channels (frame_at file (entry_seen found.entry)) sound
+          (length sound)
+          (record { accepts = c.in-Ok.ensures.accepted file told; form_is = is.form_is }) found.form.shape (ap (frame_at file) is.entry_is)
+          (c.in-Ok-read_sound.ensures.sound file (c.in-Ok.ensures.bytes ∙ told)) refl,
+      subst (λ w. IsCutShort (g.K.Sink.written c.args.sink.now) w
+          (g.K.Sink.written c.write_sound.new.sink)) c.deref.ensures.value c.in-Err-write_sound.ensures.written.cut,
     )
 
 pub returns-clause-sure : goal.returns-clause-sure
@@ -74,7 +82,10 @@ returns-clause-sure g c e file told =
     let found = c.in-Ok.found in
     let is = c.in-Ok.ensures.found file told in
     let sound = c.in-Ok-read_sound.sound.items in
-    let outcome = sound_is_written file (coded_seen found.form) c.args.frame c.args.by_index found.form.channels (frame_at file (entry_seen found.entry)) sound (length sound)
-    (record { accepts = c.in-Ok.ensures.accepted file told; form_is = is.form_is }) found.form.shape (ap (frame_at file) is.entry_is) (c.in-Ok-read_sound.ensures.sound file (c.in-Ok.ensures.bytes ∙ told)) refl in
-    sink_is_sure (frame c.args.frame c.args.by_index) file sound (frame_line c.args.frame (length sound) ∷ []) _ _ _ tt (g.met.S.Source.told_are_bytes c.args.source.now file told) outcome
+    let outcome = sound_is_written file (coded_seen found.form) c.args.frame c.args.by_index found.form.channels (frame_at file (entry_seen found.entry)) sound
+    (length sound)
+    (record { accepts = c.in-Ok.ensures.accepted file told; form_is = is.form_is }) found.form.shape (ap (frame_at file) is.entry_is)
+    (c.in-Ok-read_sound.ensures.sound file (c.in-Ok.ensures.bytes ∙ told)) refl in
+    sink_is_sure (frame c.args.frame c.args.by_index) file sound (frame_line c.args.frame (length sound) ∷ []) _ _ _ tt
+    (g.met.S.Source.told_are_bytes c.args.source.now file told) outcome
     (stops_same (Unit {0}) _ sound _ _ _ c.deref.ensures.value c.in-Err-write_sound.ensures.written)

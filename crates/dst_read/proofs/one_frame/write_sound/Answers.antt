@@ -4,4 +4,5 @@ use Rattle.dst_read.proofs.one_frame.write_sound.Goals as goal
 
 pub returns-clause-written : goal.returns-clause-written
 returns-clause-written g c =
-    then_settled c.finish.result c.args.sound.now _ _ _ _ _ (added c.append.result c.args.sound.now _ _ _ _ c.append.ensures.sure c.in-Ok.ensures.written) c.finish.ensures.written c.finish.ensures.sure
+    then_settled c.finish.result c.args.sound.now _ _ _ _ _
+    (added c.append.result c.args.sound.now _ _ _ _ c.append.ensures.sure c.in-Ok.ensures.written) c.finish.ensures.written c.finish.ensures.sure

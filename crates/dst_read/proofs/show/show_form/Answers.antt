@@ -16,8 +16,11 @@ use Rattle.dst_read.proofs.show.show_form.Goals as goal
 
 pub returns-in-Err-clause-ends : goal.returns-in-Err-clause-ends
 returns-in-Err-clause-ends g c file told =
-    ends_unopened c.in-Err.fault show (g.S.Source.bytes c.args.source.now) (g.S.Source.faults c.args.source.now) (g.S.Source.faults c.open_file.new.source) file (g.T.Sink.written c.args.report.now) (g.T.Sink.written c.args.report.now) (g.T.Sink.room c.args.report.now) told
-    (stops_as (form_refusal show) (refusal show) c.in-Err.fault (g.S.Source.bytes c.args.source.now) (g.S.Source.faults c.args.source.now) (g.S.Source.faults c.open_file.new.source) rules_of_show c.in-Err.ensures.stops)
+    ends_unopened c.in-Err.fault show (g.S.Source.bytes c.args.source.now) (g.S.Source.faults c.args.source.now)
+    (g.S.Source.faults c.open_file.new.source) file (g.T.Sink.written c.args.report.now) (g.T.Sink.written c.args.report.now)
+    (g.T.Sink.room c.args.report.now) told
+    (stops_as (form_refusal show) (refusal show) c.in-Err.fault (g.S.Source.bytes c.args.source.now) (g.S.Source.faults c.args.source.now)
+    (g.S.Source.faults c.open_file.new.source) rules_of_show c.in-Err.ensures.stops)
 
 pub returns-in-Plain-clause-ends : goal.returns-in-Plain-clause-ends
 returns-in-Plain-clause-ends g c file told =
@@ -29,7 +32,8 @@ returns-in-Plain-clause-ends g c file told =
     let room = g.T.Sink.room c.args.report.now in
     let left = g.T.Sink.room c.report_plain.new.report in
     subst (λ r. ReportEnds r show file old new room) (sym c.reported.ensures)
-    (reported_ends c.report_plain.result c.in-Plain.form.frames show file form (show_lines form (entries file form)) old new room left is refl (show_outcome file form (record { accepts = accepts; form_is = is })) c.report_plain.ensures.written)
+    (reported_ends c.report_plain.result c.in-Plain.form.frames show file form (show_lines form (entries file form)) old new room left is refl
+    (show_outcome file form (record { accepts = accepts; form_is = is })) c.report_plain.ensures.written)
 
 pub returns-in-Coded-clause-ends : goal.returns-in-Coded-clause-ends
 returns-in-Coded-clause-ends g c file told =
@@ -41,18 +45,22 @@ returns-in-Coded-clause-ends g c file told =
     let room = g.T.Sink.room c.args.report.now in
     let left = g.T.Sink.room c.report_coded.new.report in
     let written =
-    subst (λ es. MatchResult c.report_coded.result (λ _. Adds (report (show_lines form es)) old new room left) (λ _. Stops (Unit {0}) (report (show_lines form es)) old new room)) (sym is.entries_are)
+    subst (λ es. MatchResult c.report_coded.result (λ _. Adds (report (show_lines form es)) old new room left)
+    (λ _. Stops (Unit {0}) (report (show_lines form es)) old new room)) (sym is.entries_are)
     c.report_coded.ensures.written in
     subst (λ r. ReportEnds r show file old new room) (sym c.reported-in-Coded.ensures)
-    (reported_ends c.report_coded.result c.in-Coded.walked.form.frames show file form (show_lines form (entries file form)) old new room left is.form_is refl (show_outcome file form (record { accepts = accepts; form_is = is.form_is })) written)
+    (reported_ends c.report_coded.result c.in-Coded.walked.form.frames show file form (show_lines form (entries file form)) old new room left is.form_is refl
+    (show_outcome file form (record { accepts = accepts; form_is = is.form_is })) written)
 
 pub returns-in-Coded-clause-cause : goal.returns-in-Coded-clause-cause
 returns-in-Coded-clause-cause g c =
     let faults = g.S.Source.faults in
     let before = faults c.args.source.now in
     let now = faults c.open_file.new.source in
-    subst (λ r. IfErr r (λ fault. HasReportCause fault before now (g.T.Sink.faults c.args.report.now) (g.T.Sink.faults c.report_coded.new.report))) (sym c.reported-in-Coded.ensures)
-    (cause_of_report c.report_coded.result c.in-Coded.walked.form.frames before now (g.T.Sink.faults c.args.report.now) (g.T.Sink.faults c.report_coded.new.report) c.report_coded.ensures.cause)
+    subst (λ r. IfErr r (λ fault. HasReportCause fault before now (g.T.Sink.faults c.args.report.now) (g.T.Sink.faults c.report_coded.new.report)))
+    (sym c.reported-in-Coded.ensures)
+    (cause_of_report c.report_coded.result c.in-Coded.walked.form.frames before now (g.T.Sink.faults c.args.report.now)
+    (g.T.Sink.faults c.report_coded.new.report) c.report_coded.ensures.cause)
 
 pub returns-in-Coded-clause-no_frame : goal.returns-in-Coded-clause-no_frame
 returns-in-Coded-clause-no_frame g c k fault e =
@@ -60,4 +68,5 @@ returns-in-Coded-clause-no_frame g c k fault e =
     absurd cc
 
 pub returns-in-Coded-clause-untouched : goal.returns-in-Coded-clause-untouched
-returns-in-Coded-clause-untouched g c fault e other = absurd (other (only_reported c.report_coded.result c.in-Coded.walked.form.frames fault (sym c.reported-in-Coded.ensures ∙ e)))
+returns-in-Coded-clause-untouched g c fault e other =
+    absurd (other (only_reported c.report_coded.result c.in-Coded.walked.form.frames fault (sym c.reported-in-Coded.ensures ∙ e)))

@@ -16,15 +16,23 @@ use Rattle.dst_read.proofs.show.show_header.Goals as goal
 pub returns-in-Err-clause-ends : goal.returns-in-Err-clause-ends
 returns-in-Err-clause-ends g c file told =
     let k = c.args.number in
-    ends_unopened c.in-Err.fault (show_frame k) (g.S.Source.bytes c.args.source.now) (g.S.Source.faults c.args.source.now) (g.S.Source.faults c.open_file.new.source) file (g.T.Sink.written c.args.report.now) (g.T.Sink.written c.args.report.now) (g.T.Sink.room c.args.report.now) told
-    (stops_as (form_refusal (show_frame k)) (refusal (show_frame k)) c.in-Err.fault (g.S.Source.bytes c.args.source.now) (g.S.Source.faults c.args.source.now) (g.S.Source.faults c.open_file.new.source) (rules_of_show_frame k) c.in-Err.ensures.stops)
+    ends_unopened c.in-Err.fault (show_frame k) (g.S.Source.bytes c.args.source.now) (g.S.Source.faults c.args.source.now)
+    (g.S.Source.faults c.open_file.new.source) file (g.T.Sink.written c.args.report.now) (g.T.Sink.written c.args.report.now)
+    (g.T.Sink.room c.args.report.now) told
+    (stops_as (form_refusal (show_frame k)) (refusal (show_frame k)) c.in-Err.fault (g.S.Source.bytes c.args.source.now) (g.S.Source.faults c.args.source.now)
+    (g.S.Source.faults c.open_file.new.source) (rules_of_show_frame k) c.in-Err.ensures.stops)
 
 pub returns-in-Err-header_line-clause-ends : goal.returns-in-Err-header_line-clause-ends
 returns-in-Err-header_line-clause-ends g c file told =
     let found = c.in-Ok.found in
     let is = c.in-Ok.ensures.opened file told in
-    ends_unshown c.in-Err-header_line.fault (g.S.Source.bytes c.open_file.new.source) _ _ file (coded_seen found.form) c.args.number found.form.channels (entry_seen found.entry) _ _ _
-    (c.in-Ok.ensures.bytes ∙ told) (record { accepts = rules_of_show_frame c.args.number file ∙ c.in-Ok.ensures.accepted file told; form_is = is.form_is }) found.form.shape is.entry_is c.in-Err-header_line.ensures.unshown
+    ends_unshown c.in-Err-header_line.fault (g.S.Source.bytes c.open_file.new.source) _ _ file (coded_seen found.form) c.args.number found.form.channels
+    (entry_seen found.entry) _ _ _
+    (c.in-Ok.ensures.bytes ∙ told) (record {
+      accepts = rules_of_show_frame c.args.number file ∙ c.in-Ok.ensures.accepted file told;
+      form_is =
+          is.form_is;
+    }) found.form.shape is.entry_is c.in-Err-header_line.ensures.unshown
 
 pub returns-clause-ends : goal.returns-clause-ends
 returns-clause-ends g c file told =
@@ -33,12 +41,15 @@ returns-clause-ends g c file told =
     let k = c.args.number in
     let is = c.in-Ok.ensures.opened file told in
     let shown = c.in-Ok-header_line.ensures.shown file (c.in-Ok.ensures.bytes ∙ told) in
-    let outcome = frame_is_shown file form k found.form.channels (frame_at file (entry_seen found.entry)) shown.told (record { accepts = rules_of_show_frame k file ∙ c.in-Ok.ensures.accepted file told; form_is = is.form_is }) found.form.shape (ap (frame_at file) is.entry_is) shown.shows shown.not_refused in
+    let outcome = frame_is_shown file form k found.form.channels (frame_at file (entry_seen found.entry)) shown.told
+    (record { accepts = rules_of_show_frame k file ∙ c.in-Ok.ensures.accepted file told; form_is = is.form_is }) found.form.shape
+    (ap (frame_at file) is.entry_is) shown.shows shown.not_refused in
     let piece : c.as_bytes.result.now ≡ report (shown.told ∷ []) = c.as_bytes.ensures.value ∙ c.deref.ensures.0 ∙ shown.is in
     let old = g.T.Sink.written c.args.report.now in
     let new = g.T.Sink.written c.append.new.self in
     let room = g.T.Sink.room c.args.report.now in
     let left = g.T.Sink.room c.append.new.self in
-    let written = subst (λ w. MatchResult c.append.result (λ _. Adds w old new room left) (λ _. Stops (Unit {0}) w old new room)) piece (appended c.append.result c.as_bytes.result.now old new room left c.append.ensures.written c.append.ensures.sure) in
+    let written = subst (λ w. MatchResult c.append.result (λ _. Adds w old new room left) (λ _. Stops (Unit {0}) w old new room)) piece
+    (appended c.append.result c.as_bytes.result.now old new room left c.append.ensures.written c.append.ensures.sure) in
     subst (λ r. ReportEnds r (show_frame k) file old new room) (sym c.reported.ensures)
     (reported_ends c.append.result found.form.frames (show_frame k) file form (shown.told ∷ []) old new room left is.form_is refl outcome written)

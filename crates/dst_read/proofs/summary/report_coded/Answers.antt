@@ -17,12 +17,14 @@ returns-in_default-clause-written g c =
     let form = coded_seen c.args.walked.now.form in
     let heads = c.args.walked.now.form.heads in
     let chunks : length c.as_slice.result.now ≡ length (map head_seen heads) = ap length c.as_slice.ensures ∙ sym (length-map heads head_seen) in
-    let same = c.lines_of.ensures ∙ same_five (codes "coded") form.channels c.sound_size.result (size_of_sound form) form.frames (length c.as_slice.result.now) (length (map head_seen heads)) c.sound_size.ensures.size chunks in
+    let same = c.lines_of.ensures ∙ same_five (codes "coded") form.channels c.sound_size.result (size_of_sound form) form.frames (length c.as_slice.result.now)
+    (length (map head_seen heads)) c.sound_size.ensures.size chunks in
     let old = g.T.Sink.written c.args.report.now in
     let new = g.T.Sink.written c.report_lines.new.report in
     let room = g.T.Sink.room c.args.report.now in
     stops_same (Unit {0}) _ _ _ _ _ (lines_of_coded form index refl)
-    (stops_first (Unit {0}) (report (summary_lines (codes "coded") form)) (report (coded_summary_lines form index)) old new room (subst (λ w. Stops (Unit {0}) w old new room) same c.in_default.ensures.written))
+    (stops_first (Unit {0}) (report (summary_lines (codes "coded") form)) (report (coded_summary_lines form index)) old new room
+    (subst (λ w. Stops (Unit {0}) w old new room) same c.in_default.ensures.written))
 
 pub returns-clause-written : goal.returns-clause-written
 returns-clause-written g c =
@@ -30,7 +32,8 @@ returns-clause-written g c =
     let form = coded_seen c.args.walked.now.form in
     let heads = c.args.walked.now.form.heads in
     let chunks : length c.as_slice.result.now ≡ length (map head_seen heads) = ap length c.as_slice.ensures ∙ sym (length-map heads head_seen) in
-    let same = c.lines_of.ensures ∙ same_five (codes "coded") form.channels c.sound_size.result (size_of_sound form) form.frames (length c.as_slice.result.now) (length (map head_seen heads)) c.sound_size.ensures.size chunks in
+    let same = c.lines_of.ensures ∙ same_five (codes "coded") form.channels c.sound_size.result (size_of_sound form) form.frames (length c.as_slice.result.now)
+    (length (map head_seen heads)) c.sound_size.ensures.size chunks in
     let old = g.T.Sink.written c.args.report.now in
     let mid = g.T.Sink.written c.report_lines.new.report in
     let new = g.T.Sink.written c.report_stored.new.report in

@@ -11,7 +11,8 @@ pub returns-clause-written : goal.returns-clause-written
 returns-clause-written g c =
     let form = c.args.form.now in
     let chunks : length c.as_slice.result.now ≡ length (map head_seen form.heads) = ap length c.as_slice.ensures ∙ sym (length-map form.heads head_seen) in
-    let same = c.lines_of.ensures ∙ same_five (codes "plain") form.channels.channels form.sound.size form.sound.size form.frames (length c.as_slice.result.now) (length (map head_seen form.heads)) refl chunks in
+    let same = c.lines_of.ensures ∙ same_five (codes "plain") form.channels.channels form.sound.size form.sound.size form.frames (length c.as_slice.result.now)
+    (length (map head_seen form.heads)) refl chunks in
     let old = g.T.Sink.written c.args.report.now in
     let new = g.T.Sink.written c.report_lines.new.report in
     let room = g.T.Sink.room c.args.report.now in

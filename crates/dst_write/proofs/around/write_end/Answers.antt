@@ -1,5 +1,5 @@
 -- The index, what is kept of the plain file, the chunks behind the sound.
-use Rattle.std.proofs.Common.{◌≡◌, ℕ, ◌+◌, ◌≤◌, ◌++◌, length, ap, arith}
+use Rattle.std.proofs.Common.{◌≡◌, ◌+◌, ◌≤◌, ◌++◌, length, ap, arith}
 use Rattle.dsdiff_spec.specs.Coded.{coded_before, first_place, origin_of_plain}
 use Rattle.dsdiff_spec.specs.Written.{dsti}
 use Rattle.dsdiff_chunks.specs.Forms.{plain_seen}
@@ -22,7 +22,8 @@ returns-in_default-clause-written g c file told =
     let P = CopyFault.Write ≡ CopyFault.Write in
     stops_first P (index ++ origin_of_plain form) (behind file form) _ _ _
     (stops_first P index (origin_of_plain form) _ _ _
-    (stops_for (Unit {0}) P index _ _ _ (λ e. tt {0}) (stops_same (Unit {0}) _ index _ _ _ (ap (λ n. dsti (entries_by n sizes)) place) c.in_default.ensures.written)))
+    (stops_for (Unit {0}) P index _ _ _ (λ e. tt {0}) (stops_same (Unit {0}) _ index _ _ _
+    (ap (λ n. dsti (entries_by n sizes)) place) c.in_default.ensures.written)))
 
 pub returns-in_default-write_kept-clause-written : goal.returns-in_default-write_kept-clause-written
 returns-in_default-write_kept-clause-written g c file told =
@@ -54,5 +55,6 @@ returns-clause-written g c file told =
     let place : 16 + c.side_length.result + 12 + 18 ≡ first = omega (arith, c.side_length.ensures.length file fits) in
     let index = dsti (entries_by first sizes) in
     side_then c.write_side.result (index ++ origin_of_plain form) (behind file form) _ _ _ _ _ _
-    (adds_then index (origin_of_plain form) _ _ _ _ _ _ (adds_same _ index _ _ _ _ (ap (λ n. dsti (entries_by n sizes)) place) c.in-Ok.ensures.written) c.in-Ok-write_kept.ensures.written)
+    (adds_then index (origin_of_plain form) _ _ _ _ _ _ (adds_same _ index _ _ _ _
+    (ap (λ n. dsti (entries_by n sizes)) place) c.in-Ok.ensures.written) c.in-Ok-write_kept.ensures.written)
     (c.write_side.ensures.written file told)

@@ -1,11 +1,11 @@
 -- The loop writes entry by entry.
-use Rattle.std.proofs.Common.{◌+◌, ◌++◌, length, take, get_or, flat_map, ap, ◌∙◌, arith}
+use Rattle.std.proofs.Common.{◌+◌, ◌++◌, take, get_or, flat_map, ap, ◌∙◌, arith}
 use Rattle.std.proofs.lemmas.List.{take_all}
 use Rattle.std.proofs.lemmas.List.Sums.{sum_by_more}
 use Rattle.byteorder.specs.Endian.{big_bytes}
 use Rattle.dsdiff_spec.specs.Written.{dsti}
 use Rattle.dst_commands.proofs.Writing.{added, cut_off, adds_same, adds_then, stops_same, stops_first, stops_then, stops_in}
-use Rattle.dst_write.specs.Layout.{chunk_size, entries_by, frames_size}
+use Rattle.dst_write.specs.Layout.{chunk_size, entries_by}
 use Rattle.dst_write.proofs.BySize.{begins_with_entries, dsti_head, dsti_is, entry_bytes, head_and_more}
 use Rattle.dst_write.proofs.around.write_index.Goals as goal
 
@@ -13,7 +13,8 @@ pub returns-in_default-clause-written : goal.returns-in_default-clause-written
 returns-in_default-clause-written g c =
     let sizes = c.args.sizes.now in
     stops_same (Unit {0}) _ (dsti (entries_by c.args.first sizes)) _ _ _ (dsti_is c.args.first sizes)
-    (stops_first (Unit {0}) (dsti_head sizes) (flat_map entry_bytes (entries_by c.args.first sizes)) _ _ _ (cut_off _ (dsti_head sizes) _ _ _ _ c.in_default.ensures.sure c.in_default.ensures.written))
+    (stops_first (Unit {0}) (dsti_head sizes) (flat_map entry_bytes (entries_by c.args.first sizes)) _ _ _
+    (cut_off _ (dsti_head sizes) _ _ _ _ c.in_default.ensures.sure c.in_default.ensures.written))
 
 pub returns-in_default-write_entry-clause-written : goal.returns-in_default-write_entry-clause-written
 returns-in_default-write_entry-clause-written g c =
@@ -22,9 +23,11 @@ returns-in_default-write_entry-clause-written g c =
     let first = c.args.first in
     let front = dsti_head sizes ++ flat_map entry_bytes (entries_by first (take i sizes)) in
     let entry = big_bytes 8 (c.loop-size.place + 12) ++ big_bytes 4 (get_or sizes i 0) in
-    stops_in (Unit {0}) (dsti (entries_by first sizes)) (dsti_head sizes ++ flat_map entry_bytes (entries_by first (take (i + 1) sizes))) _ _ _ (begins_with_entries first sizes (i + 1))
+    stops_in (Unit {0}) (dsti (entries_by first sizes)) (dsti_head sizes ++ flat_map entry_bytes (entries_by first (take (i + 1) sizes))) _ _ _
+    (begins_with_entries first sizes (i + 1))
     (stops_same (Unit {0}) _ _ _ _ _ (head_and_more first sizes i 0 c.loop-size.place c.loop-size-test.true c.loop-size.invariant.place)
-    (stops_then (Unit {0}) front entry _ _ _ _ _ c.loop-size.invariant.written (cut_off _ entry _ _ _ _ c.in_default-write_entry.ensures.sure c.in_default-write_entry.ensures.written)))
+    (stops_then (Unit {0}) front entry _ _ _ _ _ c.loop-size.invariant.written
+    (cut_off _ entry _ _ _ _ c.in_default-write_entry.ensures.sure c.in_default-write_entry.ensures.written)))
 
 pub loop-size-preserved : goal.loop-size-preserved
 loop-size-preserved g c =
@@ -40,11 +43,13 @@ loop-size-preserved g c =
       faults = omega (arith, c.loop-size.invariant.faults, c.in-Ok-write_entry.ensures.cause.later);
       written =
           adds_same _ _ _ _ _ _ (head_and_more first sizes i 0 c.loop-size.place c.loop-size-test.true c.loop-size.invariant.place)
-          (adds_then front entry _ _ _ _ _ _ c.loop-size.invariant.written (added _ entry _ _ _ _ c.in-Ok-write_entry.ensures.sure c.in-Ok-write_entry.ensures.written));
+          (adds_then front entry _ _ _ _ _ _ c.loop-size.invariant.written
+          (added _ entry _ _ _ _ c.in-Ok-write_entry.ensures.sure c.in-Ok-write_entry.ensures.written));
     }
 
 pub returns-clause-written : goal.returns-clause-written
 returns-clause-written g c =
     let sizes = c.args.sizes.now in
     let all = take_all c.loop-size.size-index sizes c.loop-size-test.false in
-    adds_same _ _ _ _ _ _ (ap (λ w. dsti_head sizes ++ flat_map entry_bytes (entries_by c.args.first w)) all ∙ dsti_is c.args.first sizes) c.loop-size.invariant.written
+    adds_same _ _ _ _ _ _ (ap (λ w. dsti_head sizes ++ flat_map entry_bytes (entries_by c.args.first w)) all
+    ∙ dsti_is c.args.first sizes) c.loop-size.invariant.written

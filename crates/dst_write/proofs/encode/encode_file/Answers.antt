@@ -1,5 +1,5 @@
 -- Each answer is one of opening, or one of writing.
-use Rattle.std.proofs.Common.{◌≡◌, inl, inr, ℕ, List, [], length, Option, Some, None, Result, Ok, Err, IfOk, refl, ap, sym, subst, ◌∙◌, arith}
+use Rattle.std.proofs.Common.{◌≡◌, inl, inr, ℕ, List, Option, Some, None, Result, Ok, Err, IfOk, refl, sym, subst, ◌∙◌}
 use Rattle.dsdiff_spec.specs.Form.{Form}
 use Rattle.dsdiff_spec.specs.Coded.{Picks, coded, stored_bytes}
 use Rattle.dsdiff_spec.specs.Refusal.{form_refusal, refusal}
@@ -11,11 +11,10 @@ use Rattle.dsdiff_chunks.specs.declared.open.OpenFault.{OpenFault}
 use Rattle.dsdiff_chunks.specs.Opening as opening
 use Rattle.dst_streams.specs.Told.{and_then}
 use Rattle.dst_write.specs.Encoding.{EncodingEnds}
-use Rattle.dst_write.specs.Unfinished.{HoldsNothing, HoldsUnfinished, sound_size_place}
+use Rattle.dst_write.specs.Unfinished.{HoldsNothing}
 use Rattle.dst_write.specs.declared.faults.EncodeFault.{EncodeFault}
 use Rattle.dst_write.specs.declared.faults.EncodeFault.TheVariants.{Source}
 use Rattle.dst_write.specs.declared.faults.Encoded.{Encoded}
-use Rattle.dst_write.proofs.Ending.{nothing_yet}
 use Rattle.dst_write.proofs.encode.encode_file.Goals as goal
 
 -- ---- of opening
@@ -29,7 +28,8 @@ rules_of_encode level file = refl
 pub returns-in-Err-clause-file : goal.returns-in-Err-clause-file
 returns-in-Err-clause-file g c fault e file told level =
     rules_of_encode level file
-    ∙ (subst (λ f. opening.Stops (form_refusal (encode 1)) (g.S.Source.bytes c.args.source.now) (g.S.Source.faults c.args.source.now) (g.S.Source.faults c.open_file.new.source) f) (same_source c.in-Err.fault _ e) c.in-Err.ensures.stops) file told
+    ∙ (subst (λ f. opening.Stops (form_refusal (encode 1)) (g.S.Source.bytes c.args.source.now) (g.S.Source.faults c.args.source.now)
+    (g.S.Source.faults c.open_file.new.source) f) (same_source c.in-Err.fault _ e) c.in-Err.ensures.stops) file told
 
 -- ---- of writing
 if_encoded : (r : Result Encoded EncodeFault) (picks : Picks) (bytes : Option (List ℕ)) (form : List ℕ → Form) (old new : Option (List ℕ)) (room : Option ℕ) →
@@ -55,16 +55,20 @@ returns-clause-accepted g c =
 
 pub returns-clause-encoded : goal.returns-clause-encoded
 returns-clause-encoded g c =
-    if_encoded c.write_encoded.result (g.P.Picker.picks c.args.picker.now) (g.S.Source.bytes c.args.source.now) accepted (g.K.Sink.written c.args.sink.now) (g.K.Sink.written c.write_encoded.new.sink) (g.K.Sink.room c.args.sink.now)
+    if_encoded c.write_encoded.result (g.P.Picker.picks c.args.picker.now) (g.S.Source.bytes c.args.source.now) accepted (g.K.Sink.written c.args.sink.now)
+    (g.K.Sink.written c.write_encoded.new.sink) (g.K.Sink.room c.args.sink.now)
     (λ file told.
-    subst (λ form. EncodingEnds c.write_encoded.result (g.P.Picker.picks c.args.picker.now) file form (g.K.Sink.written c.args.sink.now) (g.K.Sink.written c.write_encoded.new.sink) (g.K.Sink.room c.args.sink.now)) (sym (c.in-Ok.ensures.opened file told))
+    subst (λ form. EncodingEnds c.write_encoded.result (g.P.Picker.picks c.args.picker.now) file form (g.K.Sink.written c.args.sink.now)
+    (g.K.Sink.written c.write_encoded.new.sink) (g.K.Sink.room c.args.sink.now)) (sym (c.in-Ok.ensures.opened file told))
     (c.write_encoded.ensures.written file (c.in-Ok.ensures.bytes ∙ told)))
 
 pub returns-clause-stored : goal.returns-clause-stored
 returns-clause-stored g c =
-    if_stored c.write_encoded.result (g.P.Picker.picks c.args.picker.now) (g.S.Source.bytes c.args.source.now) accepted (g.K.Sink.written c.args.sink.now) (g.K.Sink.written c.write_encoded.new.sink) (g.K.Sink.room c.args.sink.now)
+    if_stored c.write_encoded.result (g.P.Picker.picks c.args.picker.now) (g.S.Source.bytes c.args.source.now) accepted (g.K.Sink.written c.args.sink.now)
+    (g.K.Sink.written c.write_encoded.new.sink) (g.K.Sink.room c.args.sink.now)
     (λ file told.
-    subst (λ form. EncodingEnds c.write_encoded.result (g.P.Picker.picks c.args.picker.now) file form (g.K.Sink.written c.args.sink.now) (g.K.Sink.written c.write_encoded.new.sink) (g.K.Sink.room c.args.sink.now)) (sym (c.in-Ok.ensures.opened file told))
+    subst (λ form. EncodingEnds c.write_encoded.result (g.P.Picker.picks c.args.picker.now) file form (g.K.Sink.written c.args.sink.now)
+    (g.K.Sink.written c.write_encoded.new.sink) (g.K.Sink.room c.args.sink.now)) (sym (c.in-Ok.ensures.opened file told))
     (c.write_encoded.ensures.written file (c.in-Ok.ensures.bytes ∙ told)))
 
 ends_with : (r : Result Encoded EncodeFault) (fault : EncodeFault) (picks : Picks) (file : List ℕ) (seen form : Form) (old new : Option (List ℕ)) (room : Option ℕ) → r ≡ Err fault → form ≡ seen →
@@ -74,15 +78,18 @@ ends_with r fault picks file seen form old new room e is h =
 
 pub returns-clause-unfinished : goal.returns-clause-unfinished
 returns-clause-unfinished g c (inl e) file told =
-    (ends_with c.write_encoded.result _ (g.P.Picker.picks c.args.picker.now) file (plain_seen c.in-Ok.form) (accepted file) (g.K.Sink.written c.args.sink.now) (g.K.Sink.written c.write_encoded.new.sink) (g.K.Sink.room c.args.sink.now) e (c.in-Ok.ensures.opened file told)
+    (ends_with c.write_encoded.result _ (g.P.Picker.picks c.args.picker.now) file (plain_seen c.in-Ok.form) (accepted file)
+    (g.K.Sink.written c.args.sink.now) (g.K.Sink.written c.write_encoded.new.sink) (g.K.Sink.room c.args.sink.now) e (c.in-Ok.ensures.opened file told)
     (c.write_encoded.ensures.written file (c.in-Ok.ensures.bytes ∙ told))).unfinished
 returns-clause-unfinished g c (inr e) file told =
-    (ends_with c.write_encoded.result _ (g.P.Picker.picks c.args.picker.now) file (plain_seen c.in-Ok.form) (accepted file) (g.K.Sink.written c.args.sink.now) (g.K.Sink.written c.write_encoded.new.sink) (g.K.Sink.room c.args.sink.now) e (c.in-Ok.ensures.opened file told)
+    (ends_with c.write_encoded.result _ (g.P.Picker.picks c.args.picker.now) file (plain_seen c.in-Ok.form) (accepted file)
+    (g.K.Sink.written c.args.sink.now) (g.K.Sink.written c.write_encoded.new.sink) (g.K.Sink.room c.args.sink.now) e (c.in-Ok.ensures.opened file told)
     (c.write_encoded.ensures.written file (c.in-Ok.ensures.bytes ∙ told))).unfinished
 
 pub returns-clause-sure : goal.returns-clause-sure
 returns-clause-sure g c e file told =
-    (ends_with c.write_encoded.result _ (g.P.Picker.picks c.args.picker.now) file (plain_seen c.in-Ok.form) (accepted file) (g.K.Sink.written c.args.sink.now) (g.K.Sink.written c.write_encoded.new.sink) (g.K.Sink.room c.args.sink.now) e (c.in-Ok.ensures.opened file told)
+    (ends_with c.write_encoded.result _ (g.P.Picker.picks c.args.picker.now) file (plain_seen c.in-Ok.form) (accepted file)
+    (g.K.Sink.written c.args.sink.now) (g.K.Sink.written c.write_encoded.new.sink) (g.K.Sink.room c.args.sink.now) e (c.in-Ok.ensures.opened file told)
     (c.write_encoded.ensures.written file (c.in-Ok.ensures.bytes ∙ told))).lacks refl
 
 -- a file that is accepted isn't refused

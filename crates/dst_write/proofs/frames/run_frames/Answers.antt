@@ -1,6 +1,7 @@
 -- The run is that of one piece after another.
 use Rattle.std.proofs.Common.{arith}
-use Rattle.dst_write.proofs.Running.{fault_of_feed, fault_of_drain, run_ended, run_at_read, run_at_job}
+use Rattle.frame_crew.specs.Laws.{fault_of_feed, fault_of_drain}
+use Rattle.dst_write.proofs.Running.{run_ended, run_at_read, run_at_job}
 use Rattle.dst_write.proofs.frames.run_frames.Goals as goal
 
 pub returns-in-Ok : goal.returns-in-Ok

@@ -1,7 +1,8 @@
 -- One job more is of the shape.
 use Rattle.std.proofs.Common.{◌≡◌, arith}
 use Rattle.std.proofs.lemmas.List.Elements.{All-push}
-use Rattle.dst_write.specs.Jobs.{shape_of_job, shape_number}
+use Rattle.dst_commands.specs.Rooms.{shape_number}
+use Rattle.dst_write.specs.Jobs.{shape_of_job}
 use Rattle.dst_write.proofs.jobs.jobs_for.Goals as goal
 
 pub loop-preserved : goal.loop-preserved

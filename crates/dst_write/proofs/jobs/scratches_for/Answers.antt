@@ -1,7 +1,8 @@
 -- Scratches more are of the shape.
 use Rattle.std.proofs.Common.{◌≡◌, arith}
 use Rattle.std.proofs.lemmas.List.Elements.{All-push}
-use Rattle.dst_write.specs.Jobs.{shape_of_scratch, shape_number}
+use Rattle.dst_commands.specs.Rooms.{shape_number}
+use Rattle.dst_write.specs.Jobs.{shape_of_scratch}
 use Rattle.dst_write.proofs.jobs.scratches_for.Goals as goal
 
 pub loop-preserved : goal.loop-preserved

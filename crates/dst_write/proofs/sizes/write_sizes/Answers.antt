@@ -1,5 +1,5 @@
 -- The fields are written over, and the sink is finished.
-use Rattle.std.proofs.Common.{◌≡◌, ℕ, ◌+◌, List, ◌++◌, length, take, drop, ap, ◌∙◌, arith}
+use Rattle.std.proofs.Common.{ℕ, ◌+◌, List, ap, ◌∙◌, arith}
 use Rattle.dst_streams.specs.Told.{written_over}
 use Rattle.dst_write.proofs.Sized.{sizes_end}
 use Rattle.dst_write.proofs.sizes.write_sizes.Goals as goal

@@ -4,7 +4,8 @@ use Rattle.dsdiff_spec.specs.Chunks.{body_end, next_place}
 use Rattle.dsdiff_chunks.specs.Forms.{coded_seen}
 use Rattle.dsdiff_chunks.specs.Seen.{head_seen}
 use Rattle.dsdiff_chunks.proofs.LawfulForms.{sound_inside}
-use Rattle.frame_index.proofs.Passing.{walk_begins, walk_goes_on, same_error, same_fault, stops_at_limit, stops_at_misfit, stops_at_bad_frame, stops_at_other_count, walk_is, walk_fits}
+use Rattle.frame_index.proofs.Passing.{walk_begins, walk_goes_on, same_error, same_fault, stops_at_limit, stops_at_misfit, stops_at_bad_frame}
+use Rattle.frame_index.proofs.Passing.{stops_at_other_count, walk_is, walk_fits}
 use Rattle.frame_index.proofs.frames.walk_from.Goals as goal
 
 pub overflow_add-end : goal.overflow_add-end

@@ -43,7 +43,8 @@ loop-place-preserved c =
       ap₂ (moment ((t + 1) % 6400)) c.sample_each.ensures.waves c.sample_each.ensures.generator ∙ ap next_moment reached ∙ sym (later_by_one place first),
       omega arith,
       λ k h. (
-          let whole : number_from (bits k) 0 (place + 1) ≡ 2 * number_from (bits k) 0 place + get_or (bits k) (0 + place) 0 = number_from-more (bits k) 0 place in
+          let whole : number_from (bits k) 0 (place + 1) ≡ 2 * number_from (bits k) 0 place + get_or (bits k) (0 + place) 0 =
+          number_from-more (bits k) 0 place in
           let made : old k ≡ number_from (bits k) 0 place = c.loop-place.invariant.2 k h in
           omega (arith, shifted k h, below k h, drawn k)
           ),

@@ -1,4 +1,5 @@
-use Rattle.std.proofs.Common.{◌≡◌, ◌≢◌, ℕ, ◌+◌, ◌*◌, ◌%◌, ◌<◌, ◌≤◌, ℤ, w32, to_z, of_z, [], ◌∷◌, ◌++◌, length, get_or, take, set, refl, ap, sym, ◌∙◌, arith, below_more, length-take-le}
+use Rattle.std.proofs.Common.{◌≡◌, ◌≢◌, ℕ, ◌+◌, ◌*◌, ◌%◌, ◌<◌, ◌≤◌, ℤ, w32, to_z, of_z, [], ◌∷◌, ◌++◌, length, get_or, take, set, refl, ap, sym, ◌∙◌, arith}
+use Rattle.std.proofs.Common.{below_more, length-take-le}
 use Rattle.std.proofs.lemmas.Int.{ints}
 use Rattle.std.proofs.lemmas.List.{get_or_default, get_or_append_left, get_or_push, get_or-set_same, get_or-set_other, take_more_set, length-set}
 use Rattle.dsdiff_spec.specs.Made.{Wave, Made, at_time, height}
@@ -38,12 +39,14 @@ loop-channel-preserved c =
     let apart : k ≢ channel = λ e. omega arith in
     get_or-set_other bytes channel k byte 0 apart
     ∙ c.loop-channel.invariant.2 k h
-    ∙ ap (λ s. get_or old k 0 % 128 * 2 + s) (sym (ap (λ (m : Made). get_or m.samples k 0) added ∙ get_or_append_left past.samples (sample ∷ []) 0 k (omega arith))) in
+    ∙ ap (λ s. get_or old k 0 % 128 * 2 + s)
+    (sym (ap (λ (m : Made). get_or m.samples k 0) added ∙ get_or_append_left past.samples (sample ∷ []) 0 k (omega arith))) in
     let now : get_or (set bytes channel byte) channel 0
     ≡ get_or old channel 0 % 128 * 2 + get_or (at_time t 0 (take (channel + 1) before) g).samples channel 0 =
     get_or-set_same bytes channel byte 0 (omega arith)
     ∙ ap (λ b. b % 128 * 2 + sample) (c.loop-channel.invariant.4 channel (omega arith))
-    ∙ ap (λ s. get_or old channel 0 % 128 * 2 + s) (sym (ap (λ (m : Made). get_or m.samples channel 0) added ∙ get_or_push past.samples sample 0 channel long)) in
+    ∙ ap (λ s. get_or old channel 0 % 128 * 2 + s)
+    (sym (ap (λ (m : Made). get_or m.samples channel 0) added ∙ get_or_push past.samples sample 0 channel long)) in
     let apart : (k : ℕ) → channel + 1 ≤ k → k ≢ channel = λ k h e. omega arith in (
       take_more_set waves channel next (omega arith) ∙ ap (λ ws. ws ++ next ∷ []) c.loop-channel.invariant.0 ∙ sym (ap (λ (m : Made). m.waves) added),
       sym (ap (λ (m : Made). m.generator) added),

@@ -8,7 +8,8 @@ use Rattle.chunk_view.proofs.split.ChunksIterator.next.Goals as goal
 
 pub returns-then-self-clause-steps : goal.returns-then-self-clause-steps
 returns-then-self-clause-steps c =
-    let none = sym c.self.view_is ∙ ap (λ f. map (placed_at c.self.inside.bytes.now) f.heads) (all_stops c.self.inside.bytes.now c.self.inside.place (omega arith)) in
+    let none = sym c.self.view_is ∙ ap (λ f. map (placed_at c.self.inside.bytes.now) f.heads)
+    (all_stops c.self.inside.bytes.now c.self.inside.place (omega arith)) in
     (none, none)
 
 pub returns-in_err-view-clause-steps : goal.returns-in_err-view-clause-steps
@@ -17,7 +18,12 @@ returns-in_err-view-clause-steps c =
 
 pub invariant_of-self : goal.invariant_of-self
 invariant_of-self c =
-    record { within = c.in_ok-view.ensures.inside; whole = whole_after c.self.inside.bytes.now c.self.inside.place c.in_ok-view.next c.self.invariant.whole c.in_ok-view.ensures.next c.in_ok-view.ensures.inside }
+    record {
+      within = c.in_ok-view.ensures.inside;
+      whole =
+          whole_after c.self.inside.bytes.now c.self.inside.place c.in_ok-view.next c.self.invariant.whole c.in_ok-view.ensures.next
+          c.in_ok-view.ensures.inside;
+    }
 
 pub returns-clause-steps : goal.returns-clause-steps
 returns-clause-steps c =
@@ -25,7 +31,8 @@ returns-clause-steps c =
     let place = c.self.inside.place in
     let is = c.in_ok-view.ensures.next in
     sym c.self.view_is
-    ∙ ap (λ f. map (placed_at bytes) f.heads) (all_goes bytes place (within c.in_ok-view.next (length bytes) (head_at bytes place) is c.in_ok-view.ensures.inside))
+    ∙ ap (λ f. map (placed_at bytes) f.heads)
+    (all_goes bytes place (within c.in_ok-view.next (length bytes) (head_at bytes place) is c.in_ok-view.ensures.inside))
     ∙ ap (λ p. p ∷ placed_in bytes (next_place (head_at bytes place))) (sym c.in_ok-view.ensures.view)
     ∙ ap (λ n. seen c.in_ok-view.view ∷ placed_in bytes n) (sym is)
 

@@ -11,8 +11,11 @@ use Rattle.dst_commands.proofs.rules.FrameByIndexRules.keep.Goals as goal
 pub returns-in-Err-locate_by_index-clause-stops : goal.returns-in-Err-locate_by_index-clause-stops
 returns-in-Err-locate_by_index-clause-stops g c =
     let k = c.args.self.now.number in
-    subst (λ (f : Form). Stops (λ file. command_fault (frame k true) file (form_seen f)) (g.S.Source.bytes c.args.source.now) (g.S.Source.faults c.args.source.now) (g.S.Source.faults c.locate_by_index.new.source) c.in-Err-locate_by_index.fault)
+    subst (λ (f : Form). Stops (λ file. command_fault (frame k true) file (form_seen f)) (g.S.Source.bytes c.args.source.now)
+    (g.S.Source.faults c.args.source.now) (g.S.Source.faults c.locate_by_index.new.source) c.in-Err-locate_by_index.fault)
     (sym c.in-Ok.ensures.coded)
-    (stops_by (λ file. command_fault (frame k true) file (coded_seen c.in-Ok.form)) c.in-Err-locate_by_index.fault (g.S.Source.bytes c.args.source.now) (g.S.Source.faults c.args.source.now) (g.S.Source.faults c.locate_by_index.new.source)
-    (λ f is file told. indexed_is k file (coded_seen c.in-Ok.form) f (sym c.range_fault.ensures ∙ c.in_default.is) (c.in-Err-locate_by_index.ensures.fault f (ap Err is) file told) refl)
+    (stops_by (λ file. command_fault (frame k true) file (coded_seen c.in-Ok.form)) c.in-Err-locate_by_index.fault (g.S.Source.bytes c.args.source.now)
+    (g.S.Source.faults c.args.source.now) (g.S.Source.faults c.locate_by_index.new.source)
+    (λ f is file told. indexed_is k file (coded_seen c.in-Ok.form) f (sym c.range_fault.ensures ∙ c.in_default.is)
+    (c.in-Err-locate_by_index.ensures.fault f (ap Err is) file told) refl)
     (λ is. c.in-Err-locate_by_index.ensures.read (ap Err is)))

@@ -12,7 +12,8 @@ pub read_frame-requires-clause-size : goal.read_frame-requires-clause-size
 read_frame-requires-clause-size g c =
     let self = c.args.self.now in
     let job = c.args.job.now in
-    let can = can_fill (g.S.Source.known self.source.now) self.walked.now.index job.size (length job.frame.items) (length job.sound.items) job.channels self.walked.now.form.channels c.requires in
+    let can = can_fill (g.S.Source.known self.source.now) self.walked.now.index job.size (length job.frame.items)
+    (length job.sound.items) job.channels self.walked.now.form.channels c.requires in
     let next : self.next < length self.walked.now.index = omega (arith, c.if-self-length.false, c.length.ensures.length) in
     let offset = ap (λ (e : Entry). e.offset) c.entry-entry.ensures in
     let size = ap (λ (e : Entry). e.size) c.entry-entry.ensures in
@@ -22,7 +23,8 @@ pub read_frame-requires-clause-fits : goal.read_frame-requires-clause-fits
 read_frame-requires-clause-fits g c =
     let self = c.args.self.now in
     let job = c.args.job.now in
-    let can = can_fill (g.S.Source.known self.source.now) self.walked.now.index job.size (length job.frame.items) (length job.sound.items) job.channels self.walked.now.form.channels c.requires in
+    let can = can_fill (g.S.Source.known self.source.now) self.walked.now.index job.size (length job.frame.items)
+    (length job.sound.items) job.channels self.walked.now.form.channels c.requires in
     let next : self.next < length self.walked.now.index = omega (arith, c.if-self-length.false, c.length.ensures.length) in
     let offset = ap (λ (e : Entry). e.offset) c.entry-entry.ensures in
     let size = ap (λ (e : Entry). e.size) c.entry-entry.ensures in
@@ -32,7 +34,8 @@ pub read_frame-requires-clause-room : goal.read_frame-requires-clause-room
 read_frame-requires-clause-room g c =
     let self = c.args.self.now in
     let job = c.args.job.now in
-    let can = can_fill (g.S.Source.known self.source.now) self.walked.now.index job.size (length job.frame.items) (length job.sound.items) job.channels self.walked.now.form.channels c.requires in
+    let can = can_fill (g.S.Source.known self.source.now) self.walked.now.index job.size (length job.frame.items)
+    (length job.sound.items) job.channels self.walked.now.form.channels c.requires in
     let next : self.next < length self.walked.now.index = omega (arith, c.if-self-length.false, c.length.ensures.length) in
     let size = ap (λ (e : Entry). e.size) c.entry-entry.ensures in
     omega (arith, can.short self.next none next, size, ap length c.deref_mut.ensures.value)
@@ -42,10 +45,13 @@ returns-clause-job_shape g c =
     let self = c.args.self.now in
     let job = c.args.job.now in
     let known = g.S.Source.known self.source.now in
-    let can = can_fill known self.walked.now.index job.size (length job.frame.items) (length job.sound.items) job.channels self.walked.now.form.channels c.requires in
+    let can = can_fill known self.walked.now.index job.size (length job.frame.items)
+    (length job.sound.items) job.channels self.walked.now.form.channels c.requires in
     let next : self.next < length self.walked.now.index = omega (arith, c.if-self-length.false, c.length.ensures.length) in
     let size = ap (λ (e : Entry). e.size) c.entry-entry.ensures in
     let same : length c.read_frame.new.frame ≡ length job.frame.items = c.read_frame.ensures.long ∙ ap length c.deref_mut.ensures.value in
-    let whole = lent_whole job.frame.len _ c.read_frame.new.frame job.frame.items refl (sym c.deref_mut.ensures.len ∙ ap length c.deref_mut.ensures.value) same in
-    refilled known self.walked.now.index job.size (length job.frame.items) (length job.sound.items) c.entry-entry.result.size _ job.channels self.walked.now.form.channels
+    let whole = lent_whole job.frame.len _ c.read_frame.new.frame job.frame.items refl
+    (sym c.deref_mut.ensures.len ∙ ap length c.deref_mut.ensures.value) same in
+    refilled known self.walked.now.index job.size (length job.frame.items)
+    (length job.sound.items) c.entry-entry.result.size _ job.channels self.walked.now.form.channels
     c.requires (ap length whole ∙ same) (omega (arith, can.short self.next none next, size))

@@ -14,9 +14,12 @@ returns-clause-done c =
     let size = c.args.job.now.size in
     let decoded = heard_or_refused c.decode_frame-job.result f (take size c.deref.result.now) sound
     c.decode_frame-job.ensures.sound c.decode_frame-job.ensures.whole c.decode_frame-job.ensures.fault in
-    let stored = subst (λ (xs : List ℕ). MatchResult c.decode_frame-job.result (IsHeard f (take size xs) sound) (Offends f (take size xs))) c.deref.ensures.value decoded in
-    let kept = lent_whole _ _ sound c.args.job.now.sound.items refl (sym c.deref_mut.ensures.len ∙ ap length c.deref_mut.ensures.value) (c.decode_frame-job.auto.out ∙ ap length c.deref_mut.ensures.value) in
+    let stored = subst (λ (xs : List ℕ). MatchResult c.decode_frame-job.result (IsHeard f (take size xs) sound)
+    (Offends f (take size xs))) c.deref.ensures.value decoded in
+    let kept = lent_whole _ _ sound c.args.job.now.sound.items refl (sym c.deref_mut.ensures.len ∙ ap length c.deref_mut.ensures.value)
+    (c.decode_frame-job.auto.out ∙ ap length c.deref_mut.ensures.value) in
     record {
       number = refl;
-      answer = subst (λ (xs : List ℕ). MatchResult c.decode_frame-job.result (IsHeard f (take size c.args.job.now.frame.items) xs) (Offends f (take size c.args.job.now.frame.items))) (sym kept) stored;
+      answer = subst (λ (xs : List ℕ). MatchResult c.decode_frame-job.result (IsHeard f (take size c.args.job.now.frame.items) xs)
+          (Offends f (take size c.args.job.now.frame.items))) (sym kept) stored;
     }

@@ -20,4 +20,5 @@ returns c =
     let pushed = c.in_ok-push_bytes.ensures.pushed ∙ append_assoc bytes (big_bytes 8 c.args.offset) (big_bytes 4 c.args.size) in
     rw (← c.self.view_is)
     (ap entries_in pushed
-    ∙ entries_more bytes c.self.inside.frames c.args.offset c.args.size c.self.invariant.0 (omega (arith, c.ranges.offset.fits)) (omega (arith, c.ranges.size.fits)))
+    ∙ entries_more bytes c.self.inside.frames c.args.offset c.args.size c.self.invariant.0 (omega (arith, c.ranges.offset.fits))
+    (omega (arith, c.ranges.size.fits)))

@@ -1,0 +1,5 @@
+use Rattle.dsdiff_laws.proofs.Headline.{headline as law}
+use Rattle.dsdiff_laws.proofs.laws.headline.Goals as goal
+
+pub returns : goal.returns
+returns c = law
