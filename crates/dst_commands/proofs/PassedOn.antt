@@ -1,6 +1,6 @@
 -- Chunks of a lawful form: where they lie, how long they are, and what is written of the first ones.
-use Rattle.std.proofs.Common.{◌≡◌, ℕ, zero, suc, ◌+◌, ◌-◌, ◌*◌, ◌%◌, ◌<◌, ◌≤◌, Bool, true, false, if◌then◌else◌, List, [], ◌∷◌, ◌++◌, length, take, drop}
-use Rattle.std.proofs.Common.{get_or, map, Option, Some, None, refl, ap, sym, subst, ◌∙◌, arith, length-drop, append-nil}
+use Rattle.std.proofs.Common.{◌≡◌, ℕ, zero, suc, ◌+◌, ◌-◌, ◌*◌, ◌%◌, ◌<◌, ◌≤◌, Bool, true, false, if◌then◌else◌, List, [], ◌∷◌, ◌++◌, length, take, drop, filter}
+use Rattle.std.proofs.Common.{get_or, map, Option, Some, None, refl, ap, sym, subst, ◌∙◌, arith, length-append, length-drop, append-nil}
 use Rattle.std.specs.Prelude.{min, bytes_eq, codes, OnOk, OnErr, MatchResult, Result, Ok, Err}
 use Rattle.dst_streams.specs.Told.{and_then, IsCutShort}
 use Rattle.dsdiff_spec.specs.Written.{prop_with}
@@ -9,7 +9,8 @@ use Rattle.dsdiff_chunks.specs.declared.copy.CopyFault.TheVariants.{Read, Write}
 use Rattle.dst_streams.proofs.Counts.{Rose-earlier}
 use Rattle.dst_commands.specs.Writing.{Adds, Stops}
 use Rattle.dst_commands.proofs.Writing.{copied}
-use Rattle.std.proofs.lemmas.List.{length-take, length-map, get_or-map, take_all}
+use Rattle.std.proofs.lemmas.List.{length-take, length-map, get_or-map, take_all, take_more}
+use Rattle.std.proofs.lemmas.List.Elements.{filter-append}
 use Rattle.std.proofs.Math.Nat.{mul-le-mul, mul-le-mul_right, div-add-mod}
 use Rattle.byteorder.specs.Endian.{big_bytes}
 use Rattle.dsdiff_spec.specs.Chunks.{Head, body_end, next_place}
@@ -101,6 +102,32 @@ one_more side file p xs j d b is l e =
     passed_more (goes side form) (bytes_of file p) form.chunks j (head_seen d) (omega arith)
     ∙ ap (λ h. passed_to side file p j ++ (if goes side form h then bytes_of file p h else [])) here
     ∙ ap (λ b. passed_to side file p j ++ (if b then bytes_of file p (head_seen (get_or xs j d)) else [])) e
+
+-- how many of the first j chunks pass
+pub one_more_counted : (side : Side) (p : Passed) (xs : List ChunkHead) (j : ℕ) (d : ChunkHead) (b : Bool) → (form_of p).chunks ≡ map head_seen xs →
+    j < length xs →
+    goes side (form_of p) (head_seen (get_or xs j d)) ≡ b →
+    length (filter (goes side (form_of p)) (take (j + 1) (form_of p).chunks))
+    ≡ length (filter (goes side (form_of p)) (take j (form_of p).chunks)) + (if b then 1 else 0)
+one_more_counted side p xs j d b is l e =
+    let form = form_of p in
+    let front = take j form.chunks in
+    let next = get_or form.chunks j (head_seen d) in
+    let long : length form.chunks ≡ length xs = ap length is ∙ length-map xs head_seen in
+    let here : next ≡ head_seen (get_or xs j d) =
+    ap (λ hs. get_or hs j (head_seen d)) is ∙ get_or-map head_seen xs j d (head_seen d) l in
+    ap (λ hs. length (filter (goes side form) hs)) (take_more form.chunks j (head_seen d) (omega arith))
+    ∙ ap length (filter-append (goes side form) front (next ∷ []))
+    ∙ length-append (filter (goes side form) front) (filter (goes side form) (next ∷ []))
+    ∙ ap (λ n. length (filter (goes side form) front) + n)
+    (ap (λ h. length (filter (goes side form) (h ∷ []))) here
+    ∙ alone (goes side form (head_seen (get_or xs j d))) b (head_seen (get_or xs j d)) e)
+  where
+    alone : (a b : Bool) (h : Head) → a ≡ b → length (if a then h ∷ [] else []) ≡ (if b then 1 else 0)
+    alone true true h e = refl
+    alone false false h e = refl
+    alone true false h e = absurd cc
+    alone false true h e = absurd cc
 
 pub one_more_passed : (side : Side) (file : List ℕ) (p : Passed) (xs : List ChunkHead) (j : ℕ) (d : ChunkHead) → (form_of p).chunks ≡ map head_seen xs →
     j < length xs →

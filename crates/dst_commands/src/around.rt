@@ -101,8 +101,8 @@ pub fn write_end<S: Source, K: Sink>(
     }
 }
 
-// Writes the pad byte behind a sound of odd size.
-fn write_pad<K: Sink>(sink: &mut K, sound: u64, pad: u8) -> Result<(), Failed>
+/// Writes the pad byte behind a sound of odd size.
+pub fn write_pad<K: Sink>(sink: &mut K, sound: u64, pad: u8) -> Result<(), Failed>
     ensures cause { HasCause (K.faults sink.old) (K.faults sink.new) result }
     ensures written { MatchResult result
         (λ _. Adds (if sound % 2 == 1 then pad ∷ [] else []) (K.written sink.old) (K.written sink.new) (K.room sink.old) (K.room sink.new))

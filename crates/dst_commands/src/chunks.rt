@@ -1,5 +1,5 @@
 // The chunks that are passed on from one form to another.
-ghost use Rattle.std.specs.Prelude.{◌≡◌, ◌+◌, ◌<◌, ◌≤◌, ◌^◌, ℕ, List, length, map, Contains, Option, Some, true, IfErr, OnOk, MatchResult};
+ghost use Rattle.std.specs.Prelude.{◌≡◌, ◌+◌, ◌<◌, ◌≤◌, ◌^◌, ℕ, List, length, map, filter, Contains, Option, Some, true, IfErr, OnOk, MatchResult};
 ghost use Rattle.std.specs.Option.{option_copied};
 ghost use Rattle.dsdiff_spec.specs.Chunks.{body_end};
 ghost use Rattle.dsdiff_spec.specs.Decoded as decoding;
@@ -152,6 +152,21 @@ fn chunk_length(passed: &Passed<'_>, head: &ChunkHead) -> u64
         Some(cmpr) => prop_length(passed.form.prop(), cmpr),
         None => end_of(passed, head) - head.place,
     }
+}
+
+/// How many chunks are passed on, on one side of the sound.
+pub fn chunks_count(passed: &Passed<'_>, side: Side) -> u32
+    ensures count { result ≡ length (filter (goes side (form_of passed.now)) (form_of passed.now).chunks) }
+    ensures most { result ≤ 1024 }
+{
+    let mut count = 0;
+    for head in passed.form.heads() {
+        if !passes(passed, side, head) {
+            continue;
+        }
+        count += 1;
+    }
+    count
 }
 
 /// Bytes of the chunks that are passed on, on one side of the sound.

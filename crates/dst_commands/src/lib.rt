@@ -19,11 +19,14 @@ mod pieces;
 mod rules;
 mod sizes;
 
-pub use around::{write_end, write_front, write_opening};
-pub use chunks::{FormRef, Passed, Side, chunks_length, pass_chunks};
+pub use around::{write_end, write_front, write_opening, write_pad};
+pub use chunks::{FormRef, Passed, Side, chunks_count, chunks_length, pass_chunks};
 pub use jobs::job_count;
 pub use opened::{AnyForm, FoundFrame, WalkedForm};
 pub use opening::{Rules, open_file};
 pub use pieces::write_any;
-pub use rules::{AllFrames, CheckedFile, FrameByIndex, FrameByWalk, PlainFile, ShownFile};
+pub use rules::{
+    AllFrames, CheckedFile, FrameByIndex, FrameByWalk, PlainFile, ShownFile, coded_of, range_fault,
+    walk_form,
+};
 pub use sizes::sound_size;

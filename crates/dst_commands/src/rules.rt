@@ -49,8 +49,8 @@ pub struct CheckedFile;
 #[derive(Clone, Copy, Drop)]
 pub struct PlainFile;
 
-// A coded form.
-fn coded_of(form: Form) -> Result<CodedForm, FileFault>
+/// The coded form, or the fault of a plain one.
+pub fn coded_of(form: Form) -> Result<CodedForm, FileFault>
     ensures coded { IfOk result (λ f. form ≡ Form.Coded f) }
     ensures plain { IfErr result (λ fault. (fault ≡ FileFault.NotCoded) × ((form_seen form).kind ≡ plain)) }
 {
@@ -60,8 +60,8 @@ fn coded_of(form: Form) -> Result<CodedForm, FileFault>
     }
 }
 
-// Where the frames of a coded form stand.
-fn walk_form<S: Source>(
+/// Where the frames of a coded form stand.
+pub fn walk_form<S: Source>(
     alloc: Global,
     source: &mut S,
     form: CodedForm,
@@ -79,8 +79,8 @@ fn walk_form<S: Source>(
     }
 }
 
-// The fault of a number that names none of some frames.
-fn range_fault(number: u32, frames: u32) -> Option<FileFault>
+/// The fault of a number that names none of some frames.
+pub fn range_fault(number: u32, frames: u32) -> Option<FileFault>
     ensures { result ≡ no_frame number frames }
 {
     if number < frames {

@@ -8,4 +8,9 @@ pub mod Pieces
 pub mod BySize
 pub mod Sized
 pub mod Ending
+mod CutPlaces
+mod CutWhole
+mod CutOutcome
+mod CutCopied
+mod CutRules
 pub mod MadeSounds

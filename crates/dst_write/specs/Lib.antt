@@ -5,4 +5,6 @@ pub mod Jobs
 pub mod Feeding
 pub mod Draining
 pub mod Frames
+pub mod CutLayout
+pub mod Cutting
 pub mod Making

@@ -1,6 +1,5 @@
 -- Of `PROP` with another `CMPR`, or of the chunk as it stands.
-use Rattle.std.proofs.Common.{length, ap, sym, subst, ◌∙◌, arith}
-use Rattle.dsdiff_spec.specs.Written.{prop_with}
+use Rattle.std.proofs.Common.{length, ap, sym, subst, ◌∙◌}
 use Rattle.dsdiff_chunks.specs.Lawful.{IsPropBody}
 use Rattle.dsdiff_chunks.specs.Seen.{head_seen}
 use Rattle.dst_commands.specs.Passing.{form_of, cmpr_of}

@@ -1,5 +1,5 @@
 -- The form's rules, then the command's.
-use Rattle.std.proofs.Common.{Err, Ok, ap, ◌∙◌, refl}
+use Rattle.std.proofs.Common.{Err, Ok, ap, ◌∙◌}
 use Rattle.dsdiff_spec.specs.Refusal.{form_refusal}
 use Rattle.dsdiff_chunks.specs.Forms.{form_seen}
 use Rattle.dsdiff_chunks.proofs.Stopping.{Stops-in}

@@ -1,5 +1,5 @@
 -- The chunks have the plain file's `CMPR`.
-use Rattle.std.proofs.Common.{List, ℕ, length, ap, sym, ◌∙◌, arith, Some, refl}
+use Rattle.std.proofs.Common.{length, ap, ◌∙◌, arith, Some, refl}
 use Rattle.dsdiff_chunks.specs.Forms.{coded_seen}
 use Rattle.dst_commands.specs.Passing.{chunks_on}
 use Rattle.dst_commands.specs.declared.chunks.Side.TheVariants.{Before, Behind}
