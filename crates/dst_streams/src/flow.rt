@@ -1,5 +1,5 @@
 // What a flow of bytes tells, read from its front.
-ghost use Rattle.std.specs.Prelude.{◌≡◌, ◌<◌, ◌≤◌, ℕ, List, length, take, Option, Some, IfOk};
+ghost use Rattle.std.specs.Prelude.{◌≡◌, ◌<◌, ◌≤◌, ℕ, List, length, take, Option, Some, IfOk, OnOk};
 ghost use Rattle.std.specs.List.{AllByRecursion};
 ghost use Rattle.dst_streams.specs.Causes.{HasCause};
 ghost use Rattle.dst_streams.specs.Told.{IsZeroAtEnd, after_piece};
@@ -8,7 +8,7 @@ use crate::Failed;
 
 /// Bytes that come once, in order, such as those of a pipe.
 ///
-/// Its count of faults is a number of 64 bits that stops at `2^64 - 1`.
+/// Its count of faults is a number of 64 bits that stops at `2^64 - 1`. A call that succeeds counts none.
 pub trait Flow {
     /// What is left, or None where the flow tells nothing.
     ghost left: { Self → Option (List ℕ) };
@@ -22,7 +22,8 @@ pub trait Flow {
         ensures count { IfOk result (λ n. n ≤ length out.old) }
         ensures moved { IfOk result (λ n. left self.old ≡ after_piece (take n out.new) (left self.new)) }
         ensures end { IfOk result (λ n. IsZeroAtEnd (left self.old) n) }
-        ensures cause { HasCause (faults self.old) (faults self.new) result };
+        ensures cause { HasCause (faults self.old) (faults self.new) result }
+        ensures quiet { OnOk result (faults self.new ≡ faults self.old) };
 
     /// What is told is bytes.
     ghost told_are_bytes: { (s : Self) (xs : List ℕ) → left s ≡ Some xs → AllByRecursion (λ b. b < 256) xs };

@@ -7,7 +7,7 @@ use crate::Failed;
 
 /// Bytes that are written at the end, or over what was appended, such as a file that is made.
 ///
-/// Its counts are numbers of 64 bits. The count of faults stops at `2^64 - 1`.
+/// Its counts are numbers of 64 bits. The count of faults stops at `2^64 - 1`; a call that succeeds counts none.
 pub trait Sink {
     /// What is written, or None where the sink tells nothing.
     ghost written: { Self → Option (List ℕ) };
@@ -30,7 +30,8 @@ pub trait Sink {
         ensures appended { MatchResult result (λ _. appended self.new ≡ appended self.old + length piece.now) (λ _. appended self.new ≡ appended self.old) }
         ensures most { OnOk result (appended self.old + length piece.now < 2 ^ 64) }
         ensures sure { IsSure (room self.old) (room self.new) (length piece.now) result }
-        ensures cause { HasCause (faults self.old) (faults self.new) result };
+        ensures cause { HasCause (faults self.old) (faults self.new) result }
+        ensures quiet { OnOk result (faults self.new ≡ faults self.old) };
 
     /// Writes the piece over the bytes from `place` on. A call that fails leaves these bytes open, and no others.
     fn overwrite(&mut self, place: u64, piece: &[u8]) -> Result<(), Failed>
@@ -39,7 +40,8 @@ pub trait Sink {
         ensures appended { appended self.new ≡ appended self.old }
         ensures sure { (n : ℕ) → room self.old ≡ Some n → IsOk result }
         ensures room { room self.new ≡ room self.old }
-        ensures cause { HasCause (faults self.old) (faults self.new) result };
+        ensures cause { HasCause (faults self.old) (faults self.new) result }
+        ensures quiet { OnOk result (faults self.new ≡ faults self.old) };
 
     /// Has all that is written put where the sink keeps it for good. It leaves what is written as it is.
     ///
@@ -50,7 +52,8 @@ pub trait Sink {
         ensures sure { (n : ℕ) → room self.old ≡ Some n → IsOk result }
         ensures room { room self.new ≡ room self.old }
         ensures settled { OnOk result (settled self.new ≡ true) }
-        ensures cause { HasCause (faults self.old) (faults self.new) result };
+        ensures cause { HasCause (faults self.old) (faults self.new) result }
+        ensures quiet { OnOk result (faults self.new ≡ faults self.old) };
 
     /// What was appended is part of what is written.
     ghost appended_within: { (s : Self) (xs : List ℕ) → written s ≡ Some xs → appended s ≤ length xs };

@@ -1,5 +1,5 @@
 // What a source of bytes tells, read by place.
-ghost use Rattle.std.specs.Prelude.{◌≡◌, ◌<◌, ℕ, List, length, Option, Some, IsSome, IfOk, MatchResult};
+ghost use Rattle.std.specs.Prelude.{◌≡◌, ◌<◌, ℕ, List, length, Option, Some, IsSome, IfOk, OnOk, OnErr, MatchResult};
 ghost use Rattle.std.specs.List.{AllByRecursion};
 ghost use Rattle.dst_streams.specs.Causes.{HasCause};
 ghost use Rattle.dst_streams.specs.Told.{HoldsFrom, IsReadCount, counted};
@@ -10,7 +10,7 @@ pub struct Failed;
 
 /// Bytes that are read by place, such as a file.
 ///
-/// Its counts are numbers of 64 bits that stop at `2^64 - 1`.
+/// Its counts are numbers of 64 bits that stop at `2^64 - 1`. A call that succeeds counts no fault.
 pub trait Source {
     /// The bytes, or None where the source tells none. No call changes them.
     ghost bytes: { Self → Option (List ℕ) };
@@ -29,8 +29,10 @@ pub trait Source {
         ensures bytes { bytes self.new ≡ bytes self.old }
         ensures size { IfOk result (λ n. known self.new ≡ Some n) }
         ensures stays { (n : ℕ) → known self.old ≡ Some n → known self.new ≡ Some n }
+        ensures unknown { OnErr result (known self.new ≡ known self.old) }
         ensures given { given self.new ≡ given self.old }
-        ensures cause { HasCause (faults self.old) (faults self.new) result };
+        ensures cause { HasCause (faults self.old) (faults self.new) result }
+        ensures quiet { OnOk result (faults self.new ≡ faults self.old) };
 
     /// Reads bytes from `place` on into the front of `out`, and answers how many.
     ///
@@ -43,7 +45,8 @@ pub trait Source {
         ensures count { IfOk result (λ n. (size : ℕ) → known self.old ≡ Some size → IsReadCount size place (length out.old) n) }
         ensures read { IfOk result (λ n. HoldsFrom (bytes self.old) place n out.new) }
         ensures given { MatchResult result (λ n. given self.new ≡ counted (given self.old) n) (λ _. given self.new ≡ given self.old) }
-        ensures cause { HasCause (faults self.old) (faults self.new) result };
+        ensures cause { HasCause (faults self.old) (faults self.new) result }
+        ensures quiet { OnOk result (faults self.new ≡ faults self.old) };
 
     /// The size that is known is the number of bytes that are told.
     ghost size_is_length: { (s : Self) (xs : List ℕ) (n : ℕ) → bytes s ≡ Some xs → known s ≡ Some n → n ≡ length xs };

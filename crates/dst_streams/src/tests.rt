@@ -1,11 +1,13 @@
 // What no clause says: which calls of a device in memory fail, and what real files and streams do.
 mod full_disk;
+mod small_steps;
 
 use super::*;
 use full_disk::FullDisk;
+use small_steps::{BrokenPipe, SmallSteps};
 use std::alloc::Allocator;
 use std::fs::{self, Files};
-use std::io::{self, BufRead, Input, Lines};
+use std::io::{self, BufRead, ErrorKind, Input, Lines};
 use std::test::Fail;
 
 // A standard input that holds five bytes.
@@ -149,13 +151,35 @@ fn a_file_is_made_where_there_is_none(rt: HostRuntime) -> Result<(), Fail> {
     made.append(b"seven ")?;
     made.append(b"b")?;
     made.overwrite(1, b"EV")?;
+    made.append(b"!")?;
     made.finish()?;
+    let size = made.held();
     let mut again = FileSink::new(&rt, "made.bin");
     let refused = again.append(b"x");
+    let reason = again.reason().map(|reason| reason.kind());
     let held = fs::read(&rt, "made.bin")?;
     fs::remove_file(&rt, "made.bin")?;
+    assert_eq!(rt; (size, again.held()), (Some(8), None));
     assert_eq!(rt; refused, Err(Failed));
-    assert_eq!(rt; held.as_slice(), b"sEVen b".as_slice());
+    assert_eq!(rt; reason, Some(ErrorKind::AlreadyExists));
+    assert_eq!(rt; held.as_slice(), b"sEVen b!".as_slice());
+    Ok(())
+}
+
+// A piece and a part of it written over, by a disk that takes them in small steps.
+fn written_in_parts<D: Files>(disk: &D) -> Result<(), Failed> {
+    let mut sink = FileSink::new(disk, "parts.bin");
+    sink.append(b"seven bytes")?;
+    sink.overwrite(6, b"BYTES")
+}
+
+#[test]
+fn a_piece_that_is_taken_in_parts_is_written_whole(rt: HostRuntime) -> Result<(), Fail> {
+    let _ = fs::remove_file(&rt, "parts.bin");
+    written_in_parts(&SmallSteps { rt: &rt })?;
+    let held = fs::read(&rt, "parts.bin")?;
+    fs::remove_file(&rt, "parts.bin")?;
+    assert_eq!(rt; held.as_slice(), b"seven BYTES".as_slice());
     Ok(())
 }
 
@@ -183,9 +207,38 @@ fn a_file_is_read_as_it_is(rt: HostRuntime) -> Result<(), Fail> {
     fs::remove_file(&rt, "read.bin")?;
     let mut absent = FileSource::new(&rt, "read.bin");
     let refused = absent.size();
+    let reason = absent.reason().map(|reason| reason.kind());
     assert_eq!(rt; (size, read, past), (7, 5, 0));
     assert_eq!(rt; out.as_slice(), b"ven b\0".as_slice());
     assert_eq!(rt; refused, Err(Failed));
+    assert_eq!(rt; reason, Some(ErrorKind::NotFound));
+    Ok(())
+}
+
+// The size of a file of this disk.
+fn size_of<D: Files>(disk: &D) -> Result<u64, Failed> {
+    FileSource::new(disk, "any.bin").size()
+}
+
+// A file that ends below the size that it had, a folder, and a file whose size can't be had.
+#[test]
+fn a_file_that_gives_nothing_is_a_failure(rt: HostRuntime) -> Result<(), Fail> {
+    fs::write(&rt, "shrinks.bin", b"seven b")?;
+    let mut source = FileSource::new(&rt, "shrinks.bin");
+    let size = source.size()?;
+    fs::write(&rt, "shrinks.bin", b"se")?;
+    let mut out = [0u8; 4];
+    let behind = source.read_at(2, &mut out);
+    let reason = source.reason().map(|reason| reason.kind());
+    fs::remove_file(&rt, "shrinks.bin")?;
+    assert_eq!(rt;
+        (size, behind, reason),
+        (7, Err(Failed), Some(ErrorKind::UnexpectedEof))
+    );
+    let mut folder = FileSource::new(&rt, ".");
+    folder.size()?;
+    let read = folder.read_at(0, &mut out);
+    assert_eq!(rt; (read, size_of(&FullDisk)), (Err(Failed), Err(Failed)));
     Ok(())
 }
 
@@ -205,6 +258,18 @@ fn standard_input_that_is_empty_is_at_its_end(rt: HostRuntime) -> Result<(), Fai
     let mut out = [0u8; 4];
     let moved = flow.next(&mut out);
     assert_eq!(rt; moved, Ok(0));
+    Ok(())
+}
+
+#[test]
+fn standard_input_that_breaks_off_is_a_failure(rt: HostRuntime) -> Result<(), Fail> {
+    let mut flow = PipeFlow::new(&BrokenPipe);
+    let mut out = [0u8; 3];
+    let first = flow.next(&mut out);
+    let second = flow.next(&mut out);
+    let reason = flow.reason().map(|reason| reason.kind());
+    assert_eq!(rt; (first, second), (Ok(3), Err(Failed)));
+    assert_eq!(rt; reason, Some(ErrorKind::BrokenPipe));
     Ok(())
 }
 

@@ -3,7 +3,7 @@ ghost use Rattle.std.specs.Prelude.{◌≡◌, ◌≤◌, None};
 
 use crate::{Failed, Sink};
 use std::fs::{File, OpenFile};
-use std::io::{Seek, SeekFrom, Write};
+use std::io::{self, ErrorKind, Seek, SeekFrom, Write};
 use std::rt::Files;
 
 /// A file that is made at the first call. It tells no bytes, and has no sure room.
@@ -19,6 +19,7 @@ pub struct FileSink<'p, R: Files> {
     faults: u64,
     /// Whether nothing was written since the file was last synchronised.
     is_settled: bool,
+    reason: Option<io::Error>,
 }
 
 impl<'p, R: Files> FileSink<'p, R> {
@@ -35,7 +36,19 @@ impl<'p, R: Files> FileSink<'p, R> {
             appended: 0,
             faults: 0,
             is_settled: false,
+            reason: None,
         }
+    }
+
+    /// Why the last call that failed did, in the system's words: for people, since no clause says what a system answers.
+    pub fn reason(&self) -> Option<io::Error> {
+        self.reason
+    }
+
+    /// How many bytes the file has, as the system tells it; None where no file was made or the system doesn't tell.
+    pub fn held(&self) -> Option<u64> {
+        let file = self.file.as_ref()?;
+        Some(file.metadata().ok()?.len())
     }
 }
 
@@ -46,20 +59,24 @@ fn write_there<R: Files>(
     file: &mut Option<R::File>,
     to: SeekFrom,
     piece: &[u8],
-) -> Option<()> {
+) -> io::Result<()> {
     if file.is_none() {
-        *file = File::create_new(rt, path).ok();
+        *file = Some(File::create_new(rt, path)?);
     }
-    let file = file.as_mut()?;
-    file.seek(to).ok()?;
-    file.write_all(piece).ok()
+    match file.as_mut() {
+        Some(file) => {
+            file.seek(to)?;
+            file.write_all(piece)
+        }
+        None => Err(ErrorKind::NotFound.into()),
+    }
 }
 
 // Has the system put the file on its disk, where it is made.
-fn synchronise<F: OpenFile>(file: &Option<F>) -> Option<()> {
+fn synchronise<F: OpenFile>(file: &Option<F>) -> io::Result<()> {
     match file {
-        Some(file) => file.sync_all().ok(),
-        None => Some(()),
+        Some(file) => file.sync_all(),
+        None => Ok(()),
     }
 }
 
@@ -81,15 +98,13 @@ impl<'p, R: Files> Sink for FileSink<'p, R> {
     fn append(&mut self, piece: &[u8]) -> Result<(), Failed> {
         self.is_settled = false;
         if let Some(after) = self.appended.checked_add(piece.len() as u64) {
-            if let Some(()) = write_there(
-                self.rt,
-                self.path,
-                &mut self.file,
-                SeekFrom::End(0),
-                piece,
-            ) {
-                self.appended = after;
-                return Ok(());
+            let end = SeekFrom::End(0);
+            match write_there(self.rt, self.path, &mut self.file, end, piece) {
+                Ok(()) => {
+                    self.appended = after;
+                    return Ok(());
+                }
+                Err(reason) => self.reason = Some(reason),
             }
         }
         self.faults = self.faults.saturating_add(1);
@@ -98,15 +113,11 @@ impl<'p, R: Files> Sink for FileSink<'p, R> {
 
     fn overwrite(&mut self, place: u64, piece: &[u8]) -> Result<(), Failed> {
         self.is_settled = false;
-        match write_there(
-            self.rt,
-            self.path,
-            &mut self.file,
-            SeekFrom::Start(place),
-            piece,
-        ) {
-            Some(()) => Ok(()),
-            None => {
+        let there = SeekFrom::Start(place);
+        match write_there(self.rt, self.path, &mut self.file, there, piece) {
+            Ok(()) => Ok(()),
+            Err(reason) => {
+                self.reason = Some(reason);
                 self.faults = self.faults.saturating_add(1);
                 Err(Failed)
             }
@@ -115,11 +126,12 @@ impl<'p, R: Files> Sink for FileSink<'p, R> {
 
     fn finish(&mut self) -> Result<(), Failed> {
         match synchronise(&self.file) {
-            Some(()) => {
+            Ok(()) => {
                 self.is_settled = true;
                 Ok(())
             }
-            None => {
+            Err(reason) => {
+                self.reason = Some(reason);
                 self.faults = self.faults.saturating_add(1);
                 Err(Failed)
             }

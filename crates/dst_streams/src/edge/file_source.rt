@@ -1,9 +1,9 @@
 // A real file that is read.
-ghost use Rattle.std.specs.Prelude.{◌≡◌, ◌<◌, ◌≤◌, None, IfSome, length};
+ghost use Rattle.std.specs.Prelude.{◌≡◌, ◌<◌, ◌≤◌, None, IfOk, length};
 
 use crate::{Failed, Source};
 use std::fs::{File, OpenFile};
-use std::io::{Read, Seek, SeekFrom};
+use std::io::{self, ErrorKind, Read, Seek, SeekFrom};
 use std::rt::Files;
 
 /// A file that is read, opened at the first call. It tells no bytes.
@@ -17,6 +17,7 @@ pub struct FileSource<'p, R: Files> {
     size: Option<u64>,
     faults: u64,
     given: u64,
+    reason: Option<io::Error>,
 }
 
 impl<'p, R: Files> FileSource<'p, R> {
@@ -33,27 +34,41 @@ impl<'p, R: Files> FileSource<'p, R> {
             size: None,
             faults: 0,
             given: 0,
+            reason: None,
         }
+    }
+
+    /// Why the last call that failed did, in the system's words: for people, since no clause says what a system answers.
+    pub fn reason(&self) -> Option<io::Error> {
+        self.reason
     }
 }
 
 // Opens the file where it isn't open, and asks for its size.
-fn opened<R: Files>(rt: &R, path: &str, file: &mut Option<R::File>) -> Option<u64> {
+fn opened<R: Files>(rt: &R, path: &str, file: &mut Option<R::File>) -> io::Result<u64> {
     if file.is_none() {
-        *file = File::open(rt, path).ok();
+        *file = Some(File::open(rt, path)?);
     }
-    let file = file.as_ref()?;
-    Some(file.metadata().ok()?.len())
+    match file.as_ref() {
+        Some(file) => Ok(file.metadata()?.len()),
+        None => Err(ErrorKind::NotFound.into()),
+    }
 }
 
-// Reads from place on, and answers None where nothing came or the file failed.
-fn read_some<F: Read + Seek>(file: &mut Option<F>, place: u64, out: &mut [u8]) -> Option<usize>
-    ensures { IfSome result (λ n. (0 < n) × (n ≤ length out.new)) }
+// Reads from place on. That nothing comes is a failure.
+fn read_some<F: Read + Seek>(file: &mut Option<F>, place: u64, out: &mut [u8]) -> io::Result<usize>
+    ensures { IfOk result (λ n. (0 < n) × (n ≤ length out.new)) }
 {
-    let file = file.as_mut()?;
-    file.seek(SeekFrom::Start(place)).ok()?;
-    let count = file.read(out).ok()?;
-    if count == 0 { None } else { Some(count) }
+    let Some(file) = file.as_mut() else {
+        return Err(ErrorKind::NotFound.into());
+    };
+    file.seek(SeekFrom::Start(place))?;
+    let count = file.read(out)?;
+    if count == 0 {
+        Err(io::Error::new(ErrorKind::UnexpectedEof, "ends below its size"))
+    } else {
+        Ok(count)
+    }
 }
 
 impl<'p, R: Files> Source for FileSource<'p, R> {
@@ -76,11 +91,12 @@ impl<'p, R: Files> Source for FileSource<'p, R> {
             return Ok(size);
         }
         match opened(self.rt, self.path, &mut self.file) {
-            Some(size) => {
+            Ok(size) => {
                 self.size = Some(size);
                 Ok(size)
             }
-            None => {
+            Err(reason) => {
+                self.reason = Some(reason);
                 self.faults = self.faults.saturating_add(1);
                 Err(Failed)
             }
@@ -96,11 +112,12 @@ impl<'p, R: Files> Source for FileSource<'p, R> {
         }
         let want = left.min(out.len() as u64) as usize;
         match read_some(&mut self.file, place, &mut out[..want]) {
-            Some(count) => {
+            Ok(count) => {
                 self.given = self.given.saturating_add(count as u64);
                 Ok(count)
             }
-            None => {
+            Err(reason) => {
+                self.reason = Some(reason);
                 self.faults = self.faults.saturating_add(1);
                 Err(Failed)
             }

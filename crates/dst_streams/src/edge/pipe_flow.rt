@@ -2,7 +2,7 @@
 ghost use Rattle.std.specs.Prelude.{◌≡◌, None};
 
 use crate::{Failed, Flow};
-use std::io::{Input, Read};
+use std::io::{self, Input, Read};
 
 /// Standard input, taken at the first call. It tells nothing.
 #[derive(Drop)]
@@ -10,6 +10,7 @@ pub struct PipeFlow<'r, R: Input> {
     rt: &'r R,
     reader: Option<R::Reader>,
     faults: u64,
+    reason: Option<io::Error>,
 }
 
 impl<'r, R: Input> PipeFlow<'r, R> {
@@ -21,7 +22,13 @@ impl<'r, R: Input> PipeFlow<'r, R> {
             rt,
             reader: None,
             faults: 0,
+            reason: None,
         }
+    }
+
+    /// Why the last call that failed did, in the system's words: for people, since no clause says what a system answers.
+    pub fn reason(&self) -> Option<io::Error> {
+        self.reason
     }
 }
 
@@ -39,7 +46,8 @@ impl<'r, R: Input> Flow for PipeFlow<'r, R> {
         let reader = self.reader.get_or_insert_with(|| rt.reader());
         match reader.read(out) {
             Ok(count) => Ok(count),
-            Err(_) => {
+            Err(reason) => {
+                self.reason = Some(reason);
                 self.faults = self.faults.saturating_add(1);
                 Err(Failed)
             }
