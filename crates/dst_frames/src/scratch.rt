@@ -31,13 +31,15 @@ impl Model for Scratch {
 }
 
 impl Scratch {
-    /// Takes all memory that decoding needs: 132,140 bytes a channel, so 792,840 bytes for six channels, at any rate.
+    /// Takes all memory that decoding needs: 132,140 bytes a channel and 276 besides, so 793,116 bytes for six channels, at any rate.
     pub fn new(alloc: Global, channels: Channels) -> Result<Scratch, AllocError>
         ensures { IfOk result (λ s. s.channels ≡ channels) }
     {
         let count = channels.count();
         let mut tables = Vec::with_capacity(alloc, count)?;
-        let mut states = Vec::with_capacity(alloc, count)?;
+        // Room for one state more than there are. States are written for each sample: were those of two workers on one line of the
+        // processor's cache, each would wait for the other.
+        let mut states = Vec::with_capacity(alloc, count + 1)?;
         for _ in 0..count {
             let one = ChannelTables::new();
             states.push(ChannelState::fresh(&one))?;
