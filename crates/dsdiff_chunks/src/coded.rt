@@ -23,8 +23,8 @@ use dst_num::Channels;
 use dst_streams::Source;
 use std::alloc::Global;
 
-/// The frame count in the first bytes of a coded sound.
-fn count_in(frte: &[u8; 18]) -> Result<u32, FileFault>
+/// The frame count in the first bytes of a coded sound, which are its chunk `FRTE`, or the fault of the first rule that they break.
+pub fn frame_count_in(frte: &[u8; 18]) -> Result<u32, FileFault>
     ensures count { IfOk result (λ n. n ≡ number_at frte.now 12 4) }
     ensures few { IfOk result (λ n. n ≤ 1000000) }
     ensures accepted { IfOk result (λ _. frte_fault frte.now ≡ None) }
@@ -60,7 +60,7 @@ pub fn read_frte<S: Source>(source: &mut S, sound: ChunkHead) -> Result<u32, Ope
     let Ok(()) = read_range(source, sound.place + 12, &mut frte) else {
         return Err(OpenFault::Read);
     };
-    match count_in(&frte) {
+    match frame_count_in(&frte) {
         Ok(frames) => Ok(frames),
         Err(fault) => Err(OpenFault::File(fault)),
     }

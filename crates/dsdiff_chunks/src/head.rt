@@ -28,8 +28,8 @@ pub fn read_head<S: Source>(source: &mut S, place: u64) -> Result<ChunkHead, Fai
     }
 }
 
-// The head of the chunk at a place, from its bytes.
-fn head_of(place: u64, bytes: &[u8; 12]) -> ChunkHead
+/// The head of the chunk at a place, from its bytes.
+pub fn head_of(place: u64, bytes: &[u8; 12]) -> ChunkHead
     ensures { head_seen result ≡ record { id = take 4 bytes.now; place = place; size = number_at bytes.now 4 8 } }
 {
     let mut id = [0; 4];

@@ -35,13 +35,15 @@ mod top;
 mod write;
 mod write_coded;
 
+pub use coded::frame_count_in;
 pub use copy::{CopyFault, copy_range};
 pub use dsdiff_spec::FileFault;
 pub use form::{CodedForm, Form, PlainForm};
-pub use head::read_head;
+pub use head::{head_of, read_head};
 pub use lists::{ChunkHead, Heads, Octets};
 pub use open::{OpenFault, open_form};
 pub use origin::Origin;
+pub use prop::{PropFields, read_prop};
 pub use read::read_range;
 pub use write::{append_all, cmpr_of_prop, prop_length, write_head, write_prop};
 pub use write_coded::{write_entry, write_frame, write_frte, write_origin};

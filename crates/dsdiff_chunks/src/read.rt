@@ -1,6 +1,7 @@
 // Reading a range of a source whole.
 ghost use Rattle.std.specs.Prelude.{◌≡◌, ◌+◌, ◌^◌, ◌<◌, ◌≤◌, ℕ, List, length, Option, Some, OnOk};
 ghost use Rattle.dst_streams.specs.Causes.{HasCause};
+ghost use Rattle.dst_streams.specs.Told.{counted};
 ghost use Rattle.dsdiff_spec.specs.Bytes.{bytes_at};
 
 use dst_streams::{Failed, Source};
@@ -13,6 +14,7 @@ pub fn read_range<S: Source>(source: &mut S, from: u64, out: &mut [u8]) -> Resul
     ensures size_stays { S.known source.new ≡ S.known source.old }
     ensures read { OnOk result ((xs : List ℕ) → S.bytes source.old ≡ Some xs → out.new ≡ bytes_at xs from (length out.old)) }
     ensures given { S.given source.new ≤ S.given source.old + length out.old }
+    ensures given_whole { OnOk result (S.given source.old < 2 ^ 64 → S.given source.new ≡ counted (S.given source.old) (length out.old)) }
     ensures cause { HasCause (S.faults source.old) (S.faults source.new) result }
 {
     let mut place = 0;

@@ -1,5 +1,8 @@
 pub mod Files
 pub mod OddFiles
+pub mod DsfFiles
+pub mod DsfLengths
+pub mod DsfSamples
 pub mod Steps
 pub mod Tiling
 pub mod Finding
@@ -16,11 +19,10 @@ pub mod Keeping
 pub mod Restoring
 pub mod Cuts
 pub mod Passing
-pub mod Commands
 pub mod Texts
 pub mod Refusing
-pub mod Outcomes
 pub mod Ranges
+pub mod Wanted
 pub mod Pieces
 pub mod PassedOn
 pub mod CodedFiles
@@ -30,10 +32,9 @@ pub mod Stopping
 pub mod Settling
 pub mod OneAnswer
 pub mod ByIndex
-pub mod ReadOutcomes
-pub mod WriteOutcomes
-pub mod Shown
 pub mod Progress
-pub mod OneRow
 pub mod InOrder
 pub mod SoundPieces
+pub mod StreamSteps
+pub mod Streaming
+pub mod ManyOfStreams

@@ -1,10 +1,7 @@
 -- What encoding, decoding and cutting write of files.
-use Rattle.std.proofs.Common.{◌≡◌, ℕ, zero, suc, ◌<◌, arith, ◌++◌, List, [], ◌∷◌, take, drop, replicate, refl, inl, sym}
+use Rattle.std.proofs.Common.{◌≡◌, ℕ, arith, ◌++◌, List, [], ◌∷◌, take, drop, replicate, refl}
 use Rattle.std.specs.Prelude.{codes, ⊤}
-use Rattle.dst_spec.specs.Bits.{AreBytes, bits, low_bits}
-use Rattle.dst_spec.specs.Means.{Means}
-use Rattle.std.proofs.lemmas.List.{take_all}
-use Rattle.dst_spec.specs.Sample.{Shape, IsSound, sound_bytes}
+use Rattle.dst_spec.specs.Sample.{IsSound}
 use Rattle.dst_spec.proofs.Certain.{mono}
 use Rattle.dst_spec.proofs.Frames.{frame_with_code_of_zeros, plain_frame_means_its_bytes}
 use Rattle.dst_spec.proofs.Lists.{AreBytes-same}

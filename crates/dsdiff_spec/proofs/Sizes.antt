@@ -1,6 +1,6 @@
 -- How large the plain file may be that a coded one is decoded to.
 use Rattle.std.proofs.Common.{◌≡◌, ℕ, ◌+◌, ◌-◌, ◌*◌, ◌%◌, ◌^◌, ◌<◌, ◌≤◌, ◌==◌, Bool, true, false, if◌then◌else◌, List, [], ◌∷◌, ◌++◌, length, take, drop}
-use Rattle.std.proofs.Common.{get_or, map, flat_map, filter, refl, sym, ap, ◌∙◌, arith, length-append, length-drop, None, ltb-false}
+use Rattle.std.proofs.Common.{get_or, map, flat_map, filter, sym, ap, ◌∙◌, arith, length-append, length-drop, None, ltb-false}
 use Rattle.std.specs.Prelude.{not, ◌&&◌, ◌||◌, min, codes}
 use Rattle.std.specs.List.{concat, AllByRecursion}
 use Rattle.std.proofs.lemmas.List.{length-take, drop-drop}

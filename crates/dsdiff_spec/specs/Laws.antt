@@ -1,5 +1,5 @@
 -- The laws of files, as statements.
-use Rattle.std.specs.Prelude.{◌≡◌, ◌↔◌, ℕ, ◌+◌, ◌-◌, ◌*◌, ◌<◌, ◌≤◌, Bool, true, false, if◌then◌else◌, List, [], ◌∷◌, ◌++◌, get_or, length, take, drop, Some}
+use Rattle.std.specs.Prelude.{◌≡◌, ◌↔◌, ℕ, ◌+◌, ◌-◌, ◌*◌, ◌<◌, ◌≤◌, Bool, true, false, if◌then◌else◌, List, [], ◌∷◌, get_or, length, take, drop}
 use Rattle.std.specs.Prelude.{None}
 use Rattle.std.specs.List.{AllByRecursion, AllZip, concat}
 use Rattle.dst_spec.specs.Bits.{AreBytes}
@@ -16,10 +16,9 @@ use Rattle.dsdiff_spec.specs.Decoded.{Plain, frames_of, plain_cmpr, plain_pad, k
 use Rattle.dsdiff_spec.specs.Cut as cutting
 use Rattle.dsdiff_spec.specs.Cut.{is_last}
 use Rattle.dsdiff_spec.specs.Dsf.{dsf_fault, dsdiff, ToDsf, bare}
-use Rattle.dsdiff_spec.specs.Words.{Word, Command, Task, encode, decode, cut, frame, check, index}
-use Rattle.dsdiff_spec.specs.Rows.{Row, rows, row_task}
+use Rattle.dsdiff_spec.specs.Words.{Command, encode, decode, cut, frame, check, index}
 use Rattle.dsdiff_spec.specs.Refusal.{refusal}
-use Rattle.dsdiff_spec.specs.Outcome.{Answer, done, coded_at, stored_at, OfCommand, Outcome}
+use Rattle.dsdiff_spec.specs.Outcome.{Answer, done, coded_at, stored_at, OfCommand}
 use Rattle.dsdiff_spec.specs.Lines.{coded_line, decoded_line, frame_line}
 
 -- a file that a command accepts
@@ -138,18 +137,6 @@ DsfLaw =
     (f : List ℕ) (picks : Picks) → AreBytes f → dsf_fault f ≡ None → ArePicks picks →
     ToDsf (coded_file picks (dsdiff f)) (accepted (coded_file picks (dsdiff f))) (bare f)
     × ((other : List ℕ) → ToDsf (coded_file picks (dsdiff f)) (accepted (coded_file picks (dsdiff f))) other → other ≡ bare f)
-
--- no words have two rows
-abbrev pub OneRowLaw : Type 0
-OneRowLaw =
-    (words : List Word) (before between behind : List Row) (r s : Row) (t u : Task) →
-    rows ≡ before ++ r ∷ between ++ s ∷ behind → row_task words r ≡ Some t → row_task words s ≡ Some u → ⊥
-
--- words and a file have one outcome
-abbrev pub OneOutcomeLaw : Type 0
-OneOutcomeLaw =
-    (words : List Word) (file : List ℕ) → AreBytes file →
-    (o : Answer) × Outcome words file o × ((other : Answer) → Outcome words file other → other ≡ o)
 
 -- where the index of a coded file is its walk, a frame is found by either, and the outcome is the same
 abbrev pub SameByIndexLaw : Type 0

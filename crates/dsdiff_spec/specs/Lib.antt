@@ -14,7 +14,6 @@ pub mod Samples
 pub mod Made
 pub mod Dsf
 pub mod Words
-pub mod Rows
 pub mod Refusal
 pub mod Texts
 pub mod Lines
@@ -23,3 +22,4 @@ pub mod Outcome
 pub mod Laws
 pub mod Pieces
 pub mod Progress
+pub mod Streams

@@ -1,5 +1,4 @@
--- The one outcome of a run: the status, what is written, and the lines of the report. Commands on DSF files and on parts of the sound
--- have none yet.
+-- The one outcome of a run: the status, what is written, and the lines of the report.
 use Rattle.std.specs.Prelude.{◌≡◌, ◌≢◌, ◌⊎◌, ℕ, ◌≤◌, true, false, List, [], ◌∷◌, ◌++◌, ◌+◌, ◌-◌, length, map, take, sum, Option, Some, None}
 use Rattle.std.specs.List.{AllByRecursion, AllZip, enumerate_from}
 use Rattle.dst_spec.specs.Bits.{bits}
@@ -17,10 +16,10 @@ use Rattle.dsdiff_spec.specs.Decoded.{Plain, Before, frames_of}
 use Rattle.dsdiff_spec.specs.Coded as coding
 use Rattle.dsdiff_spec.specs.Cut as cutting
 use Rattle.dsdiff_spec.specs.Made.{made}
-use Rattle.dsdiff_spec.specs.Words.{Word, Command, encode, decode, cut, frame, check, show, show_frame, index, make, make_run}
-use Rattle.dsdiff_spec.specs.Rows.{command_of}
-use Rattle.dsdiff_spec.specs.Refusal.{refusal}
-use Rattle.dsdiff_spec.specs.Lines.{Line, words_line, file_line, frame_fault_line, coded_line, decoded_line, cut_line, frame_line, made_line, made_run_line}
+use Rattle.dsdiff_spec.specs.Dsf.{dsdiff, ToDsf, DsfBefore}
+use Rattle.dsdiff_spec.specs.Ranges.{Sound, range_of, wants, range_before, place_of}
+use Rattle.dsdiff_spec.specs.Words.{Command, encode, decode, cut, frame, check, show, show_frame, index, make, make_run, encode_dsf, decode_dsf, range}
+use Rattle.dsdiff_spec.specs.Lines.{Line, words_line, file_line, frame_fault_line, coded_line, decoded_line, cut_line, frame_line, range_line, made_line, made_run_line}
 use Rattle.dsdiff_spec.specs.Lines.{check_line, show_lines, plain_frame_line, coded_frame_line, index_lines}
 use Rattle.dsdiff_spec.specs.declared.faults.FileFault.{FileFault}
 
@@ -54,10 +53,12 @@ frames_if_coded coded file form = frames_of file form
 
 abbrev pub run : Command → List ℕ → Form → List (ℕ × List ℕ)
 run decode file form = enumerate_from 0 (frames_of file form)
+run decode_dsf file form = enumerate_from 0 (frames_of file form)
 run (frame k false) file form = (k, nth_frame file form k) ∷ []
 run (frame k true) file form = (k, indexed_frame file form k) ∷ []
 run check file form = enumerate_from 0 (frames_if_coded form.kind file form)
 run (show_frame k) file form = (k, nth_frame file form k) ∷ []
+run (range pairs) file form = map (λ w. (w.frame, nth_frame file form w.frame)) (wants form pairs)
 run c file form = []
 
 -- a frame is refused where it offends; one that is only shown, where it offends in front of its code
@@ -69,8 +70,14 @@ abbrev pub NoneRefused : Command → Form → List (ℕ × List ℕ) → Type 0
 NoneRefused c form frames = AllByRecursion (λ f. (fault : FrameFault) → Refuses c (shape form) f.1 fault → ⊥) frames
 
 -- what is written in front of the refused frame, which is frame k
+abbrev pub WritesRangeBefore : List ℕ → Form → List (ℕ × ℕ) → ℕ → List ℕ → Type 0
+WritesRangeBefore file form pairs k out =
+    (sound : List ℕ) × Sound file form sound × (out ≡ range_before form pairs sound (place_of k (wants form pairs)))
+
 abbrev pub WrittenBefore : Command → List ℕ → Form → ℕ → List ℕ → Type 0
 WrittenBefore decode file form k out = Before file form k out
+WrittenBefore decode_dsf file form k out = DsfBefore file form k out
+WrittenBefore (range pairs) file form k out = WritesRangeBefore file form pairs k out
 WrittenBefore c file form k out = out ≡ []
 
 -- the first frame of the run that is refused
@@ -105,13 +112,24 @@ coded_at level file form = coding.coded (level_picks level) file form
 abbrev pub stored_at : ℕ → List ℕ → Form → ℕ
 stored_at level file form = coding.stored_bytes (level_picks level) file form
 
+-- a DSF file is coded as the plain file that stands for it
+abbrev pub coded_dsf : ℕ → List ℕ → Answer
+coded_dsf level file =
+    let form = accepted (dsdiff file) in
+    done (coded_at level (dsdiff file) form) (coded_line form.frames (stored_at level (dsdiff file) form) ∷ [])
+
 -- a made file that is coded at level 2 and decoded: its sound, what is stored of it, and the sound that comes back
 abbrev pub run_line : ℕ → List ℕ → Line
 run_line frames file =
     made_run_line frames (size_of_sound (accepted file)) (stored_at 2 file (accepted file))
     (size_of_sound (accepted (coded_at 2 file (accepted file))))
 
--- of the other commands nothing is done yet
+-- parts of the sound, one after the other
+abbrev pub WritesRange : List ℕ → Form → List (ℕ × ℕ) → Answer → Type 0
+WritesRange file form pairs o =
+    (sound : List ℕ) × Sound file form sound
+    × (o ≡ done (range_of form pairs sound) (range_line (length (range_of form pairs sound)) ∷ []))
+
 abbrev pub Does : Command → List ℕ → Form → Answer → Type 0
 Does (encode level) file form o = o ≡ done (coded_at level file form) (coded_line form.frames (stored_at level file form) ∷ [])
 Does decode file form o =
@@ -127,7 +145,10 @@ Does (show_frame k) file form o = (line : Line) × Shows (shape form) k (nth_fra
 Does index file form o = o ≡ done [] (index_lines (entries file form))
 Does (make start frames channels multiple) file form o = o ≡ done (made start frames channels multiple) (made_line frames ∷ [])
 Does (make_run start frames channels multiple) file form o = o ≡ done [] (run_line frames (made start frames channels multiple) ∷ [])
-Does c file form o = ⊥
+Does (encode_dsf level) file form o = o ≡ coded_dsf level file
+Does decode_dsf file form o =
+    (out : List ℕ) × ToDsf file form out × (o ≡ done out (decoded_line form.frames (size_of_sound form) ∷ []))
+Does (range pairs) file form o = WritesRange file form pairs o
 
 abbrev pub IsDone : Command → List ℕ → Form → Answer → Type 0
 IsDone c file form o = NoneRefused c form (run c file form) × Does c file form o
@@ -136,10 +157,3 @@ IsDone c file form o = NoneRefused c form (run c file form) × Does c file form 
 abbrev pub OfCommand : Command → List ℕ → Option FileFault → Answer → Type 0
 OfCommand c file (Some fault) o = o ≡ file_refused fault
 OfCommand c file None o = IsStopped c file (accepted file) o ⊎ IsDone c file (accepted file) o
-
-abbrev pub OfWords : Option Command → List ℕ → Answer → Type 0
-OfWords None file o = o ≡ not_understood
-OfWords (Some c) file o = OfCommand c file (refusal c file) o
-
-abbrev pub Outcome : List Word → List ℕ → Answer → Type 0
-Outcome words file o = OfWords (command_of words) file o

@@ -1,15 +1,5 @@
 // Laws of files. The functions do nothing: their clauses are what is proved.
-ghost use Rattle.dsdiff_spec.specs.Laws.{OneOutcomeLaw, OneRowLaw, SameByIndexLaw};
-
-/// No words have two rows.
-pub fn one_row()
-    ensures { OneRowLaw }
-{}
-
-/// Words and a file have one outcome.
-pub fn one_outcome()
-    ensures { OneOutcomeLaw }
-{}
+ghost use Rattle.dsdiff_spec.specs.Laws.{SameByIndexLaw};
 
 /// Where the index of a coded file is its walk, a frame that is found by the index has the outcome of the walk.
 pub fn same_by_index()

@@ -14,8 +14,8 @@ ghost use Rattle.dst_commands.specs.Writing.{Adds, Stops};
 use crate::faults::{ListFault, Reported};
 use dsdiff_chunks::OpenFault;
 use dst_commands::{AllFrames, WalkedForm, open_file};
+use dst_lines::lines::{self, Line};
 use dst_streams::{Failed, Sink, Source};
-use dst_words::lines::{self, Line};
 use frame_index::Index;
 use std::alloc::Global;
 

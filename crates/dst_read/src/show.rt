@@ -18,8 +18,8 @@ use crate::faults::{Reported, ShowFault};
 use crate::summary::{report_coded, report_plain};
 use dsdiff_chunks::{OpenFault, read_range};
 use dst_commands::{AnyForm, FoundFrame, FrameByWalk, ShownFile, open_file};
+use dst_lines::lines::{self, Line};
 use dst_streams::{Failed, Sink, Source};
-use dst_words::lines::{self, Line};
 use frame_header::{FrameView, view_frame};
 use std::alloc::Global;
 

@@ -11,9 +11,9 @@ ghost use Rattle.dst_read.specs.Reporting.{summary_of};
 use crate::listing::report_lines;
 use dsdiff_chunks::{ChunkHead, PlainForm};
 use dst_commands::{WalkedForm, sound_size};
+use dst_lines::lines::{self, Line};
 use dst_num::Channels;
 use dst_streams::{Failed, Sink};
-use dst_words::lines::{self, Line};
 use frame_index::Index;
 
 // What each form has of the lines of a summary.

@@ -1,5 +1,5 @@
 -- What encoding a file answers is its outcome.
-use Rattle.std.proofs.Common.{◌≡◌, ◌⊎◌, inl, inr, ℕ, ◌≤◌, List, [], ◌∷◌, length, Option, Some, None, Result, Ok, Err, IfOk, refl, ap, sym, subst, ◌∙◌, arith}
+use Rattle.std.proofs.Common.{◌≡◌, inl, inr, ℕ, List, [], ◌∷◌, Option, Some, None, Result, Ok, Err, IfOk, refl, ap, sym, subst, ◌∙◌, arith}
 use Rattle.dst_streams.specs.Told.{and_then}
 use Rattle.level_spec.specs.Picks.{level_picks}
 use Rattle.dsdiff_spec.specs.Coded.{coded, stored_bytes}

@@ -1,5 +1,6 @@
 -- The answer of a command is told from its faults in the words of the report.
-use Rattle.std.proofs.Common.{◌≡◌, ℕ, Result, Ok, Err, IfOk, OnOk, refl, ap, sym, ◌∙◌}
+use Rattle.std.proofs.Common.{◌≡◌, ◌≢◌, ℕ, Result, Ok, Err, IfOk, OnOk, refl, ap, sym, ◌∙◌}
+use Rattle.std.specs.declared.alloc.AllocError.{AllocError}
 use Rattle.dst_spec.specs.declared.faults.FrameFault.{FrameFault}
 use Rattle.dsdiff_chunks.specs.declared.open.OpenFault.TheVariants as opening
 use Rattle.dst_read.specs.declared.faults.DecodeFault.{DecodeFault}
@@ -12,10 +13,16 @@ use Rattle.dst_read.specs.declared.faults.ListFault.{ListFault}
 use Rattle.dst_read.specs.declared.faults.ListFault.TheVariants as listing
 use Rattle.dst_write.specs.declared.faults.EncodeFault.{EncodeFault}
 use Rattle.dst_write.specs.declared.faults.EncodeFault.TheVariants as encoding
+use Rattle.dst_write.specs.declared.cut.CutFault.{CutFault}
+use Rattle.dst_write.specs.declared.cut.CutFault.TheVariants as cutting
+use Rattle.dst_write.specs.declared.make.MakeFault.{MakeFault}
+use Rattle.dst_write.specs.declared.make.MakeFault.TheVariants as making
+use Rattle.dst_tool.specs.declared.making.RunFault.{RunFault}
+use Rattle.dst_tool.specs.declared.making.RunFault.TheVariants as running
 use Rattle.dst_tool.specs.declared.answers.Numbers.{Numbers}
 use Rattle.dst_tool.specs.declared.answers.Fault.{Fault}
 use Rattle.dst_tool.specs.declared.answers.Fault.TheVariants.{Read, Write, Memory, Report, File, Frame}
-use Rattle.dst_tool.specs.Answers.{answered, of_check, of_decode, of_encode, of_list, of_show}
+use Rattle.dst_tool.specs.Answers.{answered, of_check, of_cut, of_decode, of_encode, of_list, of_make, of_run, of_show}
 
 -- what is done is so in these words too
 pub if_answered : {A E : Type 0} (f : A → Numbers) (h : E → Fault) (r : Result A E) (P : Numbers → Type 0) → IfOk r (λ a. P (f a)) → IfOk (answered f h r) P
@@ -159,3 +166,54 @@ list_refuses f (Err (listing.Source opening.Read)) k fault e = absurd cc
 list_refuses f (Err (listing.Source opening.Memory)) k fault e = absurd cc
 list_refuses f (Err (listing.Source (opening.File other))) k fault e = absurd cc
 list_refuses f (Err listing.Report) k fault e = absurd cc
+
+abbrev pub to_cut : Fault → CutFault
+to_cut Read = cutting.Source opening.Read
+to_cut Memory = cutting.Source opening.Memory
+to_cut (File fault) = cutting.Source (opening.File fault)
+to_cut fault = cutting.Write
+
+pub cut_again : (e : CutFault) → to_cut (of_cut e) ≡ e
+cut_again (cutting.Source opening.Read) = refl
+cut_again (cutting.Source opening.Memory) = refl
+cut_again (cutting.Source (opening.File fault)) = refl
+cut_again cutting.Write = refl
+
+pub cut_reports : {A : Type 0} (f : A → Numbers) (r : Result A CutFault) → answered f of_cut r ≡ Err Report → ⊥
+cut_reports f (Ok a) e = absurd cc
+cut_reports f (Err (cutting.Source opening.Read)) e = absurd cc
+cut_reports f (Err (cutting.Source opening.Memory)) e = absurd cc
+cut_reports f (Err (cutting.Source (opening.File fault))) e = absurd cc
+cut_reports f (Err cutting.Write) e = absurd cc
+
+pub cut_refuses : {A : Type 0} (f : A → Numbers) (r : Result A CutFault) (k : ℕ) (fault : FrameFault) → answered f of_cut r ≡ Err (Frame k fault) → ⊥
+cut_refuses f (Ok a) k fault e = absurd cc
+cut_refuses f (Err (cutting.Source opening.Read)) k fault e = absurd cc
+cut_refuses f (Err (cutting.Source opening.Memory)) k fault e = absurd cc
+cut_refuses f (Err (cutting.Source (opening.File other))) k fault e = absurd cc
+cut_refuses f (Err cutting.Write) k fault e = absurd cc
+
+-- making fails by its sink, or memory is refused
+abbrev pub NeitherOf : Fault → Fault → Fault → Type 0
+NeitherOf a b fault = (fault ≢ a) × (fault ≢ b)
+
+pub made_write : {A : Type 0} (f : A → Numbers) (r : Result A MakeFault) → answered f of_make r ≡ Err Write → r ≡ Err making.Write
+made_write f (Ok a) e = absurd cc
+made_write f (Err (making.Memory fault)) e = absurd cc
+made_write f (Err making.Write) e = refl
+
+pub made_memory : {A : Type 0} (f : A → Numbers) (r : Result A MakeFault) (P : Type 0) →
+    ((fault : AllocError) → r ≡ Err (making.Memory fault) → P) → answered f of_make r ≡ Err Memory → P
+made_memory f (Ok a) P h e = absurd cc
+made_memory f (Err (making.Memory fault)) P h e = h fault refl
+made_memory f (Err making.Write) P h e = absurd cc
+
+pub made_no_other : {A : Type 0} (f : A → Numbers) (r : Result A MakeFault) (fault : Fault) → NeitherOf Write Memory fault → answered f of_make r ≡ Err fault → ⊥
+made_no_other f (Ok a) fault h e = absurd cc
+made_no_other f (Err (making.Memory x)) fault h e = h.1 (sym (same_fault Memory fault e))
+made_no_other f (Err making.Write) fault h e = h.0 (sym (same_fault Write fault e))
+
+-- a run in memory fails by want of memory alone
+pub ran_no_other : {A : Type 0} (f : A → Numbers) (r : Result A RunFault) (fault : Fault) → fault ≢ Memory → answered f of_run r ≡ Err fault → ⊥
+ran_no_other f (Ok a) fault h e = absurd cc
+ran_no_other f (Err running.Memory) fault h e = h (sym (same_fault Memory fault e))

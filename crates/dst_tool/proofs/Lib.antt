@@ -5,3 +5,4 @@ pub mod Runs
 pub mod Inverting
 pub mod Coding
 pub mod MadeRuns
+pub mod MadeOutcomes

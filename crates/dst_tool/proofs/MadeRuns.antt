@@ -1,10 +1,10 @@
 -- What is made of a shape of frames, as the laws of files see it.
-use Rattle.std.proofs.Common.{◌≡◌, inl, inr, ℕ, ◌+◌, ◌*◌, ◌/◌, ◌%◌, ◌≤◌, List, [], length, Option, Some, None, refl, sym, ap, ap₂, subst, ◌∙◌, arith}
+use Rattle.std.proofs.Common.{◌≡◌, inl, inr, ℕ, ◌+◌, ◌*◌, ◌≤◌, List, [], length, Option, Some, None, sym, ap, ◌∙◌, arith}
 use Rattle.dst_streams.specs.Told.{and_then}
 use Rattle.dst_spec.specs.Bits.{AreBytes}
 use Rattle.dst_spec.specs.Sample.{Shape, IsShape, sound_bytes}
 use Rattle.level_spec.specs.Picks.{level_picks}
-use Rattle.dsdiff_spec.specs.Form.{Form, shape_of, size_of_sound}
+use Rattle.dsdiff_spec.specs.Form.{shape_of, size_of_sound}
 use Rattle.dsdiff_spec.specs.Laws.{ComesBack}
 use Rattle.dsdiff_spec.specs.Made.{made_sound, plain_form}
 use Rattle.dsdiff_spec.specs.Outcome.{coded_at}

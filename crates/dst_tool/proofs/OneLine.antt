@@ -1,5 +1,5 @@
 -- A command that reports one line: what it answered, and what the run leaves.
-use Rattle.std.proofs.Common.{◌≡◌, ◌⊎◌, inl, inr, ℕ, ◌+◌, ◌*◌, ◌<◌, ◌≤◌, true, List, [], ◌∷◌, length, Option, Some, None, Result, Ok, Err, refl, ap, sym, subst, ◌∙◌, arith, IfOk}
+use Rattle.std.proofs.Common.{◌≡◌, ◌⊎◌, inl, inr, ℕ, ◌+◌, ◌*◌, ◌<◌, ◌≤◌, true, List, [], ◌∷◌, length, Option, Some, Result, Ok, Err, refl, ap, sym, subst, ◌∙◌, arith, IfOk}
 use Rattle.std.specs.Prelude.{⊤}
 use Rattle.dst_spec.specs.Bits.{AreBytes}
 use Rattle.dst_spec.specs.declared.faults.FrameFault.{FrameFault}
@@ -19,8 +19,8 @@ use Rattle.dst_tool.specs.declared.answers.Fault.{Fault}
 use Rattle.dst_tool.specs.declared.answers.Fault.TheVariants.{Read, Write, Memory, Report, File, Frame}
 use Rattle.dst_tool.specs.Answers.{status_of, done_line, fault_line, line_of}
 use Rattle.dst_commands.specs.Commands.{OutcomeOf}
-use Rattle.dst_tool.specs.Runs.{DidNotRise, WholeOf, PartOf, EndsAsOne, EndsBy, Reports, WritesNowhere, WritesFile, most_given, longest_sound, Counts, Held, IsRun}
-use Rattle.dst_tool.proofs.Statuses.{status_is_done, status_is_read, status_is_write, status_is_memory, status_is_file, status_is_not_words, status_is_below}
+use Rattle.dst_tool.specs.Runs.{WholeOf, PartOf, EndsAsOne, EndsBy, Reports, WritesNowhere, ReadsNothing, WritesFile, most_given, longest_sound, Counts, Held, IsRun}
+use Rattle.dst_tool.proofs.Statuses.{status_is_done, status_is_read, status_is_write, status_is_memory, status_is_file, status_is_frame, status_is_not_words, status_is_below}
 use Rattle.dst_commands.proofs.Writing.{and_then-nothing}
 
 pub record IsAnswer (c : Command) (r : Result Numbers Fault) (file : List ℕ) (old new : Option (List ℕ)) : Type 0 where
@@ -113,23 +113,33 @@ pub record TellsLine (status : ℕ) (line : Line) (result : ℕ) (counts : Count
   pub sure : result ≡ 7 → (n : ℕ) → told.room ≡ Some n → length (report (line ∷ [])) ≤ n → ⊥
 
 -- ---- the run
-pub record HasCauses (c : Command) (r : Result Numbers Fault) (bytes : Option (List ℕ)) (source sink given : Counts) (written : Held) (Same Settled : Type 0) : Type 0 where
+-- an answer that neither the source nor a file gives
+abbrev pub IsNoFileFault : Result Numbers Fault → Type 0
+IsNoFileFault r =
+    (r ≡ Err Read → ⊥) × ((fault : FileFault) → r ≡ Err (File fault) → ⊥) × ((k : ℕ) (fault : FrameFault) → r ≡ Err (Frame k fault) → ⊥)
+
+pub record HasCauses (c : Command) (r : Result Numbers Fault) (bytes : Option (List ℕ)) (source sink given : Counts) (written : Held) (Same Settled Unread : Type 0) : Type 0 where
   pub read : r ≡ Err Read → Rose source.before source.now
   pub write : r ≡ Err Write → Rose sink.before sink.now
   pub sure : r ≡ Err Write → (file : List ℕ) → bytes ≡ Some file → (o : Answer) → OutcomeOf c file o → (n : ℕ) → written.room ≡ Some n → length o.out ≤ n → ⊥
   pub memory : r ≡ Err Memory → Same
   pub untouched : (fault : FileFault) → r ≡ Err (File fault) → Same
   pub idle : WritesNowhere c → Same
+  pub no_write : WritesNowhere c → r ≡ Err Write → ⊥
+  pub unread : ReadsNothing c → Unread
+  pub no_file : ReadsNothing c → IsNoFileFault r
   pub settled : WritesFile c → (s : Numbers) → r ≡ Ok s → Settled
   pub by_index : (k : ℕ) → c ≡ frame k true → (file : List ℕ) → bytes ≡ Some file → given.now ≤ given.before + most_given (sound_bytes_of (accepted file))
   pub any_source : (k : ℕ) → c ≡ frame k true → given.now ≤ given.before + most_given longest_sound
   pub no_report : r ≡ Err Report → ⊥
 
-pub run_of_answer : (c : Command) (r : Result Numbers Fault) (result : ℕ) (bytes : Option (List ℕ)) (source sink counts given : Counts) (written told : Held) (Same Settled : Type 0) → HasOutcome c →
+pub run_of_answer : (c : Command) (r : Result Numbers Fault) (result : ℕ) (bytes : Option (List ℕ)) (source sink counts given : Counts) (written told : Held) (Same Settled Unread : Type 0) → HasOutcome c →
     ((file : List ℕ) → bytes ≡ Some file → AreBytes file) → ((file : List ℕ) → bytes ≡ Some file → IsAnswer c r file written.old written.new) →
-    HasCauses c r bytes source sink given written Same Settled → TellsLine (status_of r) (line_of c r) result counts told → IsRun c result bytes source sink counts given written told Same Settled
-run_of_answer c r result bytes source sink counts given written told Same Settled reads are answer h t = record {
+    (ReadsNothing c → IsAnswer c r [] written.old written.new) →
+    HasCauses c r bytes source sink given written Same Settled Unread → TellsLine (status_of r) (line_of c r) result counts told → IsRun c result bytes source sink counts given written told Same Settled Unread
+run_of_answer c r result bytes source sink counts given written told Same Settled Unread reads are answer made h t = record {
   ends = λ file e. (status_of r, line_of c r ∷ [], answer_ends c r file written.old written.new (answer file e), reports_line (status_of r) result (line_of c r) told.old told.new t.reported t.whole t.cut_short);
+  made = λ w. (status_of r, line_of c r ∷ [], answer_ends c r [] written.old written.new (made w), reports_line (status_of r) result (line_of c r) told.old told.new t.reported t.whole t.cut_short);
   read = λ e. h.read (status_is_read r (status_told (status_of r) result 2 t.reported e (omega arith)));
   write = λ e. h.write (status_is_write r (status_told (status_of r) result 3 t.reported e (omega arith)));
   reported = t.cause;
@@ -139,6 +149,13 @@ run_of_answer c r result bytes source sink counts given written told Same Settle
   memory = λ e. h.memory (status_is_memory r (status_told (status_of r) result 4 t.reported e (omega arith)));
   file_refused = λ e. let f = status_is_file r (status_told (status_of r) result 5 t.reported e (omega arith)) in h.untouched f.0 f.1;
   idle = h.idle;
+  no_write = λ w e. h.no_write w (status_is_write r (status_told (status_of r) result 3 t.reported e (omega arith)));
+  unread = h.unread;
+  no_file = λ w. (
+    λ e. (h.no_file w).0 (status_is_read r (status_told (status_of r) result 2 t.reported e (omega arith))),
+    λ e. let f = status_is_file r (status_told (status_of r) result 5 t.reported e (omega arith)) in (h.no_file w).1 f.0 f.1,
+    λ e. let f = status_is_frame r (status_told (status_of r) result 6 t.reported e (omega arith)) in (h.no_file w).2 f.0 f.1 f.2,
+  );
   settled = λ w e. let d = status_is_done r (status_told (status_of r) result 0 t.reported e (omega arith)) in h.settled w d.0 d.1;
   by_index = h.by_index;
   any_source = h.any_source;
@@ -151,8 +168,8 @@ run_of_answer c r result bytes source sink counts given written told Same Settle
     most (inr e) = omega arith
 
 -- a run of one command is a run of the same one
-pub same_run : {a c : Command} {result : ℕ} {bytes : Option (List ℕ)} {source sink counts given : Counts} {written told : Held} {Same Settled : Type 0} → a ≡ c → IsRun c result bytes source sink counts given written told Same Settled → IsRun a result bytes source sink counts given written told Same Settled
-same_run {a} {c} {result} {bytes} {source} {sink} {counts} {given} {written} {told} {Same} {Settled} e h = subst (λ c. IsRun c result bytes source sink counts given written told Same Settled) (sym e) h
+pub same_run : {a c : Command} {result : ℕ} {bytes : Option (List ℕ)} {source sink counts given : Counts} {written told : Held} {Same Settled Unread : Type 0} → a ≡ c → IsRun c result bytes source sink counts given written told Same Settled Unread → IsRun a result bytes source sink counts given written told Same Settled Unread
+same_run {a} {c} {result} {bytes} {source} {sink} {counts} {given} {written} {told} {Same} {Settled} {Unread} e h = subst (λ c. IsRun c result bytes source sink counts given written told Same Settled Unread) (sym e) h
 
 pub encoding_is_no_frame : (level k : ℕ) → encode level ≡ frame k true → ⊥
 encoding_is_no_frame level k e = absurd cc
@@ -168,6 +185,15 @@ showing_is_no_frame k e = absurd cc
 
 pub showing_one_is_no_frame : (j k : ℕ) → show_frame j ≡ frame k true → ⊥
 showing_one_is_no_frame j k e = absurd cc
+
+pub cutting_is_no_frame : (first last k : ℕ) → cut first last ≡ frame k true → ⊥
+cutting_is_no_frame first last k e = absurd cc
+
+pub making_is_no_frame : (start frames channels multiple k : ℕ) → make start frames channels multiple ≡ frame k true → ⊥
+making_is_no_frame start frames channels multiple k e = absurd cc
+
+pub running_is_no_frame : (start frames channels multiple k : ℕ) → make_run start frames channels multiple ≡ frame k true → ⊥
+running_is_no_frame start frames channels multiple k e = absurd cc
 
 pub listing_is_no_frame : (k : ℕ) → index ≡ frame k true → ⊥
 listing_is_no_frame k e = absurd cc
@@ -201,7 +227,7 @@ nothing_of decode file out old w = absurd w
 nothing_of (cut first last) file out old w = absurd w
 nothing_of (frame k by_index) file out old w = absurd w
 nothing_of (make start frames channels multiple) file out old w = absurd w
-nothing_of (make_run start frames channels multiple) file out old w = absurd w
+nothing_of (make_run start frames channels multiple) file out old w = nothing_cut old out
 nothing_of (encode_dsf level) file out old w = absurd w
 nothing_of decode_dsf file out old w = absurd w
 nothing_of (range pairs) file out old w = absurd w
@@ -216,7 +242,7 @@ not_both_kinds show w f = f
 not_both_kinds (show_frame k) w f = f
 not_both_kinds index w f = f
 not_both_kinds (make start frames channels multiple) w f = w
-not_both_kinds (make_run start frames channels multiple) w f = w
+not_both_kinds (make_run start frames channels multiple) w f = f
 not_both_kinds (encode_dsf level) w f = w
 not_both_kinds decode_dsf w f = w
 not_both_kinds (range pairs) w f = w

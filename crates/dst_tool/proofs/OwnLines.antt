@@ -1,5 +1,5 @@
 -- A command that reports its lines itself: what it answered, and what the run leaves.
-use Rattle.std.proofs.Common.{◌≡◌, ◌≢◌, ◌⊎◌, inl, inr, ℕ, ◌+◌, ◌<◌, ◌≤◌, true, List, [], ◌∷◌, length, Option, Some, None, Result, Ok, Err, refl, ap, sym, subst, ◌∙◌, arith, IfOk}
+use Rattle.std.proofs.Common.{◌≡◌, ◌≢◌, ◌⊎◌, inl, inr, ℕ, ◌≤◌, true, List, [], ◌∷◌, length, Option, Some, Result, Ok, Err, refl, ap, sym, subst, ◌∙◌, arith, IfOk}
 use Rattle.std.specs.Prelude.{⊤}
 use Rattle.dst_spec.specs.Bits.{AreBytes}
 use Rattle.dst_spec.specs.declared.faults.FrameFault.{FrameFault}
@@ -8,15 +8,15 @@ use Rattle.dst_streams.specs.Told.{and_then, IsCutShort}
 use Rattle.dsdiff_spec.specs.declared.faults.FileFault.{FileFault}
 use Rattle.dsdiff_spec.specs.Words.{Command, frame}
 use Rattle.dsdiff_spec.specs.Refusal.{refusal}
-use Rattle.dsdiff_spec.specs.Lines.{Line, report, memory_line, read_fault_line}
-use Rattle.dsdiff_spec.specs.Outcome.{Answer, done, file_refused, frame_refused, OfCommand}
-use Rattle.dsdiff_spec.proofs.OneAnswer.{HasOutcome, command_has_one_outcome}
+use Rattle.dsdiff_spec.specs.Lines.{Line, report}
+use Rattle.dsdiff_spec.specs.Outcome.{Answer, done, file_refused, frame_refused}
+use Rattle.dsdiff_spec.proofs.OneAnswer.{HasOutcome}
 use Rattle.dst_tool.specs.declared.answers.Numbers.{Numbers}
 use Rattle.dst_tool.specs.declared.answers.Fault.{Fault}
 use Rattle.dst_tool.specs.declared.answers.Fault.TheVariants.{Read, Write, Memory, Report, File, Frame}
 use Rattle.dst_tool.specs.Answers.{status_of, fault_line}
 use Rattle.dst_commands.specs.Commands.{OutcomeOf}
-use Rattle.dst_tool.specs.Runs.{DidNotRise, EndsAsOne, EndsBy, Reports, WritesNowhere, Counts, Held, IsRun}
+use Rattle.dst_tool.specs.Runs.{DidNotRise, EndsBy, Reports, WritesNowhere, ReadsNothing, Counts, Held, IsRun}
 use Rattle.dst_tool.proofs.Statuses.{status_is_read, status_is_write, status_is_not_words}
 use Rattle.dst_tool.proofs.OneLine.{refusal_is, whole_of, nothing_of, not_both_kinds, same_lines, reports_line, status_told}
 use Rattle.dst_commands.proofs.Writing.{and_then-nothing}
@@ -171,11 +171,11 @@ at_most (Err Report) result (inl e) = omega arith
 at_most (Err (File fault)) result (inl e) = omega arith
 at_most (Err (Frame k fault)) result (inl e) = omega arith
 
-pub run_of_listing : (c : Command) (r : Result Numbers Fault) (result : ℕ) (bytes : Option (List ℕ)) (source sink counts middle given : Counts) (written told mid : Held) (Same Settled : Type 0) → HasOutcome c → WritesNowhere c → ((k : ℕ) → c ≡ frame k true → ⊥) →
+pub run_of_listing : (c : Command) (r : Result Numbers Fault) (result : ℕ) (bytes : Option (List ℕ)) (source sink counts middle given : Counts) (written told mid : Held) (Same Settled Unread : Type 0) → HasOutcome c → WritesNowhere c → (ReadsNothing c → ⊥) → ((k : ℕ) → c ≡ frame k true → ⊥) →
     ((file : List ℕ) → bytes ≡ Some file → AreBytes file) → written.old ≡ written.new → Same → mid.new ≡ told.new → middle.now ≡ counts.now →
     ((file : List ℕ) → bytes ≡ Some file → IsListing c r file told.old mid.old) → Lists r source counts middle told mid → TellsFault r result middle mid → IsSure r c bytes told →
-    IsRun c result bytes source sink counts given written told Same Settled
-run_of_listing c r result bytes source sink counts middle given written told mid Same Settled reads nowhere not_by_index are still same last_told last_count listing h t sure = record {
+    IsRun c result bytes source sink counts given written told Same Settled Unread
+run_of_listing c r result bytes source sink counts middle given written told mid Same Settled Unread reads nowhere reading not_by_index are still same last_told last_count listing h t sure = record {
   ends = λ file e.
       let ends = listing_ends c r result file written.old source counts middle told mid nowhere last_told (listing file e) h t in
       (ends.0, ends.1, subst (λ w. EndsBy (OutcomeOf c file) (Some c) file ⊤ ends.0 ends.1 written.old w) still ends.2, ends.3);
@@ -187,6 +187,10 @@ run_of_listing c r result bytes source sink counts middle given written told mid
   memory = λ e. same;
   file_refused = λ e. same;
   idle = λ w. same;
+  no_write = λ w e. h.no_write (status_is_write r (status_told (status_of r) result 3 t.reported e (omega arith)));
+  unread = λ w. absurd (reading w);
+  made = λ w. absurd (reading w);
+  no_file = λ w. absurd (reading w);
   settled = λ w e. absurd (not_both_kinds c nowhere w);
   by_index = λ k e. absurd (not_by_index k e);
   any_source = λ k e. absurd (not_by_index k e);

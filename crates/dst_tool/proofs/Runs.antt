@@ -1,17 +1,17 @@
 -- What a run of words leaves, from what its command does.
-use Rattle.std.proofs.Common.{◌≡◌, ◌≢◌, ◌⊎◌, inl, inr, ℕ, ◌+◌, ◌<◌, ◌≤◌, true, false, List, [], ◌∷◌, ◌++◌, length, Option, Some, None, refl, ap, sym, subst, ◌∙◌, arith}
+use Rattle.std.proofs.Common.{◌≡◌, ◌⊎◌, inl, inr, ℕ, true, false, List, [], ◌∷◌, ◌++◌, Option, Some, None, refl, ap, sym, subst, ◌∙◌, arith}
 use Rattle.std.specs.Prelude.{⊤}
 use Rattle.dst_spec.specs.declared.faults.FrameFault.{FrameFault}
-use Rattle.dst_streams.specs.Causes.{Rose}
 use Rattle.dst_streams.specs.Told.{and_then, IsCutShort}
 use Rattle.dsdiff_spec.specs.declared.faults.FileFault.{FileFault}
-use Rattle.dsdiff_spec.specs.Form.{Form, shape}
+use Rattle.dsdiff_spec.specs.Form.{Form}
 use Rattle.dsdiff_spec.specs.Rules.{accepted}
 use Rattle.dsdiff_spec.specs.Words.{Word, Command, encode, decode, cut, frame, check, show, show_frame, index, make, make_run, encode_dsf, decode_dsf, range}
-use Rattle.dsdiff_spec.specs.Rows.{command_of}
+use Rattle.words_spec.specs.Rows.{command_of}
 use Rattle.dsdiff_spec.specs.Refusal.{refusal}
 use Rattle.dsdiff_spec.specs.Lines.{Line, report, words_line, file_line, frame_fault_line}
-use Rattle.dsdiff_spec.specs.Outcome.{Answer, not_understood, file_refused, frame_refused, NoneRefused, run, IsStopped, Does, IsDone, OfCommand, OfWords, Outcome}
+use Rattle.dsdiff_spec.specs.Outcome.{Answer, not_understood, frame_refused, NoneRefused, IsStopped, Does, IsDone, OfCommand}
+use Rattle.words_spec.specs.Outcome.{OfWords, Outcome}
 use Rattle.dsdiff_spec.proofs.Stopping.{not_both}
 use Rattle.dst_commands.specs.Commands.{OutcomeOf}
 use Rattle.dst_tool.specs.Runs.{DidNotRise, WholeOf, PartOf, EndsAsOne, EndsBy, EndsAs, Ends, Reports, IsRefused, NoFrameIsRefused, Counts, Held, IsRun}
@@ -52,9 +52,9 @@ ends_of_words words c file status lines old new e (inr (inr (inr h))) = inr (inr
 abbrev pub Headline : List Word → List ℕ → ℕ → Option (List ℕ) → Option (List ℕ) → Option (List ℕ) → Option (List ℕ) → Type 0
 Headline words file result old new told_old told_new = (result ≡ 4) ⊎ ((lines : List Line) × EndsAs words file result lines old new × (told_new ≡ and_then told_old (report lines)))
 
-pub run_headline : (words : List Word) (c : Command) (file : List ℕ) (result : ℕ) (bytes : Option (List ℕ)) (source sink counts given : Counts) (written told : Held) (Same Settled : Type 0) → command_of words ≡ Some c → IsRun c result bytes source sink counts given written told Same Settled → bytes ≡ Some file →
+pub run_headline : (words : List Word) (c : Command) (file : List ℕ) (result : ℕ) (bytes : Option (List ℕ)) (source sink counts given : Counts) (written told : Held) (Same Settled Unread : Type 0) → command_of words ≡ Some c → IsRun c result bytes source sink counts given written told Same Settled Unread → bytes ≡ Some file →
     DidNotRise source.before source.now → DidNotRise sink.before sink.now → DidNotRise counts.before counts.now → Headline words file result written.old written.new told.old told.new
-run_headline words c file result bytes source sink counts given written told Same Settled e r is no_read no_write no_report = go (r.ends file is).0 (r.ends file is).1 (r.ends file is).2 (r.ends file is).3
+run_headline words c file result bytes source sink counts given written told Same Settled Unread e r is no_read no_write no_report = go (r.ends file is).0 (r.ends file is).1 (r.ends file is).2 (r.ends file is).3
   where
     go : (status : ℕ) (lines : List Line) → EndsBy (OutcomeOf c file) (Some c) file ⊤ status lines written.old written.new → Reports status lines result told.old told.new → Headline words file result written.old written.new told.old told.new
     go status lines ends (inr (seven, piece)) = absurd (no_report (r.reported seven))
@@ -76,9 +76,9 @@ done_is_0 (encode level) file form o e = ap (λ (a : Answer). a.status) e
 done_is_0 (cut first last) file form o e = ap (λ (a : Answer). a.status) e
 done_is_0 (make start frames channels multiple) file form o e = ap (λ (a : Answer). a.status) e
 done_is_0 (make_run start frames channels multiple) file form o e = ap (λ (a : Answer). a.status) e
-done_is_0 (encode_dsf level) file form o h = absurd h
-done_is_0 decode_dsf file form o h = absurd h
-done_is_0 (range pairs) file form o h = absurd h
+done_is_0 (encode_dsf level) file form o e = ap (λ (a : Answer). a.status) e
+done_is_0 decode_dsf file form o (out, to_dsf, e) = ap (λ (a : Answer). a.status) e
+done_is_0 (range pairs) file form o (sound, means, e) = ap (λ (a : Answer). a.status) e
 
 pub run_completes : (words : List Word) (c : Command) (file : List ℕ) (result : ℕ) (old new told_old told_new : Option (List ℕ)) → command_of words ≡ Some c → NoFrameIsRefused words file → Headline words file result old new told_old told_new → (result ≡ 0) ⊎ (result ≡ 4)
 run_completes words c file result old new told_old told_new e none (inl four) = inr four
@@ -95,9 +95,9 @@ refused_file c file o (Some fault) e h five = (fault, e, ap (λ (a : Answer). a.
 refused_file c file o None e (inl s) five = let six = ap (λ (a : Answer). a.status) s.answer in absurd (omega arith)
 refused_file c file o None e (inr h) five = let zero_status = done_is_0 c file (accepted file) o h.1 in absurd (omega arith)
 
-pub run_refused : (words : List Word) (c : Command) (file : List ℕ) (result : ℕ) (bytes : Option (List ℕ)) (source sink counts given : Counts) (written told : Held) (Same Settled : Type 0) → command_of words ≡ Some c → IsRun c result bytes source sink counts given written told Same Settled → bytes ≡ Some file → result ≡ 5 →
+pub run_refused : (words : List Word) (c : Command) (file : List ℕ) (result : ℕ) (bytes : Option (List ℕ)) (source sink counts given : Counts) (written told : Held) (Same Settled Unread : Type 0) → command_of words ≡ Some c → IsRun c result bytes source sink counts given written told Same Settled Unread → bytes ≡ Some file → result ≡ 5 →
     (fault : FileFault) × IsRefused words file fault × (told.new ≡ and_then told.old (report (file_line fault ∷ [])))
-run_refused words c file result bytes source sink counts given written told Same Settled e r is five = go (r.ends file is).0 (r.ends file is).1 (r.ends file is).2 (r.ends file is).3
+run_refused words c file result bytes source sink counts given written told Same Settled Unread e r is five = go (r.ends file is).0 (r.ends file is).1 (r.ends file is).2 (r.ends file is).3
   where
     go : (status : ℕ) (lines : List Line) → EndsBy (OutcomeOf c file) (Some c) file ⊤ status lines written.old written.new → Reports status lines result told.old told.new → (fault : FileFault) × IsRefused words file fault × (told.new ≡ and_then told.old (report (file_line fault ∷ [])))
     go status lines ends (inr (seven, piece)) = absurd (omega arith)
@@ -140,9 +140,9 @@ abbrev FrameIsTold : List Word → List ℕ → Held → Held → Type 0
 FrameIsTold words file written told =
     (k : ℕ) × (fault : FrameFault) × (out : List ℕ) × Outcome words file (frame_refused k fault out) × (written.new ≡ and_then written.old out) × (told.new ≡ and_then told.old (report (frame_fault_line k fault ∷ [])))
 
-pub run_refused_frame : (words : List Word) (c : Command) (file : List ℕ) (result : ℕ) (bytes : Option (List ℕ)) (source sink counts given : Counts) (written told : Held) (Same Settled : Type 0) → command_of words ≡ Some c → IsRun c result bytes source sink counts given written told Same Settled → bytes ≡ Some file → result ≡ 6 →
+pub run_refused_frame : (words : List Word) (c : Command) (file : List ℕ) (result : ℕ) (bytes : Option (List ℕ)) (source sink counts given : Counts) (written told : Held) (Same Settled Unread : Type 0) → command_of words ≡ Some c → IsRun c result bytes source sink counts given written told Same Settled Unread → bytes ≡ Some file → result ≡ 6 →
     FrameIsTold words file written told
-run_refused_frame words c file result bytes source sink counts given written told Same Settled e r is six = go (r.ends file is).0 (r.ends file is).1 (r.ends file is).2 (r.ends file is).3
+run_refused_frame words c file result bytes source sink counts given written told Same Settled Unread e r is six = go (r.ends file is).0 (r.ends file is).1 (r.ends file is).2 (r.ends file is).3
   where
     go : (status : ℕ) (lines : List Line) → EndsBy (OutcomeOf c file) (Some c) file ⊤ status lines written.old written.new → Reports status lines result told.old told.new → FrameIsTold words file written told
     go status lines ends (inr (seven, piece)) = absurd (omega arith)

@@ -1,7 +1,10 @@
 -- The status and the line of what a command answers.
-use Rattle.std.specs.Prelude.{ℕ, List, [], ⊤, Result, Ok, Err}
-use Rattle.dsdiff_spec.specs.Words.{Command, encode, decode, cut, frame, check, show, show_frame, index, make, make_run, encode_dsf, decode_dsf, range}
-use Rattle.dsdiff_spec.specs.Lines.{Line, read_fault_line, write_fault_line, memory_line, file_line, frame_fault_line, coded_line, decoded_line, frame_line, check_line}
+use Rattle.std.specs.Prelude.{ℕ, ◌*◌, [], ⊤, Result, Ok, Err}
+use Rattle.dst_spec.specs.Sample.{sound_bytes}
+use Rattle.dsdiff_spec.specs.Form.{shape_of}
+use Rattle.dsdiff_spec.specs.Words.{Command, encode, decode, cut, frame, check, make, make_run}
+use Rattle.dsdiff_spec.specs.Lines.{Line, read_fault_line, write_fault_line, memory_line, file_line, frame_fault_line, coded_line, decoded_line, cut_line}
+use Rattle.dsdiff_spec.specs.Lines.{frame_line, check_line, made_line, made_run_line}
 use Rattle.dsdiff_chunks.specs.declared.open.OpenFault.{OpenFault}
 use Rattle.dsdiff_chunks.specs.declared.open.OpenFault.TheVariants as opening
 use Rattle.dst_read.specs.declared.faults.DecodeFault.{DecodeFault}
@@ -14,6 +17,12 @@ use Rattle.dst_read.specs.declared.faults.ListFault.{ListFault}
 use Rattle.dst_read.specs.declared.faults.ListFault.TheVariants as listing
 use Rattle.dst_write.specs.declared.faults.EncodeFault.{EncodeFault}
 use Rattle.dst_write.specs.declared.faults.EncodeFault.TheVariants as encoding
+use Rattle.dst_write.specs.declared.cut.CutFault.{CutFault}
+use Rattle.dst_write.specs.declared.cut.CutFault.TheVariants as cutting
+use Rattle.dst_write.specs.declared.make.MakeFault.{MakeFault}
+use Rattle.dst_write.specs.declared.make.MakeFault.TheVariants as making
+use Rattle.dst_tool.specs.declared.making.RunFault.{RunFault}
+use Rattle.dst_tool.specs.declared.making.RunFault.TheVariants as running
 use Rattle.dst_tool.specs.declared.answers.Numbers.{Numbers}
 use Rattle.dst_tool.specs.declared.answers.Fault.{Fault}
 use Rattle.dst_tool.specs.declared.answers.Fault.TheVariants.{Read, Write, Memory, Report, File, Frame}
@@ -31,15 +40,22 @@ status_of (Err Report) = 7
 abbrev pub done_line : Command → Numbers → Line
 done_line (encode level) s = coded_line s.frames s.bytes
 done_line decode s = decoded_line s.frames s.bytes
+done_line (cut first last) s = cut_line s.frames
 done_line (frame k by_index) s = frame_line k s.bytes
 done_line check s = check_line s.frames s.unread
+done_line (make start frames channels multiple) s = made_line s.frames
+done_line (make_run start frames channels multiple) s =
+    made_run_line s.frames (s.frames * sound_bytes (shape_of channels multiple)) s.bytes s.restored
 done_line c s = []
 
 abbrev pub TellsOneLine : Command → Type 0
 TellsOneLine (encode level) = ⊤
 TellsOneLine decode = ⊤
+TellsOneLine (cut first last) = ⊤
 TellsOneLine (frame k by_index) = ⊤
 TellsOneLine check = ⊤
+TellsOneLine (make start frames channels multiple) = ⊤
+TellsOneLine (make_run start frames channels multiple) = ⊤
 TellsOneLine c = ⊥
 
 -- a failed report has no line
@@ -68,6 +84,17 @@ of_source (opening.File fault) = File fault
 abbrev pub of_encode : EncodeFault → Fault
 of_encode (encoding.Source fault) = of_source fault
 of_encode encoding.Write = Write
+
+abbrev pub of_cut : CutFault → Fault
+of_cut (cutting.Source fault) = of_source fault
+of_cut cutting.Write = Write
+
+abbrev pub of_make : MakeFault → Fault
+of_make (making.Memory fault) = Memory
+of_make making.Write = Write
+
+abbrev pub of_run : RunFault → Fault
+of_run running.Memory = Memory
 
 abbrev pub of_decode : DecodeFault → Fault
 of_decode (decoding.Source fault) = of_source fault

@@ -3,12 +3,13 @@ use Rattle.std.specs.Prelude.{◌≡◌, ◌≢◌, ◌⊎◌, ℕ, ◌+◌, ◌
 use Rattle.dst_streams.specs.Causes.{Rose}
 use Rattle.dst_streams.specs.Told.{and_then, IsCutShort}
 use Rattle.dsdiff_spec.specs.Form.{sound_bytes_of}
-use Rattle.dsdiff_spec.specs.Words.{Word, Command, encode, decode, cut, frame, check, show, show_frame, index, make}
-use Rattle.dsdiff_spec.specs.Rows.{command_of}
+use Rattle.dsdiff_spec.specs.Words.{Word, Command, encode, decode, cut, frame, check, show, show_frame, index, make, make_run}
+use Rattle.words_spec.specs.Rows.{command_of}
 use Rattle.dsdiff_spec.specs.Lines.{Line, report, read_fault_line, write_fault_line, memory_line}
 use Rattle.dsdiff_spec.specs.Refusal.{refusal}
 use Rattle.dsdiff_spec.specs.Rules.{accepted}
-use Rattle.dsdiff_spec.specs.Outcome.{Answer, Outcome, NoneRefused, run}
+use Rattle.dsdiff_spec.specs.Outcome.{Answer, NoneRefused, run}
+use Rattle.words_spec.specs.Outcome.{Outcome}
 use Rattle.dsdiff_spec.specs.declared.faults.FileFault.{FileFault}
 use Rattle.dst_commands.specs.Commands.{OutcomeOf}
 use Rattle.dst_write.specs.Unfinished.{HoldsNothing, HoldsUnfinished, sound_size_place}
@@ -75,7 +76,14 @@ WritesNowhere check = ⊤
 WritesNowhere show = ⊤
 WritesNowhere (show_frame k) = ⊤
 WritesNowhere index = ⊤
+WritesNowhere (make_run start frames channels multiple) = ⊤
 WritesNowhere c = ⊥
+
+-- one that makes no call on the source: it makes its sound
+abbrev pub ReadsNothing : Command → Type 0
+ReadsNothing (make start frames channels multiple) = ⊤
+ReadsNothing (make_run start frames channels multiple) = ⊤
+ReadsNothing c = ⊥
 
 -- one that writes a file
 abbrev pub WritesFile : Command → Type 0
@@ -105,8 +113,8 @@ pub record Held : Type 0 where
   pub room : Option ℕ
 
 -- What one command leaves over a source that may tell its bytes: `Same` says that the sink is what it was, `Settled` that all it holds is
--- where it keeps it for good.
-pub record IsRun (c : Command) (status : ℕ) (bytes : Option (List ℕ)) (source sink report_counts given : Counts) (written told : Held) (Same Settled : Type 0) : Type 0 where
+-- where it keeps it for good, and `Unread` that the source is what it was.
+pub record IsRun (c : Command) (status : ℕ) (bytes : Option (List ℕ)) (source sink report_counts given : Counts) (written told : Held) (Same Settled Unread : Type 0) : Type 0 where
   pub ends : (file : List ℕ) → bytes ≡ Some file →
       (wanted : ℕ) × (lines : List Line) × EndsBy (OutcomeOf c file) (Some c) file ⊤ wanted lines written.old written.new × Reports wanted lines status told.old told.new
   pub read : status ≡ 2 → Rose source.before source.now
@@ -118,6 +126,11 @@ pub record IsRun (c : Command) (status : ℕ) (bytes : Option (List ℕ)) (sourc
   pub memory : status ≡ 4 → Same
   pub file_refused : status ≡ 5 → Same
   pub idle : WritesNowhere c → Same
+  pub no_write : WritesNowhere c → status ≢ 3
+  pub unread : ReadsNothing c → Unread
+  pub made : ReadsNothing c →
+      (wanted : ℕ) × (lines : List Line) × EndsBy (OutcomeOf c []) (Some c) [] ⊤ wanted lines written.old written.new × Reports wanted lines status told.old told.new
+  pub no_file : ReadsNothing c → (status ≢ 2) × (status ≢ 5) × (status ≢ 6)
   pub settled : WritesFile c → status ≡ 0 → Settled
   pub by_index : (k : ℕ) → c ≡ frame k true → (file : List ℕ) → bytes ≡ Some file → given.now ≤ given.before + most_given (sound_bytes_of (accepted file))
   pub any_source : (k : ℕ) → c ≡ frame k true → given.now ≤ given.before + most_given longest_sound

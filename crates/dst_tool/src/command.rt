@@ -3,15 +3,19 @@ ghost use Rattle.std.specs.Prelude.{◌≡◌, ◌≢◌, ◌⊎◌, ◌<◌, �
 ghost use Rattle.dst_streams.specs.Causes.{Rose};
 ghost use Rattle.dst_streams.specs.Told.{IsCutShort, and_then};
 ghost use Rattle.dsdiff_spec.specs.Lines as reports;
-ghost use Rattle.dst_words.specs.Commands.{command_seen, LevelIsKnown};
+ghost use Rattle.dst_words.specs.Commands.{command_seen, NumbersAreLawful};
 ghost use Rattle.dst_tool.specs.Answers.{status_of, done_line, fault_line, line_of, TellsOneLine};
 ghost use Rattle.dst_tool.specs.Runs.{IsRun, Counts, Held};
 
-use crate::answers::{Fault, Numbers, checked, decoded, encoded, frame_written, listed, shown};
+use crate::answers::{
+    Fault, Numbers, checked, cut_out, decoded, encoded, frame_written, listed, made, ran, shown,
+};
+use crate::making::make_run;
+use dst_lines::lines;
 use dst_read::{check_file, decode_file, frame_out, index_file, show_file};
 use dst_streams::{Sink, Source};
-use dst_words::{Command, lines};
-use dst_write::encode_file;
+use dst_words::Command;
+use dst_write::{cut_file, encode_file, make_file};
 use filter_analyser::LevelPicker;
 use frame_crew::OpenGate;
 use std::alloc::Global;
@@ -29,13 +33,13 @@ pub(crate) fn run_command<E: Threads + Sync, S: Source, K: Sink, R: Sink>(
 ) -> u8
     requires least { 1 ≤ workers }
     requires most { workers ≤ 16 }
-    requires level { LevelIsKnown command }
+    requires numbers { NumbersAreLawful command }
     ensures { IsRun (command_seen command) result (S.bytes source.old)
         (record { before = S.faults source.old; now = S.faults source.new }) (record { before = K.faults sink.old; now = K.faults sink.new })
         (record { before = R.faults report.old; now = R.faults report.new }) (record { before = S.given source.old; now = S.given source.new })
         (record { old = K.written sink.old; new = K.written sink.new; room = K.room sink.old })
         (record { old = R.written report.old; new = R.written report.new; room = R.room report.old })
-        (sink.new ≡ sink.old) (K.settled sink.new ≡ true) }
+        (sink.new ≡ sink.old) (K.settled sink.new ≡ true) (source.new ≡ source.old) }
 {
     match command {
         Command::Encode { level } => {
@@ -48,6 +52,10 @@ pub(crate) fn run_command<E: Threads + Sync, S: Source, K: Sink, R: Sink>(
         Command::Decode => {
             let answer = decode_file(rt, alloc, source, sink, workers, &OpenGate);
             tell(report, command, decoded(answer))
+        }
+        Command::Cut { first, last } => {
+            let answer = cut_file(alloc, source, sink, first, last);
+            tell(report, command, cut_out(answer))
         }
         Command::Frame { frame, by_index } => {
             let answer = frame_out(alloc, source, sink, frame, by_index);
@@ -68,6 +76,22 @@ pub(crate) fn run_command<E: Threads + Sync, S: Source, K: Sink, R: Sink>(
         Command::Index => {
             let answer = index_file(alloc, source, report);
             tell_fault(report, listed(answer))
+        }
+        Command::Make {
+            start,
+            frames,
+            channels,
+        } => {
+            let answer = make_file(alloc, sink, start, frames, channels);
+            tell(report, command, made(answer))
+        }
+        Command::MakeRun {
+            start,
+            frames,
+            channels,
+        } => {
+            let answer = make_run(rt, alloc, start, frames, channels, &OpenGate);
+            tell(report, command, ran(answer))
         }
     }
 }
@@ -122,8 +146,14 @@ fn done_line(command: Command, done: Numbers) -> lines::Line
     match command {
         Command::Encode { .. } => lines::coded(done.frames, done.bytes),
         Command::Decode => lines::decoded(done.frames, done.bytes),
+        Command::Cut { .. } => lines::cut(done.frames),
         Command::Frame { frame, .. } => lines::frame_written(frame, done.bytes),
         Command::Check => lines::checked(done.frames, done.unread),
+        Command::Make { .. } => lines::made(done.frames),
+        Command::MakeRun { channels, .. } => {
+            let sound = u64::from(done.frames) * channels.sound_bytes() as u64;
+            lines::made_run(done.frames, sound, done.bytes, done.restored)
+        }
         _ => unreachable!(),
     }
 }

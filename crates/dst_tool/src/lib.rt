@@ -1,8 +1,8 @@
 //! The commands of the coder, and the call that reads words and runs them.
 //!
 //! [`dst_run`] does all that the program does: it reads the words, runs their command over a source and a sink, reports
-//! lines of text, and answers the status. [`encode_file`], [`decode_file`], [`check_file`], [`frame_out`], [`show_file`] and
-//! [`index_file`] are the commands alone.
+//! lines of text, and answers the status. [`encode_file`], [`decode_file`], [`cut_file`], [`frame_out`], [`check_file`],
+//! [`show_file`], [`index_file`], [`make_file`] and [`make_run`] are the commands alone.
 //!
 //! ```text
 //! let mut source = FileSource::new(&rt, "in.dff");
@@ -27,8 +27,10 @@ pub use dst_read::{
     check_file, decode_file, frame_out, index_file, show_file,
 };
 pub use dst_words::{Command, Task, read_words};
-pub use dst_write::{EncodeFault, Encoded, encode_file};
-pub use making::make_run;
+pub use dst_write::{
+    Cut, CutFault, EncodeFault, Encoded, Made, MakeFault, cut_file, encode_file, make_file,
+};
+pub use making::{RunFault, make_run};
 pub use run::dst_run;
 
 #[cfg(test)]

@@ -29,6 +29,19 @@ const WORKERS: u32 = 4;
 // The least level at which all is tried.
 const LEVEL: u32 = 2;
 
+/// Why made sound wasn't coded and decoded in memory.
+#[derive(Clone, Copy, Debug, Drop, PartialEq, Eq)]
+pub enum RunFault {
+    /// Memory was refused.
+    Memory,
+}
+
+impl From<AllocError> for RunFault {
+    fn from(_fault: AllocError) -> RunFault {
+        RunFault::Memory
+    }
+}
+
 /// Makes a file of made sound in memory, so many frames, 0 to 100, from the number `start`; codes it at level 2, and decodes what was
 /// coded. Answers what the two came to.
 ///
@@ -40,12 +53,13 @@ pub fn make_run<R: Threads + Sync, G: Gate>(
     frames: u32,
     channels: Channels,
     gate: &G,
-) -> Result<(Encoded, Decoded), AllocError>
+) -> Result<(Encoded, Decoded), RunFault>
     requires most { frames ≤ 100 }
     // as many frames as were made; what is stored of them, and the sound that comes back
     ensures frames { IfOk result (λ r. (r.0.frames ≡ frames) × (r.1.frames ≡ frames)) }
     ensures coded { IfOk result (λ r. r.0.bytes ≡ stored_at 2 (made_file start frames channels) (accepted (made_file start frames channels))) }
     ensures restored { IfOk result (λ r. r.1.bytes ≡ frames * sound_bytes channels) }
+    ensures shape { IsShape channels }
     // which are the numbers of its line
     ensures line { IfOk result (λ r. run_line frames (made_file start frames channels) ≡ made_run_line frames (frames * sound_bytes channels) r.0.bytes r.1.bytes) }
 {
@@ -85,14 +99,14 @@ fn make_whole<K: Sink>(
     start: u32,
     frames: u32,
     channels: Channels,
-) -> Result<(), AllocError>
+) -> Result<(), RunFault>
     requires most { frames ≤ 1000 }
     requires room { (room : ℕ) × (K.room sink.old ≡ Some room) × (length (made_file start frames channels) ≤ room) }
     ensures { IfOk result (λ _. K.written sink.new ≡ and_then (K.written sink.old) (made_file start frames channels)) }
 {
     match make_file(alloc, sink, start, frames, channels) {
         Ok(_) => Ok(()),
-        Err(MakeFault::Memory(fault)) => Err(fault),
+        Err(MakeFault::Memory(_)) => Err(RunFault::Memory),
         Err(MakeFault::Write) => unreachable!(),
     }
 }
@@ -104,7 +118,7 @@ fn code_whole<R: Threads + Sync, K: Sink, G: Gate>(
     made: &[u8],
     sink: &mut K,
     gate: &G,
-) -> Result<Encoded, AllocError>
+) -> Result<Encoded, RunFault>
     requires accepted { refusal (encode 2) made.now ≡ None }
     requires empty { HoldsNothing (K.written sink.old) }
     requires room { (room : ℕ) × (K.room sink.old ≡ Some room) × (length (coded_at 2 made.now (accepted made.now)) ≤ room) }
@@ -118,7 +132,7 @@ fn code_whole<R: Threads + Sync, K: Sink, G: Gate>(
     };
     match encode_file(rt, alloc, &mut source, sink, &picker, WORKERS, gate) {
         Ok(encoded) => Ok(encoded),
-        Err(EncodeFault::Source(OpenFault::Memory)) => Err(AllocError),
+        Err(EncodeFault::Source(OpenFault::Memory)) => Err(RunFault::Memory),
         Err(EncodeFault::Source(OpenFault::Read)) => unreachable!(),
         Err(EncodeFault::Source(OpenFault::File(_))) => unreachable!(),
         Err(EncodeFault::Write) => unreachable!(),
@@ -132,7 +146,7 @@ fn restore_whole<R: Threads + Sync, K: Sink, G: Gate>(
     coded: &[u8],
     sink: &mut K,
     gate: &G,
-) -> Result<Decoded, AllocError>
+) -> Result<Decoded, RunFault>
     requires outcome { (out : List ℕ) × (line : Line) × IsTheOutcome decode coded.now (done out (line ∷ []))
         × ((room : ℕ) × (K.room sink.old ≡ Some room) × (length out ≤ room)) }
     ensures frames { IfOk result (λ d. d.frames ≡ (accepted coded.now).frames) }
@@ -141,7 +155,7 @@ fn restore_whole<R: Threads + Sync, K: Sink, G: Gate>(
     let mut source = HonestSource::new(coded);
     match decode_file(rt, alloc, &mut source, sink, WORKERS, gate) {
         Ok(decoded) => Ok(decoded),
-        Err(DecodeFault::Source(OpenFault::Memory)) => Err(AllocError),
+        Err(DecodeFault::Source(OpenFault::Memory)) => Err(RunFault::Memory),
         Err(DecodeFault::Source(OpenFault::Read)) => unreachable!(),
         Err(DecodeFault::Source(OpenFault::File(_))) => unreachable!(),
         Err(DecodeFault::Frame { .. }) => unreachable!(),

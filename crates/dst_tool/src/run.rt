@@ -8,14 +8,16 @@ ghost use Rattle.dsdiff_spec.specs.declared.faults.FileFault.{FileFault};
 ghost use Rattle.dsdiff_spec.specs.Form.{sound_bytes_of};
 ghost use Rattle.dsdiff_spec.specs.Rules.{accepted};
 ghost use Rattle.dsdiff_spec.specs.Lines as reports;
-ghost use Rattle.dsdiff_spec.specs.Rows.{command_of};
+ghost use Rattle.words_spec.specs.Rows.{command_of};
 ghost use Rattle.dsdiff_spec.specs.Words as asked;
-ghost use Rattle.dsdiff_spec.specs.Outcome.{Answer, Outcome, frame_refused};
-ghost use Rattle.dst_tool.specs.Runs.{DidNotRise, Ends, EndsAs, Reports, IsRefused, NoFrameIsRefused, WritesFile, WritesNowhere, most_given, longest_sound};
+ghost use Rattle.dsdiff_spec.specs.Outcome.{Answer, frame_refused};
+ghost use Rattle.words_spec.specs.Outcome.{Outcome};
+ghost use Rattle.dst_tool.specs.Runs.{DidNotRise, Ends, EndsAs, Reports, IsRefused, NoFrameIsRefused, ReadsNothing, WritesFile, WritesNowhere, most_given, longest_sound};
 
 use crate::command::{report_line, run_command};
+use dst_lines::lines;
 use dst_streams::{Sink, Source};
-use dst_words::{Task, lines, read_words};
+use dst_words::{Task, read_words};
 use std::alloc::Global;
 use std::thread::Threads;
 
@@ -49,8 +51,16 @@ pub fn dst_run<E: Threads + Sync, S: Source, K: Sink, R: Sink>(
     ensures words { command_of (map string_bytes words.now) ≡ None → (result ≡ 1) ⊎ (result ≡ 7) }
     ensures only_words { result ≡ 1 → command_of (map string_bytes words.now) ≡ None }
     ensures untouched { command_of (map string_bytes words.now) ≡ None → (source.new ≡ source.old) × (sink.new ≡ sink.old) }
-    // A command that writes no file makes no call on the sink.
+    // A command that writes no file makes no call on the sink, so that the sink isn't at fault.
     ensures no_call { (c : asked.Command) → command_of (map string_bytes words.now) ≡ Some c → WritesNowhere c → sink.new ≡ sink.old }
+    ensures no_write { (c : asked.Command) → command_of (map string_bytes words.now) ≡ Some c → WritesNowhere c → result ≢ 3 }
+    // One that makes its sound makes no call on the source: it ends with the outcome of no bytes, whatever the source tells,
+    // and neither the source nor a file is at fault.
+    ensures no_read { (c : asked.Command) → command_of (map string_bytes words.now) ≡ Some c → ReadsNothing c → source.new ≡ source.old }
+    ensures made { (c : asked.Command) → command_of (map string_bytes words.now) ≡ Some c → ReadsNothing c →
+        (status : ℕ) × (lines : List reports.Line) × Ends (map string_bytes words.now) [] status lines (K.written sink.old) (K.written sink.new)
+        × Reports status lines result (R.written report.old) (R.written report.new) }
+    ensures no_file { (c : asked.Command) → command_of (map string_bytes words.now) ≡ Some c → ReadsNothing c → (result ≢ 2) × (result ≢ 5) × (result ≢ 6) }
     // What a done command has written is where the sink keeps it for good: of a real file, on its disk.
     ensures settled { (c : asked.Command) → command_of (map string_bytes words.now) ≡ Some c → WritesFile c → result ≡ 0 → K.settled sink.new ≡ true }
     // Devices fail by their own cause.

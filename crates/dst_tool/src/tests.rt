@@ -5,9 +5,11 @@ use std::alloc::{AllocError, Global};
 use std::process::Abort;
 use std::thread::Threads;
 
+mod cutting;
 mod devices;
 mod encoding;
 mod files;
+mod making;
 mod reading;
 mod refused;
 mod sounds;

@@ -7,7 +7,7 @@ use Rattle.std.specs.Result.{OkIff}
 use Rattle.std.specs.Str.Parse.{ParsesUnsigned}
 use Rattle.std.proofs.lemmas.Bool.{le-ltb}
 use Rattle.std.proofs.lemmas.Str.Parse.{IsDigitsTest, FoldsDigits, IsNumeralModel, numerals_by_fold, parse_plain}
-use Rattle.dsdiff_spec.specs.Words.{is_digit, is_numeral, numeral_value, number_word}
+use Rattle.words_spec.specs.Slots.{is_digit, is_numeral, numeral_value, number_word}
 use Rattle.dst_spec.proofs.Lists.{both_true}
 
 -- the byte at a place, and those behind it

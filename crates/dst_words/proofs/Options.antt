@@ -4,8 +4,9 @@ use Rattle.std.proofs.lemmas.List.{take_all}
 use Rattle.std.specs.Prelude.{codes, not, find, filter, option_map}
 use Rattle.std.specs.List.{AllByRecursion}
 use Rattle.dsdiff_spec.specs.Bytes.{◌is◌}
-use Rattle.dsdiff_spec.specs.Words.{Word, Task, encode, file, read_slots, Setting, level, workers, allowed_value, setting_value, read_settings}
-use Rattle.dsdiff_spec.specs.Rows.{level_of, workers_of, task_with, task_of}
+use Rattle.dsdiff_spec.specs.Words.{Word, Task, encode}
+use Rattle.words_spec.specs.Slots.{file, read_slots, Setting, level, workers, allowed_value, setting_value, read_settings}
+use Rattle.words_spec.specs.Rows.{level_of, workers_of, task_with, task_of}
 use Rattle.dst_words.specs.RowWords.{of_settings, coding_task, encode_words, level_and_workers_in}
 use Prim.Native.String.{String}
 
@@ -29,7 +30,7 @@ filtered_have_values p (t ∷ ts) h = go (p t) (filtered_have_values p ts h.1)
     go false later = later
 
 -- what is set behind an option with a value is nothing where there is nothing behind the value
-abbrev set_behind : (ℕ × List Word → Option (List (Word × ℕ))) → Option (ℕ × List Word) → Option (List (Word × ℕ))
+abbrev pub set_behind : (ℕ × List Word → Option (List (Word × ℕ))) → Option (ℕ × List Word) → Option (List (Word × ℕ))
 set_behind f o = elim o [ None ↦ None | Some r ↦ f r ]
 
 none_set : (f : ℕ × List Word → Option (List (Word × ℕ))) (s : Setting) (words : List Word) → HasValue s →
@@ -75,7 +76,7 @@ task_of_coding words = go (read_settings 2 (level ∷ workers ∷ []) words)
     go (Some o) = refl
 
 -- no further row has this name
-abbrev or_none : Option Task → Option Task
+abbrev pub or_none : Option Task → Option Task
 or_none t = elim t [ Some t ↦ Some t | None ↦ None ]
 
 same_or_none : (t : Option Task) → or_none t ≡ t
@@ -85,7 +86,7 @@ same_or_none (Some t) = refl
 abbrev behind_slots : (List Word → Option Task) → Option (List ℕ × List Word) → Option Task
 behind_slots f o = elim o [ None ↦ None | Some read ↦ f read.1 ]
 
-encode_row : (words : List Word) → task_of (codes "encode" ∷ words) ≡ encode_words words
+pub encode_row : (words : List Word) → task_of (codes "encode" ∷ words) ≡ encode_words words
 unfolding task_of
 encode_row words = go (read_slots (file ∷ file ∷ []) words)
   where
@@ -95,9 +96,10 @@ encode_row words = go (read_slots (file ∷ file ∷ []) words)
     go None = refl
     go (Some read) = same_or_none (of_settings (level ∷ workers ∷ []) (λ o. Some (encode (level_of o))) read.1) ∙ task_of_coding read.1
 
-pub encode_first : {A : Type 0} (f : A → Word) (words : List A) (x : A) → 1 ≤ length words → f (get_or words 0 x) ≡ codes "encode" →
-    task_of (map f words) ≡ encode_words (map f (take (length words - 1) (drop 1 words)))
-encode_first f [] x long name = absurd (omega arith)
-encode_first f (w ∷ ws) x long name =
+-- words behind the first one, which is a row's name
+pub row_named : {A : Type 0} (f : A → Word) (name : String) (row : List Word → Option Task) → ((words : List Word) → task_of (codes name ∷ words) ≡ row words) →
+    (words : List A) (x : A) → 1 ≤ length words → f (get_or words 0 x) ≡ codes name → task_of (map f words) ≡ row (map f (take (length words - 1) (drop 1 words)))
+row_named f name row same [] x long e = absurd (omega arith)
+row_named f name row same (w ∷ ws) x long e =
     let rest : take (length (w ∷ ws) - 1) ws ≡ ws = take_all (length (w ∷ ws) - 1) ws (omega arith) in
-    ap (λ name. task_of (name ∷ map f ws)) name ∙ encode_row (map f ws) ∙ ap (λ rest. encode_words (map f rest)) (sym rest)
+    ap (λ name. task_of (name ∷ map f ws)) e ∙ same (map f ws) ∙ ap (λ rest. row (map f rest)) (sym rest)

@@ -1,18 +1,26 @@
 -- Commands and tasks as the definitions have them.
-use Rattle.std.specs.Prelude.{◌≤◌, ⊤}
+use Rattle.std.specs.Prelude.{ℕ, ◌/◌, ◌≤◌, ⊤}
+use Rattle.dst_spec.specs.Sample.{Shape}
 use Rattle.dsdiff_spec.specs.Words as words
 use Rattle.dst_words.specs.declared.words.Command.{Command}
-use Rattle.dst_words.specs.declared.words.Command.TheVariants.{Encode, Decode, Frame, Check, Show, ShowFrame, Index}
+use Rattle.dst_words.specs.declared.words.Command.TheVariants.{Encode, Decode, Cut, Frame, Check, Show, ShowFrame, Index, Make, MakeRun}
 use Rattle.dst_words.specs.declared.words.Task.{Task}
+
+-- channels, and their rate in multiples of 64 times 44.1 kHz
+abbrev pub channels_seen : Shape → ℕ × ℕ
+channels_seen f = (f.channels, f.octets / 4704)
 
 abbrev pub command_seen : Command → words.Command
 command_seen (Encode level) = words.encode level
 command_seen Decode = words.decode
+command_seen (Cut first last) = words.cut first last
 command_seen (Frame frame by_index) = words.frame frame by_index
 command_seen Check = words.check
 command_seen Show = words.show
 command_seen (ShowFrame frame) = words.show_frame frame
 command_seen Index = words.index
+command_seen (Make start frames f) = words.make start frames (channels_seen f).0 (channels_seen f).1
+command_seen (MakeRun start frames f) = words.make_run start frames (channels_seen f).0 (channels_seen f).1
 
 abbrev pub task_seen : Task → words.Task
 task_seen t = record { command = command_seen t.command; workers = t.workers }
@@ -21,10 +29,14 @@ task_seen t = record { command = command_seen t.command; workers = t.workers }
 abbrev pub HasFewWorkers : Task → Type 0
 HasFewWorkers t = (1 ≤ t.workers) × (t.workers ≤ 16)
 
--- a level that there is
-abbrev pub LevelIsKnown : Command → Type 0
-LevelIsKnown (Encode level) = level ≤ 2
-LevelIsKnown c = ⊤
+-- Numbers that the command allows: a level that there is, frames of which the first isn't behind the last, and no more made frames than
+-- are made, or made in memory.
+abbrev pub NumbersAreLawful : Command → Type 0
+NumbersAreLawful (Encode level) = level ≤ 2
+NumbersAreLawful (Cut first last) = first ≤ last
+NumbersAreLawful (Make start frames channels) = frames ≤ 1000
+NumbersAreLawful (MakeRun start frames channels) = frames ≤ 100
+NumbersAreLawful c = ⊤
 
-abbrev pub HasKnownLevel : Task → Type 0
-HasKnownLevel t = LevelIsKnown t.command
+abbrev pub HasLawfulNumbers : Task → Type 0
+HasLawfulNumbers t = NumbersAreLawful t.command

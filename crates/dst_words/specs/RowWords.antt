@@ -1,10 +1,13 @@
 -- What the words behind a row's name ask for.
-use Rattle.std.specs.Prelude.{ℕ, Bool, List, [], ◌∷◌, length, Option, Some, None, option_map}
-use Rattle.dsdiff_spec.specs.Words.{Word, Command, Task, Slot, file, number, show, index, encode, decode, check, read_slots, Setting, level, workers, by_index, read_settings}
-use Rattle.dsdiff_spec.specs.Rows.{level_of, workers_of, is_set, frame_of, show_frame_of, task_with}
+use Rattle.std.specs.Prelude.{ℕ, Bool, ◌&&◌, if◌then◌else◌, List, [], ◌∷◌, length, Option, Some, None, option_map}
+use Rattle.dsdiff_spec.specs.Bytes.{◌is◌, ◌above◌}
+use Rattle.dsdiff_spec.specs.Words.{Word, Command, Task, show, index, encode, decode, cut, check, make, make_run}
+use Rattle.words_spec.specs.Slots.{Slot, file, number, is_file_word, number_word}
+use Rattle.words_spec.specs.Slots.{number_within, read_slots, Setting, level, workers, by_index, rate, read_settings}
+use Rattle.words_spec.specs.Rows.{level_of, workers_of, multiple_of, is_set, frame_of, show_frame_of, task_with}
 
 -- the numbers in the slots, and what is made of them and of the words behind
-abbrev of_slots : List Slot → (List ℕ → List Word → Option Task) → List Word → Option Task
+abbrev pub of_slots : List Slot → (List ℕ → List Word → Option Task) → List Word → Option Task
 of_slots slots f words = elim (read_slots slots words) [ None ↦ None | Some read ↦ f read.0 read.1 ]
 
 abbrev pub of_settings : List Setting → (List (Word × ℕ) → Option Command) → List Word → Option Task
@@ -21,12 +24,38 @@ level_and_workers_in words = option_map (λ o. (level_of o, workers_of o)) (read
 abbrev pub by_index_in : List Word → Option Bool
 by_index_in words = option_map (is_set "--by-index") (read_settings 1 (by_index ∷ []) words)
 
--- the words of each row; `show` has two
+abbrev pub multiple_in : List Word → Option ℕ
+multiple_in words = option_map multiple_of (read_settings 1 (rate ∷ []) words)
+
+-- two numbers of which the first isn't above the second
+unfoldable pub span_in : Word → Word → Option (ℕ × ℕ)
+span_in first last = elim (number_word first) [
+  | None ↦ None
+  | Some a ↦ elim (number_word last) [ None ↦ None | Some b ↦ if a above b then None else Some (a, b) ]
+]
+
+-- channels, and their rate in multiples of 64 times 44.1 kHz
+unfoldable pub channels_in : Word → List Word → Option (ℕ × ℕ)
+channels_in count options = elim (number_within 1 6 count) [ None ↦ None | Some n ↦ option_map (λ m. (n, m)) (multiple_in options) ]
+
+-- a command at which one works
+abbrev pub alone : Command → Task
+alone c = record { command = c; workers = 1 }
+
+-- the words of each row; `show` and `make` have two
 abbrev pub coding_task : ℕ × ℕ → Task
 coding_task set = record { command = encode set.0; workers = set.1 }
 
 abbrev pub encode_words : List Word → Option Task
 encode_words = of_slots (file ∷ file ∷ []) (λ n words. option_map coding_task (level_and_workers_in words))
+
+abbrev pub cutting_task : ℕ × ℕ → Task
+cutting_task span = alone (cut span.0 span.1)
+
+abbrev pub cut_words : List Word → Option Task
+cut_words (input ∷ output ∷ first ∷ last ∷ []) =
+    if is_file_word input && is_file_word output then option_map cutting_task (span_in first last) else None
+cut_words words = None
 
 abbrev pub decode_words : List Word → Option Task
 decode_words = of_slots (file ∷ file ∷ []) (λ n. of_settings (workers ∷ []) (λ o. Some decode))
@@ -45,3 +74,21 @@ show_words words = elim (of_slots (file ∷ []) (λ n. of_settings [] (λ o. Som
 
 abbrev pub index_words : List Word → Option Task
 index_words = of_slots (file ∷ []) (λ n. of_settings [] (λ o. Some index))
+
+abbrev pub making_task : ℕ → ℕ × ℕ → ℕ → Task
+making_task start channels frames = alone (make start frames channels.0 channels.1)
+
+abbrev pub running_task : ℕ → ℕ × ℕ → ℕ → Task
+running_task start channels frames = alone (make_run start frames channels.0 channels.1)
+
+abbrev pub make_words : List Word → Option Task
+make_words (start ∷ place ∷ frames ∷ count ∷ options) = elim (number_word start) [
+  | None ↦ None
+  | Some s ↦ elim (channels_in count options) [
+    | None ↦ None
+    | Some channels ↦
+        if place is "--run" then option_map (running_task s channels) (number_within 0 100 frames)
+        else (if is_file_word place then option_map (making_task s channels) (number_within 0 1000 frames) else None)
+  ]
+]
+make_words words = None

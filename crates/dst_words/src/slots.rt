@@ -1,9 +1,12 @@
 // Words of a kind: the names of files, numbers, options.
-ghost use Rattle.std.specs.Prelude.{◌≡◌, ◌≤◌, map, IfSome};
+ghost use Rattle.std.specs.Prelude.{◌≡◌, ◌⊎◌, ◌≤◌, map, option_map, IfSome};
 ghost use Rattle.std.specs.List.{list_all};
 ghost use Rattle.std.specs.String.{string_bytes};
-ghost use Rattle.dsdiff_spec.specs.Words.{is_file_word, is_digit, is_numeral, number_word, allowed_value, level, workers};
-ghost use Rattle.dst_words.specs.RowWords.{level_and_workers_in, workers_in, by_index_in};
+ghost use Rattle.words_spec.specs.Slots.{is_file_word, is_digit, is_numeral, number_word, number_within, allowed_value, level, workers, rate};
+ghost use Rattle.dst_words.specs.Commands.{channels_seen};
+ghost use Rattle.dst_words.specs.RowWords.{level_and_workers_in, workers_in, by_index_in, multiple_in, span_in, channels_in};
+
+use dst_num::Channels;
 
 // Whether a word may name a file: it isn't empty and doesn't begin with a dash.
 pub(crate) fn is_file_word(word: &String) -> bool
@@ -56,6 +59,35 @@ pub(crate) fn read_number(word: &String) -> Option<u32>
     }
 }
 
+// The number of a number word, if it is within bounds.
+pub(crate) fn read_within(word: &String, least: u32, most: u32) -> Option<u32>
+    ensures within { result ≡ number_within least most (string_bytes word.now) }
+    ensures least { IfSome result (λ n. least ≤ n) }
+    ensures most { IfSome result (λ n. n ≤ most) }
+{
+    let number = read_number(word)?;
+    if number >= least && number <= most {
+        Some(number)
+    } else {
+        None
+    }
+}
+
+// Two numbers, the first at most the second.
+#[tactic(auto, unfolding(crate::specs::RowWords::span_in))]
+pub(crate) fn read_span(first: &String, last: &String) -> Option<(u32, u32)>
+    ensures span { result ≡ span_in (string_bytes first.now) (string_bytes last.now) }
+    ensures order { IfSome result (λ r. r.0 ≤ r.1) }
+{
+    let first = read_number(first)?;
+    let last = read_number(last)?;
+    if first <= last {
+        Some((first, last))
+    } else {
+        None
+    }
+}
+
 // A number of workers, 1 to 16.
 fn workers_value(word: &String) -> Option<u32>
     ensures workers { result ≡ allowed_value workers (string_bytes word.now) }
@@ -77,6 +109,41 @@ fn level_value(word: &String) -> Option<u32>
 {
     let level = read_number(word)?;
     if level <= 2 { Some(level) } else { None }
+}
+
+// A rate, 64, 128 or 256 times 44.1 kHz.
+fn rate_value(word: &String) -> Option<u32>
+    ensures rate { result ≡ allowed_value rate (string_bytes word.now) }
+    ensures known { IfSome result (λ n. (n ≡ 64) ⊎ (n ≡ 128) ⊎ (n ≡ 256)) }
+{
+    let rate = read_number(word)?;
+    if rate == 64 || rate == 128 || rate == 256 {
+        Some(rate)
+    } else {
+        None
+    }
+}
+
+// The rate that options set, in multiples of 64 times 44.1 kHz, or 1.
+fn read_multiple(options: &[String]) -> Option<u32>
+    ensures set { result ≡ multiple_in (map string_bytes options.now) }
+    ensures known { IfSome result (λ n. (n ≡ 1) ⊎ (n ≡ 2) ⊎ (n ≡ 4)) }
+{
+    match options {
+        [] => Some(1),
+        [name, value] if name.as_str() == "--rate" => Some(rate_value(value)? / 64),
+        _ => None,
+    }
+}
+
+// Channels, 1 to 6, at the rate that options set.
+#[tactic(auto, unfolding(crate::specs::RowWords::channels_in))]
+pub(crate) fn read_channels(count: &String, options: &[String]) -> Option<Channels>
+    ensures { option_map channels_seen result ≡ channels_in (string_bytes count.now) (map string_bytes options.now) }
+{
+    let count = read_within(count, 1, 6)?;
+    let multiple = read_multiple(options)?;
+    Channels::at(count, multiple)
 }
 
 // The workers that options set, or one.

@@ -1,9 +1,7 @@
-// The tables of words and of lines.
+// The tables of words.
 use super::*;
-use dsdiff_spec::FileFault;
-use dst_spec::{FrameFault, Reason};
+use dst_num::Channels;
 use std::alloc::{AllocError, Global};
-use std::process::Abort;
 use std::test::Fail;
 
 fn split(alloc: Global, text: &str) -> Result<Vec<String>, AllocError> {
@@ -26,13 +24,36 @@ fn encode(level: u32, workers: u32) -> Option<Task> {
     task(Command::Encode { level }, workers)
 }
 
+fn cut(first: u32, last: u32) -> Option<Task> {
+    task(Command::Cut { first, last }, 1)
+}
+
+fn make(start: u32, frames: u32, count: u32, multiple: u32) -> Option<Task> {
+    let channels = Channels::at(count, multiple)?;
+    let command = Command::Make {
+        start,
+        frames,
+        channels,
+    };
+    task(command, 1)
+}
+
+fn make_run(start: u32, frames: u32, count: u32, multiple: u32) -> Option<Task> {
+    let channels = Channels::at(count, multiple)?;
+    let command = Command::MakeRun {
+        start,
+        frames,
+        channels,
+    };
+    task(command, 1)
+}
+
 #[test]
-fn words_that_are_a_row_are_a_task(rt: HostRuntime) -> Result<(), Fail> {
-    let decode = task(Command::Decode, 1);
+fn words_of_decoding_are_tasks(rt: HostRuntime) -> Result<(), Fail> {
     let cases = [
-        ("decode a b", decode),
-        ("decode a.dff out-b.dff", decode),
-        ("decode a a", decode),
+        ("decode a b", task(Command::Decode, 1)),
+        ("decode a.dff out-b.dff", task(Command::Decode, 1)),
+        ("decode a a", task(Command::Decode, 1)),
         ("decode", None),
         ("decode a", None),
         ("decode a b c", None),
@@ -45,6 +66,26 @@ fn words_that_are_a_row_are_a_task(rt: HostRuntime) -> Result<(), Fail> {
         ("decoder a b", None),
         ("decod a b", None),
         ("Decode a b", None),
+        ("decode a b --workers 2", task(Command::Decode, 2)),
+        ("decode a b --workers", None),
+        ("decode a b --workers 0", None),
+        ("decode a b --workers 17", None),
+        ("decode a b --workers 02", None),
+        ("decode a b --workers 2 --workers 2", None),
+        ("decode --workers 2 a b", None),
+        ("decode a b --by-index", None),
+    ];
+    for (text, expected) in cases {
+        let words = split(rt.alloc(), text)?;
+        assert_eq!(rt; read_words(words.as_slice()), expected, "{text}");
+    }
+    assert_eq!(rt; read_words(&[]), None);
+    Ok(())
+}
+
+#[test]
+fn words_of_encoding_are_tasks(rt: HostRuntime) -> Result<(), Fail> {
+    let cases = [
         ("encode a b", encode(1, 1)),
         ("encode a b --level 0", encode(0, 1)),
         ("encode a b --level 2 --workers 16", encode(2, 16)),
@@ -54,14 +95,17 @@ fn words_that_are_a_row_are_a_task(rt: HostRuntime) -> Result<(), Fail> {
         ("encode a b --workers 4 --level", None),
         ("encode a b --level 1 --workers 4 --level", None),
         ("encode a", None),
-        ("decode a b --workers 2", task(Command::Decode, 2)),
-        ("decode a b --workers", None),
-        ("decode a b --workers 0", None),
-        ("decode a b --workers 17", None),
-        ("decode a b --workers 02", None),
-        ("decode a b --workers 2 --workers 2", None),
-        ("decode --workers 2 a b", None),
-        ("decode a b --by-index", None),
+    ];
+    for (text, expected) in cases {
+        let words = split(rt.alloc(), text)?;
+        assert_eq!(rt; read_words(words.as_slice()), expected, "{text}");
+    }
+    Ok(())
+}
+
+#[test]
+fn words_of_showing_are_tasks(rt: HostRuntime) -> Result<(), Fail> {
+    let cases = [
         ("frame a b 4294967295", frame(u32::MAX, false)),
         ("frame a b 0 --by-index", frame(0, true)),
         ("frame a b 0 --by-index --by-index", None),
@@ -85,88 +129,38 @@ fn words_that_are_a_row_are_a_task(rt: HostRuntime) -> Result<(), Fail> {
         let words = split(rt.alloc(), text)?;
         assert_eq!(rt; read_words(words.as_slice()), expected, "{text}");
     }
-    assert_eq!(rt; read_words(&[]), None);
     Ok(())
 }
 
-fn assert_lines(rt: &impl Abort, cases: &[(lines::Line, &str)]) {
-    for (line, text) in cases {
-        assert_eq!(rt; line.as_str(), *text);
+#[test]
+fn words_of_cutting_and_making_are_tasks(rt: HostRuntime) -> Result<(), Fail> {
+    let cases = [
+        ("cut a b 3 4294967295", cut(3, u32::MAX)),
+        ("cut a b 0 0", cut(0, 0)),
+        ("cut a b 3 2", None),
+        ("cut a b 3", None),
+        ("cut a b 1 2 3", None),
+        ("cut a -b 1 2", None),
+        ("cut a b 01 2", None),
+        ("make 7 a.dff 1000 6", make(7, 1000, 6, 1)),
+        ("make 4294967295 a 0 1 --rate 128", make(u32::MAX, 0, 1, 2)),
+        ("make 7 a 1001 6", None),
+        ("make 7 a 1 7", None),
+        ("make 7 a 1 0", None),
+        ("make 7 a 1 1 --rate 192", None),
+        ("make 7 a 1 1 --rate 64 --rate 64", None),
+        ("make 7 a 1 1 --rate", None),
+        ("make a b 1 1", None),
+        ("make 7 -run 1 1", None),
+        ("make 7 --run 100 6", make_run(7, 100, 6, 1)),
+        ("make 7 --run 0 1 --rate 256", make_run(7, 0, 1, 4)),
+        ("make 7 --run 101 6", None),
+        ("make 7 --run 1 1 --workers 4", None),
+        ("make 7 --run 1", None),
+    ];
+    for (text, expected) in cases {
+        let words = split(rt.alloc(), text)?;
+        assert_eq!(rt; read_words(words.as_slice()), expected, "{text}");
     }
-}
-
-#[test]
-fn lines_of_devices_and_frames_are_those_of_reports(rt: HostRuntime) {
-    let (reason, bit) = (Reason::TableTooShort, 40);
-    let at_40 = FrameFault { reason, bit };
-    let (reason, bit) = (Reason::MethodReserved, u64::MAX);
-    let at_most = FrameFault { reason, bit };
-    let longest = "frame 4294967295 refused: 5 MethodReserved at bit 18446744073709551615\n";
-    let short = "frame 0 refused: 6 TableTooShort at bit 40\n";
-    let cases = [
-        (lines::words_not_understood(), "words not understood\n"),
-        (lines::read_fault(), "read fault\n"),
-        (lines::write_fault(), "write fault\n"),
-        (lines::memory(), "memory\n"),
-        (lines::frame_refused(0, at_40), short),
-        (lines::frame_refused(u32::MAX, at_most), longest),
-    ];
-    assert_lines(&rt, &cases);
-}
-
-#[test]
-fn lines_of_files_are_those_of_reports(rt: HostRuntime) {
-    let overrun = FileFault::Overrun { place: 110 };
-    let differs = FileFault::CountDiffers { count: 2, found: 1 };
-    let (frame, length) = (u32::MAX, u64::MAX);
-    let too_long = FileFault::FrameTooLong { frame, length };
-    let longest = "file refused: 17 FrameTooLong 4294967295 18446744073709551615\n";
-    let most = "decoded 4294967295 frames into 18446744073709551615 bytes\n";
-    let cases = [
-        (
-            lines::file_refused(FileFault::NotForm),
-            "file refused: 1 NotForm\n",
-        ),
-        (
-            lines::file_refused(overrun),
-            "file refused: 3 Overrun 110\n",
-        ),
-        (
-            lines::file_refused(differs),
-            "file refused: 16 CountDiffers 2 1\n",
-        ),
-        (lines::file_refused(too_long), longest),
-        (
-            lines::decoded(2, 4705),
-            "decoded 2 frames into 4705 bytes\n",
-        ),
-        (lines::decoded(u32::MAX, u64::MAX), most),
-    ];
-    assert_lines(&rt, &cases);
-}
-
-#[test]
-fn lines_of_what_is_done_are_those_of_reports(rt: HostRuntime) {
-    let longest =
-        "frame 4294967295 coded length 18446744073709551615 filters 4294967295 tables 4294967295 code 18446744073709551615\n";
-    let (most, greatest) = (u32::MAX, u64::MAX);
-    let cases = [
-        (lines::coded(2, 9410), "coded 2 frames into 9410 bytes\n"),
-        (lines::frame_written(1, 4704), "frame 1, 4704 bytes\n"),
-        (lines::checked(2, 0), "sound, 2 frames, 0 unread bytes\n"),
-        (lines::plain_frame(0, 4705), "frame 0 plain length 4705\n"),
-        (
-            lines::coded_frame(0, 6, 1, 1, 45),
-            "frame 0 coded length 6 filters 1 tables 1 code 45\n",
-        ),
-        (
-            lines::coded_frame(most, greatest, most, most, greatest),
-            longest,
-        ),
-        (lines::entry(1, 4870, 4705), "1 4870 4705\n"),
-        (lines::with_word("kind ", "coded"), "kind coded\n"),
-        (lines::with_number("channels ", 1), "channels 1\n"),
-        (lines::with_bytes("sound ", 4705), "sound 4705 bytes\n"),
-    ];
-    assert_lines(&rt, &cases);
+    Ok(())
 }

@@ -1,31 +1,60 @@
 // The words of a command line.
 ghost use Rattle.std.specs.Prelude.{◌≡◌, map, option_map, IfSome};
 ghost use Rattle.std.specs.String.{string_bytes};
-ghost use Rattle.dsdiff_spec.specs.Rows.{task_of};
-ghost use Rattle.dst_words.specs.Commands.{task_seen, HasFewWorkers, HasKnownLevel};
-ghost use Rattle.dst_words.specs.RowWords.{encode_words, decode_words, frame_words, check_words, show_words, index_words};
+ghost use Rattle.words_spec.specs.Rows.{task_of};
+ghost use Rattle.dst_words.specs.Commands.{task_seen, HasFewWorkers, HasLawfulNumbers};
+ghost use Rattle.dst_words.specs.RowWords.{encode_words, decode_words, cut_words, frame_words, check_words, show_words, index_words, make_words};
 
 use crate::slots::{
-    is_file_word, read_by_index, read_level_and_workers, read_number, read_workers,
+    is_file_word, read_by_index, read_channels, read_level_and_workers, read_number, read_span,
+    read_within, read_workers,
 };
+use dst_num::Channels;
 
 /// What is asked for. The names of files stay in words 1 and 2, word 0 being the command's name. Frames are numbered from 0.
 #[derive(Clone, Copy, Debug, Drop, PartialEq, Eq)]
 pub enum Command {
     /// `encode IN OUT [--level L] [--workers W]`: code a plain file at a level, 0 to 2.
-    Encode { level: u32 },
+    Encode {
+        level: u32,
+    },
     /// `decode IN OUT [--workers W]`: decode a coded file.
     Decode,
+    /// `cut IN OUT A B`: write some frames of a coded file as a coded file: those from the first to the last, both included. The
+    /// last isn't before the first.
+    Cut {
+        first: u32,
+        last: u32,
+    },
     /// `frame IN OUT K [--by-index]`: write the sound of one frame, which is found by the file's index or by its chunks.
-    Frame { frame: u32, by_index: bool },
+    Frame {
+        frame: u32,
+        by_index: bool,
+    },
     /// `check IN [--workers W]`: decode all frames and compare the index, writing nothing.
     Check,
     /// `show IN`: tell what the file is.
     Show,
     /// `show IN K`: tell the header of one frame.
-    ShowFrame { frame: u32 },
+    ShowFrame {
+        frame: u32,
+    },
     /// `index IN`: list where the frames stand.
     Index,
+    /// `make START OUT FRAMES CHANNELS [--rate Q]`: write a plain file of made sound, which the number `start` gives: so many
+    /// frames, 0 to 1,000. The rate Q, 64, 128 or 256 times 44.1 kHz, is that of the channels.
+    Make {
+        start: u32,
+        frames: u32,
+        channels: Channels,
+    },
+    /// `make START --run FRAMES CHANNELS [--rate Q]`: make it in memory, code it and decode it, and tell the sizes; frames are
+    /// 0 to 100.
+    MakeRun {
+        start: u32,
+        frames: u32,
+        channels: Channels,
+    },
 }
 
 /// What words ask for: a command, and how many workers, 1 to 16, work at it side by side; one unless words say otherwise. What
@@ -37,11 +66,11 @@ pub struct Task {
 }
 
 /// What these words ask for, or nothing where no command has them.
-#[tactic(auto, unfolding(dsdiff_spec::specs::Rows::task_of))]
+#[tactic(auto, unfolding(words_spec::specs::Rows::task_of))]
 pub fn read_words(words: &[String]) -> Option<Task>
     ensures task { option_map task_seen result ≡ task_of (map string_bytes words.now) }
     ensures workers { IfSome result HasFewWorkers }
-    ensures level { IfSome result HasKnownLevel }
+    ensures numbers { IfSome result HasLawfulNumbers }
 {
     let [name, rest @ ..] = words else {
         return None;
@@ -49,10 +78,12 @@ pub fn read_words(words: &[String]) -> Option<Task>
     match name.as_str() {
         "encode" => read_encode(rest),
         "decode" => read_decode(rest),
+        "cut" => read_cut(rest),
         "frame" => read_frame(rest),
         "check" => read_check(rest),
         "show" => read_show(rest),
         "index" => read_index(rest),
+        "make" => read_make(rest),
         _ => None,
     }
 }
@@ -60,7 +91,7 @@ pub fn read_words(words: &[String]) -> Option<Task>
 fn read_encode(words: &[String]) -> Option<Task>
     ensures task { option_map task_seen result ≡ encode_words (map string_bytes words.now) }
     ensures workers { IfSome result HasFewWorkers }
-    ensures level { IfSome result HasKnownLevel }
+    ensures numbers { IfSome result HasLawfulNumbers }
 {
     let [input, output, options @ ..] = words else {
         return None;
@@ -78,7 +109,7 @@ fn read_encode(words: &[String]) -> Option<Task>
 fn read_decode(words: &[String]) -> Option<Task>
     ensures task { option_map task_seen result ≡ decode_words (map string_bytes words.now) }
     ensures workers { IfSome result HasFewWorkers }
-    ensures level { IfSome result HasKnownLevel }
+    ensures numbers { IfSome result HasLawfulNumbers }
 {
     let [input, output, options @ ..] = words else {
         return None;
@@ -93,10 +124,25 @@ fn read_decode(words: &[String]) -> Option<Task>
     })
 }
 
+fn read_cut(words: &[String]) -> Option<Task>
+    ensures task { option_map task_seen result ≡ cut_words (map string_bytes words.now) }
+    ensures workers { IfSome result HasFewWorkers }
+    ensures numbers { IfSome result HasLawfulNumbers }
+{
+    let [input, output, first, last] = words else {
+        return None;
+    };
+    if !is_file_word(input) || !is_file_word(output) {
+        return None;
+    }
+    let (first, last) = read_span(first, last)?;
+    Some(by_one(Command::Cut { first, last }))
+}
+
 fn read_frame(words: &[String]) -> Option<Task>
     ensures task { option_map task_seen result ≡ frame_words (map string_bytes words.now) }
     ensures workers { IfSome result HasFewWorkers }
-    ensures level { IfSome result HasKnownLevel }
+    ensures numbers { IfSome result HasLawfulNumbers }
 {
     let [input, output, number, options @ ..] = words else {
         return None;
@@ -112,7 +158,7 @@ fn read_frame(words: &[String]) -> Option<Task>
 fn read_check(words: &[String]) -> Option<Task>
     ensures task { option_map task_seen result ≡ check_words (map string_bytes words.now) }
     ensures workers { IfSome result HasFewWorkers }
-    ensures level { IfSome result HasKnownLevel }
+    ensures numbers { IfSome result HasLawfulNumbers }
 {
     let [input, options @ ..] = words else {
         return None;
@@ -130,7 +176,7 @@ fn read_check(words: &[String]) -> Option<Task>
 fn read_show(words: &[String]) -> Option<Task>
     ensures task { option_map task_seen result ≡ show_words (map string_bytes words.now) }
     ensures workers { IfSome result HasFewWorkers }
-    ensures level { IfSome result HasKnownLevel }
+    ensures numbers { IfSome result HasLawfulNumbers }
 {
     let [input, rest @ ..] = words else {
         return None;
@@ -151,7 +197,7 @@ fn read_show(words: &[String]) -> Option<Task>
 fn read_index(words: &[String]) -> Option<Task>
     ensures task { option_map task_seen result ≡ index_words (map string_bytes words.now) }
     ensures workers { IfSome result HasFewWorkers }
-    ensures level { IfSome result HasKnownLevel }
+    ensures numbers { IfSome result HasLawfulNumbers }
 {
     let [input] = words else {
         return None;
@@ -161,6 +207,36 @@ fn read_index(words: &[String]) -> Option<Task>
     } else {
         None
     }
+}
+
+// A file of made sound, or a run in memory, which has a fixed word in the place of the file.
+fn read_make(words: &[String]) -> Option<Task>
+    ensures task { option_map task_seen result ≡ make_words (map string_bytes words.now) }
+    ensures workers { IfSome result HasFewWorkers }
+    ensures numbers { IfSome result HasLawfulNumbers }
+{
+    let [start, place, frames, count, options @ ..] = words else {
+        return None;
+    };
+    let start = read_number(start)?;
+    let channels = read_channels(count, options)?;
+    if place.as_str() == "--run" {
+        let frames = read_within(frames, 0, 100)?;
+        return Some(by_one(Command::MakeRun {
+            start,
+            frames,
+            channels,
+        }));
+    }
+    if !is_file_word(place) {
+        return None;
+    }
+    let frames = read_within(frames, 0, 1000)?;
+    Some(by_one(Command::Make {
+        start,
+        frames,
+        channels,
+    }))
 }
 
 // A command at which one works.

@@ -42,5 +42,6 @@ loop-place-preserved g c =
           (c.loop-place.invariant.read xs told)
           (rw behind at more);
       given = omega (arith, c.in_ok-count.ensures.given);
+      given_whole = λ small. let before = c.loop-place.invariant.given_whole small in omega (arith, before, c.in_ok-count.ensures.given);
       faults = search rules;
     }

@@ -1,4 +1,5 @@
-use Rattle.std.proofs.Common.{◌≡◌, ℕ, ◌+◌, ◌-◌, ◌≤◌, List, length, take, Some}
+use Rattle.std.proofs.Common.{◌≡◌, ℕ, ◌+◌, ◌-◌, ◌^◌, ◌<◌, ◌≤◌, List, length, take, Some}
+use Rattle.dst_streams.specs.Told.{counted}
 use Rattle.dsdiff_spec.specs.Bytes.{bytes_at}
 use Rattle.dsdiff_chunks.proofs.read.read_range.Given as goal
 
@@ -9,6 +10,7 @@ invariant-loop-place g l = record {
   known : g.S.Source.known l.source ≡ g.S.Source.known l.initial.source;
   read : (xs : List ℕ) → g.S.Source.bytes l.initial.source ≡ Some xs → take l.place l.out ≡ bytes_at xs l.from l.place;
   given : g.S.Source.given l.source ≤ g.S.Source.given l.initial.source + l.place;
+  given_whole : g.S.Source.given l.initial.source < 2 ^ 64 → g.S.Source.given l.source ≡ counted (g.S.Source.given l.initial.source) l.place;
   faults : g.S.Source.faults l.initial.source ≤ g.S.Source.faults l.source;
 }
 

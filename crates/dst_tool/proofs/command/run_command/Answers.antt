@@ -1,49 +1,61 @@
 -- Each command by what it answered.
-use Rattle.std.proofs.Common.{◌≡◌, ◌≢◌, ◌⊎◌, inl, inr, ℕ, ◌≤◌, Bool, true, List, [], ◌∷◌, length, Option, Some, None, Result, Ok, Err, IfOk, refl, ap, sym, subst, ◌∙◌}
-use Rattle.dst_streams.specs.Told.{and_then, IsCutShort}
+use Rattle.std.proofs.Common.{◌≡◌, ◌≢◌, ◌⊎◌, inl, inr, ℕ, ◌≤◌, Bool, true, List, [], ◌∷◌, length, Some, Result, Ok, Err, IfOk, OnOk, refl, ap, sym, subst, ◌∙◌}
+use Rattle.dst_streams.specs.Told.{and_then}
 use Rattle.dsdiff_spec.specs.Words as asked
 use Rattle.dsdiff_spec.specs.Rules.{accepted}
-use Rattle.dsdiff_spec.specs.Outcome.{Answer, done, coded_at}
-use Rattle.dsdiff_spec.specs.Lines.{Line, report, check_line}
+use Rattle.dsdiff_spec.specs.Outcome.{done, coded_at}
+use Rattle.dsdiff_spec.specs.Lines.{Line, report, check_line, made_line}
 use Rattle.dsdiff_spec.proofs.Stopping.{One}
 use Rattle.dsdiff_spec.proofs.OneAnswer.{command_has_one_outcome}
 use Rattle.dst_words.specs.Commands.{command_seen}
 use Rattle.dst_tool.specs.declared.answers.Numbers.{Numbers}
 use Rattle.dst_tool.specs.declared.answers.Fault.{Fault}
 use Rattle.dst_tool.specs.declared.answers.Fault.TheVariants.{Read, Write, Memory, Report, File, Frame}
-use Rattle.dst_commands.specs.Commands.{OutcomeOf, shown}
-use Rattle.dst_tool.proofs.OneLine.{few_given, most_for_any, IsAnswer, TellsLine, HasCauses, run_of_answer, at_file, same_run, nothing_added, nothing_cut, finished_alone, cut_or_nothing, encoding_is_no_frame, decoding_is_no_frame, checking_is_no_frame, showing_is_no_frame, showing_one_is_no_frame, listing_is_no_frame}
+use Rattle.dst_commands.specs.Commands.{OutcomeOf}
+use Rattle.dst_tool.proofs.OneLine.{IsAnswer, few_given, most_for_any, TellsLine, run_of_answer, at_file, same_run, nothing_added, nothing_cut, finished_alone, cut_or_nothing, encoding_is_no_frame, decoding_is_no_frame, cutting_is_no_frame, making_is_no_frame, running_is_no_frame, checking_is_no_frame, showing_is_no_frame, showing_one_is_no_frame, listing_is_no_frame}
 use Rattle.dst_read.specs.declared.faults.DecodeFault.{DecodeFault}
 use Rattle.dst_read.specs.declared.faults.DecodeFault.TheVariants as decoding
+use Rattle.dst_write.specs.declared.make.MakeFault.TheVariants as making
 use Rattle.dst_read.specs.declared.faults.ShowFault.TheVariants as showing
 use Rattle.dst_read.specs.declared.faults.ListFault.TheVariants as listing
 use Rattle.dst_tool.specs.Runs.{WholeOf}
-use Rattle.dst_tool.specs.Answers.{answered, done_line, line_of, status_of, of_check, of_decode, of_encode, of_list, of_show}
-use Rattle.dst_tool.proofs.Inverting.{back_from, encode_again, encode_refuses, encode_reports, to_encode, if_done, check_again, check_reports, check_writes, decode_again, decode_reports, if_answered, list_again, list_refuses, list_writes, show_again, show_writes, to_check, to_decode, to_list, to_show}
+use Rattle.dst_tool.specs.Answers.{answered, done_line, line_of, status_of, of_check, of_cut, of_decode, of_encode, of_list, of_make, of_run, of_show}
+use Rattle.dst_tool.proofs.Inverting.{back_from, encode_again, encode_refuses, encode_reports, to_encode, if_done, check_again, check_reports, check_writes, decode_again, decode_reports, if_answered, list_again, list_refuses, list_writes, show_again, show_writes, to_check, to_cut, to_decode, to_list, to_show}
+use Rattle.dst_tool.proofs.Inverting.{cut_again, cut_refuses, cut_reports, made_memory, made_no_other, made_write, ran_no_other}
 use Rattle.dst_write.specs.declared.faults.Encoded.{Encoded}
+use Rattle.dst_write.specs.Making.{made_file}
+use Rattle.dst_write.specs.declared.cut.Cut.{Cut}
+use Rattle.dst_write.specs.declared.make.Made.{Made}
 use Rattle.dst_read.specs.declared.faults.Decoded.{Decoded}
 use Rattle.dst_read.specs.declared.faults.FrameWritten.{FrameWritten}
 use Rattle.dst_read.specs.declared.faults.Checked.{Checked}
 use Rattle.dst_read.specs.declared.faults.Reported.{Reported}
 use Rattle.dst_tool.proofs.Coding.{encoded_whole, part_of_encoding, accepted_out}
-use Rattle.dst_tool.proofs.OwnLines.{IsListing, Lists, TellsFault, run_of_listing}
+use Rattle.dst_tool.proofs.MadeOutcomes.{asks_make, asks_run, of_ran, made_outcome, made_out, made_whole, run_done, sink_failed}
+use Rattle.dst_tool.proofs.OwnLines.{run_of_listing}
 use Rattle.dst_tool.proofs.command.run_command.Goals as goal
 
 -- ---- what each command answers, in the words of the report
 abbrev of_encoded : Encoded → Numbers
-of_encoded d = record { frames = d.frames; bytes = d.bytes; unread = 0 }
+of_encoded d = record { frames = d.frames; bytes = d.bytes; unread = 0; restored = 0 }
 
 abbrev of_decoded : Decoded → Numbers
-of_decoded d = record { frames = d.frames; bytes = d.bytes; unread = 0 }
+of_decoded d = record { frames = d.frames; bytes = d.bytes; unread = 0; restored = 0 }
+
+abbrev of_cut_out : Cut → Numbers
+of_cut_out d = record { frames = d.frames; bytes = 0; unread = 0; restored = 0 }
+
+abbrev of_made : Made → Numbers
+of_made d = record { frames = d.frames; bytes = 0; unread = 0; restored = 0 }
 
 abbrev of_written : FrameWritten → Numbers
-of_written f = record { frames = 1; bytes = f.bytes; unread = 0 }
+of_written f = record { frames = 1; bytes = f.bytes; unread = 0; restored = 0 }
 
 abbrev of_checked : Checked → Numbers
-of_checked d = record { frames = d.frames; bytes = 0; unread = d.unread }
+of_checked d = record { frames = d.frames; bytes = 0; unread = d.unread; restored = 0 }
 
 abbrev of_reported : Reported → Numbers
-of_reported d = record { frames = d.frames; bytes = 0; unread = 0 }
+of_reported d = record { frames = d.frames; bytes = 0; unread = 0; restored = 0 }
 
 either : {A B C D : Type 0} → (A → C) → (B → D) → A ⊎ B → C ⊎ D
 either f h (inl a) = inl (f a)
@@ -67,7 +79,7 @@ returns-in-Some g c =
     let picker = c.in-Some.picker in
     let picker_is : picker ≡ level = c.in-Some.ensures.level in
     let one : (file : List ℕ) → bytes ≡ Some file → One (OutcomeOf asks file) = λ file told. command_has_one_outcome asks file tt (g.met.S.Source.told_are_bytes c.args.source.now file told) in
-    same_run same (run_of_answer asks r c.tell.result bytes _ _ _ _ _ _ _ _ tt (λ file told. g.met.S.Source.told_are_bytes c.args.source.now file told)
+    same_run same (run_of_answer asks r c.tell.result bytes _ _ _ _ _ _ _ _ _ tt (λ file told. g.met.S.Source.told_are_bytes c.args.source.now file told)
     (λ file told. record {
       finished = subst (λ r. IfOk r (λ s. (out : List ℕ) × OutcomeOf asks file (done out (done_line asks s ∷ [])) × WholeOf (Some asks) out written new)) (sym is)
           (if_answered of_encoded of_encode d _ (encoded_whole d level picker file bytes written new picker_is told e.accepted e.encoded e.frames e.stored));
@@ -79,6 +91,7 @@ returns-in-Some g c =
       memory = λ h. ap g.K.Sink.written (e.memory (back Memory h));
       no_report = λ h. encode_reports of_encoded d (sym is ∙ h);
     })
+    (λ w. absurd w)
     (record {
       read = λ h. e.read (back Read h);
       write = λ h. e.write (back Write h);
@@ -88,6 +101,9 @@ returns-in-Some g c =
       memory = λ h. e.memory (back Memory h);
       untouched = λ fault h. e.untouched fault (back (File fault) h);
       idle = λ w. absurd w;
+      no_write = λ w. absurd w;
+      unread = λ w. absurd w;
+      no_file = λ w. absurd w;
       settled = λ w s h. if_done of_encoded of_encode d s (sym is ∙ h) e.settled;
       by_index = λ k h. absurd (encoding_is_no_frame level k h);
       any_source = λ k h. absurd (encoding_is_no_frame level k h);
@@ -107,7 +123,7 @@ returns-in-Decode g c =
     let written = g.K.Sink.written c.args.sink.now in
     let same = ap command_seen c.in-Decode.is in
     let asks = asked.decode in
-    same_run same (run_of_answer asks r c.tell-in-Decode.result bytes _ _ _ _ _ _ _ _ tt (λ file told. g.met.S.Source.told_are_bytes c.args.source.now file told)
+    same_run same (run_of_answer asks r c.tell-in-Decode.result bytes _ _ _ _ _ _ _ _ _ tt (λ file told. g.met.S.Source.told_are_bytes c.args.source.now file told)
     (λ file told. record {
       finished = subst (λ r. IfOk r (λ s. (out : List ℕ) × OutcomeOf asks file (done out (done_line asks s ∷ [])) × (g.K.Sink.written c.decode_file-answer.new.sink ≡ and_then written out))) (sym is)
           (if_answered of_decoded of_decode d _ (at_file d (λ s file. (out : List ℕ) × OutcomeOf asks file (done out (done_line asks (of_decoded s) ∷ [])) × (g.K.Sink.written c.decode_file-answer.new.sink ≡ and_then written out)) bytes file told e.decoded));
@@ -118,6 +134,7 @@ returns-in-Decode g c =
       memory = λ h. ap g.K.Sink.written (e.memory (back Memory h));
       no_report = λ h. decode_reports of_decoded d (sym is ∙ h);
     })
+    (λ w. absurd w)
     (record {
       read = λ h. e.read (back Read h);
       write = λ h. e.write (back Write h);
@@ -125,12 +142,56 @@ returns-in-Decode g c =
       memory = λ h. e.memory (back Memory h);
       untouched = λ fault h. e.untouched fault (back (File fault) h);
       idle = λ w. absurd w;
+      no_write = λ w. absurd w;
+      unread = λ w. absurd w;
+      no_file = λ w. absurd w;
       settled = λ w s h. if_done of_decoded of_decode d s (sym is ∙ h) e.settled;
       by_index = λ k h. absurd (decoding_is_no_frame k h);
       any_source = λ k h. absurd (decoding_is_no_frame k h);
       no_report = λ h. decode_reports of_decoded d (sym is ∙ h);
     })
     (subst (λ q. TellsLine (status_of r) (line_of q r) c.tell-in-Decode.result (record { before = g.R.Sink.faults c.args.report.now; now = g.R.Sink.faults c.tell-in-Decode.new.report }) (record { old = g.R.Sink.written c.args.report.now; new = g.R.Sink.written c.tell-in-Decode.new.report; room = g.R.Sink.room c.args.report.now })) same (record { reported = t.reported; whole = t.whole; cut_short = t.cut_short; cause = t.cause; sure = t.sure })))
+
+pub returns-in-Cut : goal.returns-in-Cut
+returns-in-Cut g c =
+    let d = c.cut_file-answer.result in
+    let e = c.cut_file-answer.ensures in
+    let r = c.cut_out.result in
+    let is : r ≡ answered of_cut_out of_cut d = c.cut_out.ensures in
+    let back : (f : Fault) → r ≡ Err f → d ≡ Err (to_cut f) = λ f h. back_from of_cut_out of_cut to_cut cut_again d f (sym is ∙ h) in
+    let t = c.tell-in-Cut.ensures in
+    let bytes = g.S.Source.bytes c.args.source.now in
+    let written = g.K.Sink.written c.args.sink.now in
+    let same = ap command_seen c.in-Cut.is in
+    let asks = asked.cut c.in-Cut.first c.in-Cut.last in
+    same_run same (run_of_answer asks r c.tell-in-Cut.result bytes _ _ _ _ _ _ _ _ _ tt (λ file told. g.met.S.Source.told_are_bytes c.args.source.now file told)
+    (λ file told. record {
+      finished = subst (λ r. IfOk r (λ s. (out : List ℕ) × OutcomeOf asks file (done out (done_line asks s ∷ [])) × (g.K.Sink.written c.cut_file-answer.new.sink ≡ and_then written out))) (sym is)
+          (if_answered of_cut_out of_cut d _ (at_file d (λ s file. (out : List ℕ) × OutcomeOf asks file (done out (done_line asks (of_cut_out s) ∷ [])) × (g.K.Sink.written c.cut_file-answer.new.sink ≡ and_then written out)) bytes file told e.cut));
+      file_is = λ fault h. e.file fault (back (File fault) h) file told;
+      untouched = λ fault h. ap g.K.Sink.written (e.untouched fault (back (File fault) h));
+      frame_is = λ k fault h. absurd (cut_refuses of_cut_out d k fault (sym is ∙ h));
+      cut_short = λ h. e.cut_short (either (back Read) (back Write) h) file told;
+      memory = λ h. ap g.K.Sink.written (e.memory (back Memory h));
+      no_report = λ h. cut_reports of_cut_out d (sym is ∙ h);
+    })
+    (λ w. absurd w)
+    (record {
+      read = λ h. e.read (back Read h);
+      write = λ h. e.write (back Write h);
+      sure = λ h. e.sure (back Write h);
+      memory = λ h. e.memory (back Memory h);
+      untouched = λ fault h. e.untouched fault (back (File fault) h);
+      idle = λ w. absurd w;
+      no_write = λ w. absurd w;
+      unread = λ w. absurd w;
+      no_file = λ w. absurd w;
+      settled = λ w s h. if_done of_cut_out of_cut d s (sym is ∙ h) e.settled;
+      by_index = λ k h. absurd (cutting_is_no_frame c.in-Cut.first c.in-Cut.last k h);
+      any_source = λ k h. absurd (cutting_is_no_frame c.in-Cut.first c.in-Cut.last k h);
+      no_report = λ h. cut_reports of_cut_out d (sym is ∙ h);
+    })
+    (record { reported = t.reported; whole = t.whole; cut_short = t.cut_short; cause = t.cause; sure = t.sure }))
 
 pub returns-in-Frame : goal.returns-in-Frame
 returns-in-Frame g c =
@@ -145,7 +206,7 @@ returns-in-Frame g c =
     let same = ap command_seen c.in-Frame.is in
     let asks = asked.frame c.in-Frame.frame c.in-Frame.by_index in
     let other : (f : DecodeFault) → d ≡ Err f → (f ≢ decoding.Write) → g.K.Sink.written c.frame_out-answer.new.sink ≡ written = λ f h other. ap g.K.Sink.written (e.untouched f h other) in
-    same_run same (run_of_answer asks r c.tell-in-Frame.result bytes _ _ _ _ _ _ _ _ tt (λ file told. g.met.S.Source.told_are_bytes c.args.source.now file told)
+    same_run same (run_of_answer asks r c.tell-in-Frame.result bytes _ _ _ _ _ _ _ _ _ tt (λ file told. g.met.S.Source.told_are_bytes c.args.source.now file told)
     (λ file told. record {
       finished = subst (λ r. IfOk r (λ s. (out : List ℕ) × OutcomeOf asks file (done out (done_line asks s ∷ [])) × (g.K.Sink.written c.frame_out-answer.new.sink ≡ and_then written out))) (sym is)
           (if_answered of_written of_decode d _ (at_file d (λ s file. (out : List ℕ) × OutcomeOf asks file (done out (done_line asks (of_written s) ∷ [])) × (g.K.Sink.written c.frame_out-answer.new.sink ≡ and_then written out)) bytes file told e.written));
@@ -156,6 +217,7 @@ returns-in-Frame g c =
       memory = λ h. other _ (back Memory h) (λ w. absurd cc);
       no_report = λ h. decode_reports of_written d (sym is ∙ h);
     })
+    (λ w. absurd w)
     (record {
       read = λ h. e.read (back Read h);
       write = λ h. e.write (back Write h);
@@ -163,6 +225,9 @@ returns-in-Frame g c =
       memory = λ h. e.untouched _ (back Memory h) (λ w. absurd cc);
       untouched = λ fault h. e.untouched _ (back (File fault) h) (λ w. absurd cc);
       idle = λ w. absurd w;
+      no_write = λ w. absurd w;
+      unread = λ w. absurd w;
+      no_file = λ w. absurd w;
       settled = λ w s h. if_done of_written of_decode d s (sym is ∙ h) e.settled;
       by_index = λ k h file told. few_given _ _ _ (e.given (by_index_is c.in-Frame.frame k c.in-Frame.by_index h) file told);
       any_source = λ k h. most_for_any _ _ (e.given_any (by_index_is c.in-Frame.frame k c.in-Frame.by_index h));
@@ -186,7 +251,7 @@ returns-in-Check g c =
     let same = ap command_seen c.in-Check.is in
     let asks = asked.check in
     let one : (file : List ℕ) → bytes ≡ Some file → One (OutcomeOf asks file) = λ file told. command_has_one_outcome asks file tt (g.met.S.Source.told_are_bytes c.args.source.now file told) in
-    same_run same (run_of_answer asks r c.tell-in-Check.result bytes _ _ _ _ _ _ _ _ tt (λ file told. g.met.S.Source.told_are_bytes c.args.source.now file told)
+    same_run same (run_of_answer asks r c.tell-in-Check.result bytes _ _ _ _ _ _ _ _ _ tt (λ file told. g.met.S.Source.told_are_bytes c.args.source.now file told)
     (λ file told. record {
       finished = finished_alone asks r written file (subst (λ r. IfOk r (λ s. OutcomeOf asks file (done [] (done_line asks s ∷ [])))) (sym is)
           (if_answered of_checked of_check d _ (at_file d (λ s file. OutcomeOf asks file (done [] (check_line s.frames s.unread ∷ []))) bytes file told e.sound)));
@@ -197,6 +262,7 @@ returns-in-Check g c =
       memory = λ h. refl;
       no_report = λ h. check_reports of_checked d (sym is ∙ h);
     })
+    (λ w. absurd w)
     (record {
       read = λ h. e.read (back Read h);
       write = λ h. absurd (check_writes of_checked d (sym is ∙ h));
@@ -204,12 +270,121 @@ returns-in-Check g c =
       memory = λ h. refl;
       untouched = λ fault h. refl;
       idle = λ w. refl;
+      no_write = λ w h. check_writes of_checked d (sym is ∙ h);
+      unread = λ w. absurd w;
+      no_file = λ w. absurd w;
       settled = λ w. absurd w;
       by_index = λ k h. absurd (checking_is_no_frame k h);
       any_source = λ k h. absurd (checking_is_no_frame k h);
       no_report = λ h. check_reports of_checked d (sym is ∙ h);
     })
     (subst (λ q. TellsLine (status_of r) (line_of q r) c.tell-in-Check.result (record { before = g.R.Sink.faults c.args.report.now; now = g.R.Sink.faults c.tell-in-Check.new.report }) (record { old = g.R.Sink.written c.args.report.now; new = g.R.Sink.written c.tell-in-Check.new.report; room = g.R.Sink.room c.args.report.now })) same (record { reported = t.reported; whole = t.whole; cut_short = t.cut_short; cause = t.cause; sure = t.sure })))
+
+pub returns-in-Make : goal.returns-in-Make
+returns-in-Make g c =
+    let d = c.make_file-answer.result in
+    let e = c.make_file-answer.ensures in
+    let r = c.made.result in
+    let is : r ≡ answered of_made of_make d = c.made.ensures in
+    let t = c.tell-in-Make.ensures in
+    let bytes = g.S.Source.bytes c.args.source.now in
+    let written = g.K.Sink.written c.args.sink.now in
+    let new = g.K.Sink.written c.make_file-answer.new.sink in
+    let same = ap command_seen c.in-Make.is in
+    let start = c.in-Make.start in
+    let frames = c.in-Make.frames in
+    let f = c.in-Make.channels in
+    let asks = asks_make start frames f in
+    let other : (fault : Fault) → (fault ≢ Write) → (fault ≢ Memory) → r ≡ Err fault → ⊥ = λ fault p q h. made_no_other of_made d fault (p, q) (sym is ∙ h) in
+    let no_write : r ≡ Err Write → d ≡ Err making.Write = λ h. made_write of_made d (sym is ∙ h) in
+    let one : (file : List ℕ) → bytes ≡ Some file → One (OutcomeOf asks file) = λ file told. command_has_one_outcome asks file tt (g.met.S.Source.told_are_bytes c.args.source.now file told) in
+    let answer : (file : List ℕ) → IsAnswer asks r file written new = λ file. record {
+      finished = subst (λ r. IfOk r (λ s. (out : List ℕ) × OutcomeOf asks file (done out (done_line asks s ∷ [])) × (new ≡ and_then written out))) (sym is)
+          (if_answered of_made of_make d _ (made_whole d start frames f file written new e.written e.frames));
+      file_is = λ fault h. absurd (other (File fault) (λ q. absurd cc) (λ q. absurd cc) h);
+      untouched = λ fault h. absurd (other (File fault) (λ q. absurd cc) (λ q. absurd cc) h);
+      frame_is = λ k fault h. absurd (other (Frame k fault) (λ q. absurd cc) (λ q. absurd cc) h);
+      cut_short = sink_failed (other Read (λ q. absurd cc) (λ q. absurd cc))
+          (λ h. (done (made_file start frames f) (made_line frames ∷ []), made_outcome start frames f file, e.cut_short (no_write h)));
+      memory = λ h. made_memory of_made d _ (λ fault q. ap g.K.Sink.written (e.memory fault q)) (sym is ∙ h);
+      no_report = λ h. other Report (λ q. absurd cc) (λ q. absurd cc) h;
+    } in
+    same_run same (run_of_answer asks r c.tell-in-Make.result bytes _ _ _ _ _ _ _ _ _ tt (λ file told. g.met.S.Source.told_are_bytes c.args.source.now file told)
+    (λ file told. answer file)
+    (λ w. answer [])
+    (record {
+      read = λ h. absurd (other Read (λ q. absurd cc) (λ q. absurd cc) h);
+      write = λ h. e.write (no_write h);
+      sure = λ h file told o outcome n room fits. e.sure (no_write h) n room (subst (λ w. length w ≤ n) (made_out start frames f file o outcome (one file told)) fits);
+      memory = λ h. made_memory of_made d _ (λ fault q. e.memory fault q) (sym is ∙ h);
+      untouched = λ fault h. absurd (other (File fault) (λ q. absurd cc) (λ q. absurd cc) h);
+      idle = λ w. absurd w;
+      no_write = λ w. absurd w;
+      unread = λ w. refl;
+      no_file = λ w. (
+        other Read (λ q. absurd cc) (λ q. absurd cc),
+        λ fault h. other (File fault) (λ q. absurd cc) (λ q. absurd cc) h,
+        λ k fault h. other (Frame k fault) (λ q. absurd cc) (λ q. absurd cc) h,
+      );
+      settled = λ w s h. if_done of_made of_make d s (sym is ∙ h) (when_ok d _ e.settled);
+      by_index = λ k h. absurd (making_is_no_frame start frames _ _ k h);
+      any_source = λ k h. absurd (making_is_no_frame start frames _ _ k h);
+      no_report = λ h. other Report (λ q. absurd cc) (λ q. absurd cc) h;
+    })
+    (record { reported = t.reported; whole = t.whole; cut_short = t.cut_short; cause = t.cause; sure = t.sure }))
+  where
+    when_ok : {A E : Type 0} (d : Result A E) (P : Type 0) → IfOk d (λ a. P) → OnOk d P
+    when_ok (Ok a) P p = p
+    when_ok (Err x) P p = tt {0}
+
+pub returns-in-MakeRun : goal.returns-in-MakeRun
+returns-in-MakeRun g c =
+    let d = c.make_run-answer.result in
+    let e = c.make_run-answer.ensures in
+    let r = c.ran.result in
+    let is : r ≡ answered of_ran of_run d = c.ran.ensures in
+    let t = c.tell-in-MakeRun.ensures in
+    let bytes = g.S.Source.bytes c.args.source.now in
+    let written = g.K.Sink.written c.args.sink.now in
+    let same = ap command_seen c.in-MakeRun.is in
+    let start = c.in-MakeRun.start in
+    let frames = c.in-MakeRun.frames in
+    let f = c.in-MakeRun.channels in
+    let asks = asks_run start frames f in
+    let other : (fault : Fault) → (fault ≢ Memory) → r ≡ Err fault → ⊥ = λ fault q h. ran_no_other of_ran d fault q (sym is ∙ h) in
+    let answer : (file : List ℕ) → IsAnswer asks r file written written = λ file. record {
+      finished = finished_alone asks r written file (subst (λ r. IfOk r (λ s. OutcomeOf asks file (done [] (done_line asks s ∷ [])))) (sym is)
+          (if_answered of_ran of_run d _ (run_done d start frames f file e.shape e.frames e.line)));
+      file_is = λ fault h. absurd (other (File fault) (λ q. absurd cc) h);
+      untouched = λ fault h. refl;
+      frame_is = λ k fault h. absurd (other (Frame k fault) (λ q. absurd cc) h);
+      cut_short = sink_failed (other Read (λ q. absurd cc)) (λ h. absurd (other Write (λ q. absurd cc) h));
+      memory = λ h. refl;
+      no_report = λ h. other Report (λ q. absurd cc) h;
+    } in
+    same_run same (run_of_answer asks r c.tell-in-MakeRun.result bytes _ _ _ _ _ _ _ _ _ tt (λ file told. g.met.S.Source.told_are_bytes c.args.source.now file told)
+    (λ file told. answer file)
+    (λ w. answer [])
+    (record {
+      read = λ h. absurd (other Read (λ q. absurd cc) h);
+      write = λ h. absurd (other Write (λ q. absurd cc) h);
+      sure = λ h. absurd (other Write (λ q. absurd cc) h);
+      memory = λ h. refl;
+      untouched = λ fault h. refl;
+      idle = λ w. refl;
+      no_write = λ w h. other Write (λ q. absurd cc) h;
+      unread = λ w. refl;
+      no_file = λ w. (
+        other Read (λ q. absurd cc),
+        λ fault h. other (File fault) (λ q. absurd cc) h,
+        λ k fault h. other (Frame k fault) (λ q. absurd cc) h,
+      );
+      settled = λ w. absurd w;
+      by_index = λ k h. absurd (running_is_no_frame start frames _ _ k h);
+      any_source = λ k h. absurd (running_is_no_frame start frames _ _ k h);
+      no_report = λ h. other Report (λ q. absurd cc) h;
+    })
+    (record { reported = t.reported; whole = t.whole; cut_short = t.cut_short; cause = t.cause; sure = t.sure }))
 
 -- ---- commands that report their lines themselves
 pub returns-in-Show : goal.returns-in-Show
@@ -225,7 +400,7 @@ returns-in-Show g c =
     let same = ap command_seen c.in-Show.is in
     let asks = asked.show in
     same_run same (run_of_listing asks r c.tell_fault.result bytes _ _ _ (record { before = g.R.Sink.faults c.show_file-answer.new.report; now = g.R.Sink.faults c.tell_fault.new.report }) _ _ _
-    (record { old = g.R.Sink.written c.show_file-answer.new.report; new = g.R.Sink.written c.tell_fault.new.report; room = g.R.Sink.room c.show_file-answer.new.report }) _ _ tt tt (λ k h. showing_is_no_frame k h)
+    (record { old = g.R.Sink.written c.show_file-answer.new.report; new = g.R.Sink.written c.tell_fault.new.report; room = g.R.Sink.room c.show_file-answer.new.report }) _ _ _ tt tt (λ w. w) (λ k h. showing_is_no_frame k h)
     (λ file told. g.met.S.Source.told_are_bytes c.args.source.now file told) refl refl refl refl
     (λ file told. record {
       lines = subst (λ r. IfOk r (λ s. (lines : List Line) × OutcomeOf asks file (done [] lines) × (g.R.Sink.written c.show_file-answer.new.report ≡ and_then (g.R.Sink.written c.args.report.now) (report lines)))) (sym is)
@@ -273,7 +448,7 @@ returns-in-ShowFrame g c =
     let same = ap command_seen c.in-ShowFrame.is in
     let asks = asked.show_frame c.in-ShowFrame.frame in
     same_run same (run_of_listing asks r c.tell_fault-in-ShowFrame.result bytes _ _ _ (record { before = g.R.Sink.faults c.show_file-answer-in-ShowFrame.new.report; now = g.R.Sink.faults c.tell_fault-in-ShowFrame.new.report }) _ _ _
-    (record { old = g.R.Sink.written c.show_file-answer-in-ShowFrame.new.report; new = g.R.Sink.written c.tell_fault-in-ShowFrame.new.report; room = g.R.Sink.room c.show_file-answer-in-ShowFrame.new.report }) _ _ tt tt (λ k h. showing_one_is_no_frame c.in-ShowFrame.frame k h)
+    (record { old = g.R.Sink.written c.show_file-answer-in-ShowFrame.new.report; new = g.R.Sink.written c.tell_fault-in-ShowFrame.new.report; room = g.R.Sink.room c.show_file-answer-in-ShowFrame.new.report }) _ _ _ tt tt (λ w. w) (λ k h. showing_one_is_no_frame c.in-ShowFrame.frame k h)
     (λ file told. g.met.S.Source.told_are_bytes c.args.source.now file told) refl refl refl refl
     (λ file told. record {
       lines = subst (λ r. IfOk r (λ s. (lines : List Line) × OutcomeOf asks file (done [] lines) × (g.R.Sink.written c.show_file-answer-in-ShowFrame.new.report ≡ and_then (g.R.Sink.written c.args.report.now) (report lines)))) (sym is)
@@ -321,7 +496,7 @@ returns-in-Index g c =
     let same = ap command_seen c.in-Index.is in
     let asks = asked.index in
     same_run same (run_of_listing asks r c.tell_fault-in-Index.result bytes _ _ _ (record { before = g.R.Sink.faults c.index_file-answer.new.report; now = g.R.Sink.faults c.tell_fault-in-Index.new.report }) _ _ _
-    (record { old = g.R.Sink.written c.index_file-answer.new.report; new = g.R.Sink.written c.tell_fault-in-Index.new.report; room = g.R.Sink.room c.index_file-answer.new.report }) _ _ tt tt (λ k h. listing_is_no_frame k h)
+    (record { old = g.R.Sink.written c.index_file-answer.new.report; new = g.R.Sink.written c.tell_fault-in-Index.new.report; room = g.R.Sink.room c.index_file-answer.new.report }) _ _ _ tt tt (λ w. w) (λ k h. listing_is_no_frame k h)
     (λ file told. g.met.S.Source.told_are_bytes c.args.source.now file told) refl refl refl refl
     (λ file told. record {
       lines = subst (λ r. IfOk r (λ s. (lines : List Line) × OutcomeOf asks file (done [] lines) × (g.R.Sink.written c.index_file-answer.new.report ≡ and_then (g.R.Sink.written c.args.report.now) (report lines)))) (sym is)

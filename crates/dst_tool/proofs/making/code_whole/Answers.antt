@@ -1,10 +1,9 @@
 -- The file is accepted, and the sink has room.
-use Rattle.std.proofs.Common.{◌≡◌, ◌≤◌, ◌∙◌, ap, sym, subst, refl, length, Some, None, Err}
+use Rattle.std.proofs.Common.{◌≡◌, ◌≤◌, ◌∙◌, ap, sym, subst, length, Some, None, Err}
 use Rattle.level_spec.specs.Picks.{level_picks}
 use Rattle.dsdiff_spec.specs.Coded.{coded}
 use Rattle.dsdiff_spec.specs.Rules.{accepted}
-use Rattle.dst_write.specs.declared.faults.EncodeFault.TheVariants.{Source, Write}
-use Rattle.dsdiff_chunks.specs.declared.open.OpenFault.TheVariants.{File}
+use Rattle.dst_write.specs.declared.faults.EncodeFault.TheVariants.{Source}
 use Rattle.dst_tool.proofs.making.code_whole.Goals as goal
 
 pub unreachable-requires-in-Err-Source-File : goal.unreachable-requires-in-Err-Source-File

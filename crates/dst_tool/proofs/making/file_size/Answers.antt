@@ -1,4 +1,4 @@
-use Rattle.std.proofs.Common.{◌+◌, ◌*◌, ◌≤◌, ℕ, ap₂, sym, ◌∙◌, arith}
+use Rattle.std.proofs.Common.{◌+◌, ◌*◌, ℕ, ap₂, sym, ◌∙◌, arith}
 use Rattle.dst_tool.proofs.MadeRuns.{file_long}
 use Rattle.dst_tool.proofs.making.file_size.Goals as goal
 

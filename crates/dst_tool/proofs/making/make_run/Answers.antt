@@ -1,8 +1,8 @@
 -- What the three calls leave, by the laws of files.
-use Rattle.std.proofs.Common.{◌≡◌, ◌+◌, ◌-◌, ◌*◌, ◌≤◌, ℕ, [], ◌∷◌, length, Some, None, arith, ap, ap₂, sym, subst, ◌∙◌}
+use Rattle.std.proofs.Common.{◌≡◌, ◌+◌, ◌-◌, ◌*◌, ◌≤◌, ℕ, [], ◌∷◌, length, None, arith, ap, ap₂, sym, subst, ◌∙◌}
 use Rattle.dst_spec.specs.Bits.{AreBytes}
 use Rattle.dst_spec.specs.Sample.{sound_bytes}
-use Rattle.dsdiff_spec.specs.Form.{Form, size_of_sound}
+use Rattle.dsdiff_spec.specs.Form.{size_of_sound}
 use Rattle.dsdiff_spec.specs.Laws.{IsTheOutcome}
 use Rattle.dsdiff_spec.specs.Lines.{decoded_line, made_run_line}
 use Rattle.dsdiff_spec.specs.Outcome.{coded_at, stored_at, done}

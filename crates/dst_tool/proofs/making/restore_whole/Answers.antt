@@ -1,9 +1,8 @@
 -- Its one outcome is neither a refused file nor a refused frame, and the sink has room.
-use Rattle.std.proofs.Common.{◌≡◌, ◌∙◌, arith, ap, refl, sym, subst, [], ◌∷◌, Some, None, Err}
+use Rattle.std.proofs.Common.{◌≡◌, ◌∙◌, arith, ap, refl, sym, subst, [], ◌∷◌, Err}
 use Rattle.dsdiff_spec.specs.Outcome.{Answer, OfCommand, done, file_refused, frame_refused}
 use Rattle.dsdiff_spec.specs.Words.{decode}
-use Rattle.dst_read.specs.declared.faults.DecodeFault.TheVariants.{Source, Write}
-use Rattle.dsdiff_chunks.specs.declared.open.OpenFault.TheVariants.{File}
+use Rattle.dst_read.specs.declared.faults.DecodeFault.TheVariants.{Source}
 use Rattle.dst_tool.proofs.making.restore_whole.Goals as goal
 
 pub unreachable-requires-in-Err-Source-File : goal.unreachable-requires-in-Err-Source-File

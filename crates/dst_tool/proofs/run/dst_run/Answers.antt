@@ -1,12 +1,12 @@
 -- Words that aren't understood, and commands.
-use Rattle.std.proofs.Common.{inr, ◌≡◌, List, Option, Some, None, [], ◌∷◌, map, option_map, refl, ap, sym, subst, ◌∙◌}
+use Rattle.std.proofs.Common.{inr, ◌≡◌, List, Option, Some, [], ◌∷◌, map, option_map, ap, sym, subst}
 use Rattle.std.specs.String.{string_bytes}
-use Rattle.dsdiff_spec.specs.Lines.{words_line, report}
-use Rattle.dsdiff_spec.specs.Rows.{command_of, task_of}
+use Rattle.dsdiff_spec.specs.Lines.{words_line}
+use Rattle.words_spec.specs.Rows.{command_of, task_of}
 use Rattle.dsdiff_spec.specs.Words.{Task, Word}
 use Rattle.dst_words.specs.Commands.{command_seen}
-use Rattle.dst_tool.specs.Runs.{WritesNowhere}
-use Rattle.dst_tool.proofs.Runs.{of_command, same_command, some_command, ends_of_words, run_headline, run_completes, run_refused, run_refused_frame, no_command, only_words_line, none_headline, reported}
+use Rattle.dst_tool.specs.Runs.{ReadsNothing, WritesNowhere}
+use Rattle.dst_tool.proofs.Runs.{of_command, same_command, some_command, ends_of_words, run_headline, run_completes, run_refused, run_refused_frame, no_command, none_headline, reported}
 use Rattle.dst_tool.proofs.run.dst_run.Goals as goal
 
 -- the command of what the words ask for
@@ -31,7 +31,7 @@ returns-in-Some-clause-headline g c file told no_read no_write no_report =
     let asks = command_seen c.in-Some.field-0.command in
     let e : command_of words ≡ Some asks = sym (command_from _ _ c.in-Some.ensures.task) in
     let r = c.run_command.ensures in
-    run_headline words asks file c.run_command.result _ _ _ _ _ _ _ _ _ e r told no_read no_write no_report
+    run_headline words asks file c.run_command.result _ _ _ _ _ _ _ _ _ _ e r told no_read no_write no_report
 
 pub returns-in-Some-clause-complete : goal.returns-in-Some-clause-complete
 returns-in-Some-clause-complete g c file told none no_read no_write no_report =
@@ -39,7 +39,7 @@ returns-in-Some-clause-complete g c file told none no_read no_write no_report =
     let asks = command_seen c.in-Some.field-0.command in
     let e : command_of words ≡ Some asks = sym (command_from _ _ c.in-Some.ensures.task) in
     let r = c.run_command.ensures in
-    run_completes words asks file c.run_command.result _ _ _ _ e none (run_headline words asks file c.run_command.result _ _ _ _ _ _ _ _ _ e r told no_read no_write no_report)
+    run_completes words asks file c.run_command.result _ _ _ _ e none (run_headline words asks file c.run_command.result _ _ _ _ _ _ _ _ _ _ e r told no_read no_write no_report)
 
 pub returns-in-Some-clause-ends : goal.returns-in-Some-clause-ends
 returns-in-Some-clause-ends g c file told =
@@ -72,7 +72,7 @@ returns-in-Some-clause-refused g c five file told =
     let asks = command_seen c.in-Some.field-0.command in
     let e : command_of words ≡ Some asks = sym (command_from _ _ c.in-Some.ensures.task) in
     let r = c.run_command.ensures in
-    run_refused words asks file c.run_command.result _ _ _ _ _ _ _ _ _ e r told five
+    run_refused words asks file c.run_command.result _ _ _ _ _ _ _ _ _ _ e r told five
 
 pub returns-in-Some-clause-frame : goal.returns-in-Some-clause-frame
 returns-in-Some-clause-frame g c six file told =
@@ -80,7 +80,7 @@ returns-in-Some-clause-frame g c six file told =
     let asks = command_seen c.in-Some.field-0.command in
     let e : command_of words ≡ Some asks = sym (command_from _ _ c.in-Some.ensures.task) in
     let r = c.run_command.ensures in
-    run_refused_frame words asks file c.run_command.result _ _ _ _ _ _ _ _ _ e r told six
+    run_refused_frame words asks file c.run_command.result _ _ _ _ _ _ _ _ _ _ e r told six
 
 pub returns-in-Some-clause-by_index : goal.returns-in-Some-clause-by_index
 returns-in-Some-clause-by_index g c k is file told =
@@ -105,6 +105,38 @@ returns-in-Some-clause-no_call g c d is nowhere =
     let e : command_of words ≡ Some asks = sym (command_from _ _ c.in-Some.ensures.task) in
     let r = c.run_command.ensures in
     r.idle (subst WritesNowhere (sym (same_command words asks d e is)) nowhere)
+
+pub returns-in-Some-clause-no_write : goal.returns-in-Some-clause-no_write
+returns-in-Some-clause-no_write g c d is nowhere =
+    let words = map string_bytes c.args.words.now in
+    let asks = command_seen c.in-Some.field-0.command in
+    let e : command_of words ≡ Some asks = sym (command_from _ _ c.in-Some.ensures.task) in
+    let r = c.run_command.ensures in
+    r.no_write (subst WritesNowhere (sym (same_command words asks d e is)) nowhere)
+
+pub returns-in-Some-clause-no_read : goal.returns-in-Some-clause-no_read
+returns-in-Some-clause-no_read g c d is nothing =
+    let words = map string_bytes c.args.words.now in
+    let asks = command_seen c.in-Some.field-0.command in
+    let e : command_of words ≡ Some asks = sym (command_from _ _ c.in-Some.ensures.task) in
+    let r = c.run_command.ensures in
+    r.unread (subst ReadsNothing (sym (same_command words asks d e is)) nothing)
+
+pub returns-in-Some-clause-made : goal.returns-in-Some-clause-made
+returns-in-Some-clause-made g c d is nothing =
+    let words = map string_bytes c.args.words.now in
+    let asks = command_seen c.in-Some.field-0.command in
+    let e : command_of words ≡ Some asks = sym (command_from _ _ c.in-Some.ensures.task) in
+    let ends = c.run_command.ensures.made (subst ReadsNothing (sym (same_command words asks d e is)) nothing) in
+    (ends.0, ends.1, ends_of_words words asks [] ends.0 ends.1 _ _ e ends.2, ends.3)
+
+pub returns-in-Some-clause-no_file : goal.returns-in-Some-clause-no_file
+returns-in-Some-clause-no_file g c d is nothing =
+    let words = map string_bytes c.args.words.now in
+    let asks = command_seen c.in-Some.field-0.command in
+    let e : command_of words ≡ Some asks = sym (command_from _ _ c.in-Some.ensures.task) in
+    let r = c.run_command.ensures in
+    r.no_file (subst ReadsNothing (sym (same_command words asks d e is)) nothing)
 
 pub returns-in-Some-clause-words : goal.returns-in-Some-clause-words
 returns-in-Some-clause-words g c none =

@@ -3,7 +3,7 @@ use Rattle.std.proofs.Common.{◌+◌, List, ℕ, drop, refl, ap, sym, ◌∙◌
 use Rattle.std.specs.Prelude.{◌&&◌}
 use Rattle.std.specs.List.{list_all}
 use Rattle.std.proofs.lemmas.List.{drop_all}
-use Rattle.dsdiff_spec.specs.Words.{is_digit}
+use Rattle.words_spec.specs.Slots.{is_digit}
 use Rattle.dst_words.proofs.Digits.{split_at}
 use Rattle.dst_words.proofs.slots.are_digits.Goals as goal
 

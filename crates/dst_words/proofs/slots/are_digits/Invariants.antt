@@ -1,7 +1,7 @@
 -- Whether all bytes are digits hangs on those to come.
 use Rattle.std.proofs.Common.{◌≡◌, drop}
 use Rattle.std.specs.List.{list_all}
-use Rattle.dsdiff_spec.specs.Words.{is_digit}
+use Rattle.words_spec.specs.Slots.{is_digit}
 use Rattle.dst_words.proofs.slots.are_digits.Given as goal
 
 abbrev pub invariant-loop-byte : goal.invariant-loop-byte

@@ -3,8 +3,9 @@ use Rattle.std.proofs.Common.{◌≡◌, ℕ, List, [], ◌∷◌, map, length, 
 use Rattle.std.proofs.lemmas.List.{length-map}
 use Rattle.std.specs.Prelude.{option_map}
 use Rattle.std.specs.String.{string_bytes}
-use Rattle.dsdiff_spec.specs.Words.{Word, level, workers}
-use Rattle.dsdiff_spec.specs.Rows.{level_of, workers_of}
+use Rattle.dsdiff_spec.specs.Words.{Word}
+use Rattle.words_spec.specs.Slots.{level, workers}
+use Rattle.words_spec.specs.Rows.{level_of, workers_of}
 use Rattle.dst_words.specs.RowWords.{level_and_workers_in}
 use Rattle.dst_words.proofs.Options.{too_many_words}
 use Rattle.dst_words.proofs.slots.read_level_and_workers.Goals as goal

@@ -2,7 +2,7 @@
 use Rattle.std.proofs.Common.{◌≡◌, true, sym, subst, ap, ◌∙◌}
 use Rattle.std.specs.String.{string_bytes}
 use Rattle.std.specs.Str.Parse.{ParsesUnsigned}
-use Rattle.dsdiff_spec.specs.Words.{is_numeral}
+use Rattle.words_spec.specs.Slots.{is_numeral}
 use Rattle.dst_words.proofs.Digits.{number_read, number_not_read}
 use Rattle.dst_words.proofs.slots.read_number.Goals as goal
 

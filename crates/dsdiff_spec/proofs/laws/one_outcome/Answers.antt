@@ -1,5 +1,0 @@
-use Rattle.dsdiff_spec.proofs.OneAnswer.{one_outcome as law}
-use Rattle.dsdiff_spec.proofs.laws.one_outcome.Goals as goal
-
-pub returns : goal.returns
-returns c = law

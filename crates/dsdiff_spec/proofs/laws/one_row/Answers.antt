@@ -1,5 +1,0 @@
-use Rattle.dsdiff_spec.proofs.OneRow.{one_row as law}
-use Rattle.dsdiff_spec.proofs.laws.one_row.Goals as goal
-
-pub returns : goal.returns
-returns c = law

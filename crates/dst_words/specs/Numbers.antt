@@ -1,9 +1,0 @@
--- The numbers that a refusal keeps, as the list that the definitions have.
-use Rattle.std.specs.Prelude.{ℕ, List, [], ◌∷◌}
-use Rattle.dst_words.specs.declared.texts.Numbers.{Numbers}
-use Rattle.dst_words.specs.declared.texts.Numbers.TheVariants.{Nothing, One, Two}
-
-abbrev pub numbers_seen : Numbers → List ℕ
-numbers_seen Nothing = []
-numbers_seen (One n) = n ∷ []
-numbers_seen (Two m n) = m ∷ n ∷ []

@@ -1,0 +1,5 @@
+use Rattle.words_spec.proofs.OneAnswer.{one_outcome as law}
+use Rattle.words_spec.proofs.laws.one_outcome.Goals as goal
+
+pub returns : goal.returns
+returns c = law
