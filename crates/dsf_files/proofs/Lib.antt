@@ -1,0 +1,8 @@
+pub mod Heads
+pub mod SoundSamples
+pub mod PlainBytes
+pub mod SoundBytes
+pub mod RowBytes
+pub mod Written
+pub mod Whole
+pub mod Reading

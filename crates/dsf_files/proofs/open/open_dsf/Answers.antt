@@ -1,0 +1,36 @@
+use Rattle.std.proofs.Common.{◌≡◌, ◌<◌, length, Some, ap, sym, ◌∙◌, arith}
+use Rattle.dsdiff_spec.specs.declared.faults.FileFault.TheVariants.{DsfForm}
+use Rattle.dsf_files.proofs.Heads.{short_is_refused, fault_by_head, said_by}
+use Rattle.dsf_files.proofs.open.open_dsf.Goals as goal
+
+pub returns-then-size-clause-fault : goal.returns-then-size-clause-fault
+returns-then-size-clause-fault g c fault e xs told =
+    let there = c.in-Ok.ensures.bytes ∙ told in
+    let long = g.met.S.Source.size_is_length _ xs _ there c.in-Ok.ensures.size in
+    let short : length xs < 92 = omega (arith, long, c.if-size.true) in
+    let same : DsfForm ≡ fault = cc in
+    short_is_refused xs short ∙ ap Some same
+
+pub returns-in-Ok-form_of-clause-size_stays : goal.returns-in-Ok-form_of-clause-size_stays
+returns-in-Ok-form_of-clause-size_stays g c n known = c.in-Ok-read_range.ensures.size_stays ∙ c.in-Ok.ensures.stays n known
+
+pub returns-in-Err-clause-size_stays : goal.returns-in-Err-clause-size_stays
+returns-in-Err-clause-size_stays g c n known = c.in-Ok-read_range.ensures.size_stays ∙ c.in-Ok.ensures.stays n known
+
+pub returns-in-Ok-form_of-clause-form : goal.returns-in-Ok-form_of-clause-form
+returns-in-Ok-form_of-clause-form g c xs told =
+    let there = c.in-Ok.ensures.bytes ∙ told in
+    let long = g.met.S.Source.size_is_length _ xs _ there c.in-Ok.ensures.size in
+    let read = c.in-Ok-read_range.ensures.read xs there in
+    record {
+      accepted = fault_by_head xs _ c.in-Ok.size long c.if-size.false read ∙ c.in-Ok-form_of.ensures.accepted;
+      says = said_by xs _ _ read c.in-Ok-form_of.ensures.says;
+    }
+
+pub returns-in-Err-clause-fault : goal.returns-in-Err-clause-fault
+returns-in-Err-clause-fault g c fault e xs told =
+    let there = c.in-Ok.ensures.bytes ∙ told in
+    let long = g.met.S.Source.size_is_length _ xs _ there c.in-Ok.ensures.size in
+    let read = c.in-Ok-read_range.ensures.read xs there in
+    let same : c.in-Err.fault ≡ fault = cc in
+    fault_by_head xs _ c.in-Ok.size long c.if-size.false read ∙ c.in-Err.ensures.refused ∙ ap Some same

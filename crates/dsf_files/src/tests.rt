@@ -1,0 +1,74 @@
+// DSF files written by hand, read as the form that stands for them.
+use crate::{DsfForm, DsfSource, open_dsf, write_dsf_head};
+use dsdiff_chunks::{FileFault, OpenFault, read_range};
+use dst_num::Channels;
+use dst_streams::{HonestSource, MemorySink, Source};
+use std::test::Fail;
+
+// Twelve samples of one channel, with 1 bit per sample.
+const HEAD: &[u8; 92] = b"DSD \x1c\0\0\0\0\0\0\0\x5c\x10\0\0\0\0\0\0\0\0\0\0\0\0\0\0\
+fmt \x34\0\0\0\0\0\0\0\x01\0\0\0\0\0\0\0\x01\0\0\0\x01\0\0\0\0\x11\x2b\0\x01\0\0\0\
+\x0c\0\0\0\0\0\0\0\0\x10\0\0\0\0\0\0data\x0c\x10\0\0\0\0\0\0";
+
+// The form that stands for it, with the first sample 1 and all others 0.
+const PLAIN: &[u8; 154] = b"FRM8\0\0\0\0\0\0\0\x8eDSD \
+FVER\0\0\0\0\0\0\0\x04\x01\x05\0\0\
+PROP\0\0\0\0\0\0\0\x46SND \
+FS  \0\0\0\0\0\0\0\x04\0\x2b\x11\0\
+CHNL\0\0\0\0\0\0\0\x06\0\x01C000\
+CMPR\0\0\0\0\0\0\0\x13DSD \x0enot compressed\0\
+DSD \0\0\0\0\0\0\0\x02\x80\0\
+DSFK\0\0\0\0\0\0\0\x0e\x01\0\0\0\0\0\0\0\x0c\0\0\0\x01\x01";
+
+// A file with this head, and a block that begins with a byte.
+fn file_of(head: &[u8; 92], first: u8) -> [u8; 4188] {
+    let mut file = [0; 4188];
+    file[..92].copy_from_slice(head);
+    file[92] = first;
+    file
+}
+
+#[test]
+fn twelve_samples_are_two_bytes_of_sound(rt: HostRuntime) -> Result<(), Fail> {
+    let file = file_of(HEAD, 1);
+    let mut source = HonestSource::new(&file);
+    let Ok(form) = open_dsf(&mut source) else {
+        return Err("not opened")?;
+    };
+    let mut plain = DsfSource::new(&mut source, form);
+    assert_eq!(rt; plain.size(), Ok(154));
+    let mut bytes = [0; 154];
+    assert_eq!(rt; read_range(&mut plain, 0, &mut bytes), Ok(()));
+    assert!(rt; bytes == *PLAIN);
+    assert_eq!(rt; plain.read_at(154, &mut bytes), Ok(0));
+    Ok(())
+}
+
+#[test]
+fn head_is_written_as_it_is_read(rt: HostRuntime) -> Result<(), Fail> {
+    let channels = Channels::new(1).ok_or("no channels")?;
+    let form = DsfForm {
+        channels,
+        samples: 12,
+        kind: 1,
+        bits: 1,
+    };
+    let mut sink = MemorySink::new(rt.alloc(), 92, &[])?;
+    assert_eq!(rt; write_dsf_head(&mut sink, &form), Ok(()));
+    assert!(rt; sink.written() == HEAD.as_slice());
+    let file = file_of(HEAD, 0);
+    assert_eq!(rt; open_dsf(&mut HonestSource::new(&file)), Ok(form));
+    Ok(())
+}
+
+#[test]
+fn size_of_blocks_is_compared(rt: HostRuntime) {
+    let mut file = file_of(HEAD, 0);
+    file[84] = 11;
+    let fault = FileFault::DsfCount {
+        samples: 12,
+        size: 4107,
+    };
+    let answer = open_dsf(&mut HonestSource::new(&file));
+    assert_eq!(rt; answer, Err(OpenFault::File(fault)));
+}

@@ -1,0 +1,5 @@
+pub mod Alike
+pub mod Accepted
+pub mod PlainForm
+pub mod Chunks
+pub mod ComingBack
