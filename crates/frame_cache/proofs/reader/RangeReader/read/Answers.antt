@@ -1,0 +1,120 @@
+-- Frame by frame the buffer is filled; a frame that can't be had leaves what was wanted before it.
+use Rattle.std.proofs.Common.{rules, ◌≡◌, ℕ, ◌+◌, ◌-◌, ◌*◌, ◌/◌, ◌<◌, ◌≤◌, List, [], ◌∷◌, ◌++◌, length, take, Some, Err, Result, refl, ap, sym, subst, ◌∙◌, arith}
+use Rattle.std.specs.Prelude.{min, max}
+use Rattle.std.specs.List.{range_with_len}
+use Rattle.dst_spec.specs.Sample.{sound_bytes}
+use Rattle.dst_spec.proofs.Lists.{same_err}
+use Rattle.dsdiff_spec.specs.Bytes.{bytes_at, between}
+use Rattle.dsdiff_spec.specs.Ranges.{touched}
+use Rattle.frame_cache.specs.declared.reader.RangeFault.TheVariants.{Frame}
+use Rattle.frame_cache.specs.Reader.{Reader, wanted, order}
+use Rattle.frame_cache.specs.Reads.{IsRefusedAt}
+use Rattle.frame_cache.proofs.Ending.{frame_below, size_is_small, decoded_below, one_decoded, front_is, one_more_wanted, front_part, part_way, refused_at, all_read, some_bytes, all_bytes}
+use Rattle.frame_cache.proofs.Filling.{part_more}
+use Rattle.frame_cache.proofs.reader.RangeReader.read.Goals as goal
+
+pub overflow_add-decoded : goal.overflow_add-decoded
+overflow_add-decoded g c =
+    let r = c.args.self.now in
+    let at = c.end_of_touched-end.ensures.each c.loop-frame.frame c.loop-frame.auto.frame c.loop-frame-test.true in
+    let below = frame_below r c.frame_bytes-bytes.result c.loop-frame.frame (c.args.from + length c.args.out.now) c.frame_bytes-bytes.ensures.together
+    c.frame_bytes-bytes.ensures.bytes c.requires.within at.0 in
+    let before = decoded_below r c.loop-frame.self _ _ _ _ _ _ c.loop-frame.invariant.wanted in
+    let here = one_decoded c.loop-frame.self c.bring.new.self c.loop-frame.frame _ _ _ _ c.in-Ok.ensures.wanted in
+    omega (arith, below, before, here, c.frame_bytes-bytes.ensures.together.few)
+
+pub returns-in-Err-clause-frame : goal.returns-in-Err-clause-frame
+returns-in-Err-clause-frame g c k fault e =
+    let r = c.args.self.now in
+    let first = c.args.from / c.frame_bytes-bytes.result in
+    let it = c.in-Err.ensures.fault k fault (ap Err (same_err c.in-Err.fault (Frame k fault) e)) in
+    let is : wanted r c.args.from (length c.args.out.now) ≡ range_with_len first (c.end_of_touched-end.result - first) =
+    ap (λ n. touched n c.args.from (c.args.from + length c.args.out.now)) (sym c.frame_bytes-bytes.ensures.bytes) ∙ c.end_of_touched-end.ensures.touched in
+    let below : c.loop-frame.frame - first < c.end_of_touched-end.result - first = omega (arith, c.loop-frame.auto.frame, c.loop-frame-test.true) in
+    subst (λ j. IsRefusedAt r (wanted r c.args.from (length c.args.out.now)) (order c.bring.new.self) (g.S.Source.bytes c.args.source.now) j fault) (sym it.0)
+    (refused_at r c.loop-frame.self c.bring.new.self _ first _ c.loop-frame.frame _ _ _ _ _ fault is c.loop-frame.auto.frame below
+    c.loop-frame.invariant.wanted c.in-Err.ensures.unchanged c.in-Err.ensures.not_kept c.loop-frame.invariant.bytes it.1)
+
+pub returns-in-Err-clause-part_way : goal.returns-in-Err-clause-part_way
+returns-in-Err-clause-part_way g c =
+    let r = c.args.self.now in
+    let first = c.args.from / c.frame_bytes-bytes.result in
+    let is : wanted r c.args.from (length c.args.out.now) ≡ range_with_len first (c.end_of_touched-end.result - first) =
+    ap (λ n. touched n c.args.from (c.args.from + length c.args.out.now)) (sym c.frame_bytes-bytes.ensures.bytes) ∙ c.end_of_touched-end.ensures.touched in
+    let below : c.loop-frame.frame - first < c.end_of_touched-end.result - first = omega (arith, c.loop-frame.auto.frame, c.loop-frame-test.true) in
+    part_way r c.loop-frame.self c.bring.new.self _ first _ c.loop-frame.frame _ _ _ _ is c.loop-frame.auto.frame below c.loop-frame.invariant.wanted
+    c.in-Err.ensures.unchanged
+
+pub front-requires : goal.front-requires
+front-requires g c =
+    let h = front_is c.args.self.now c.loop-frame.self c.bring.new.self c.loop-frame.frame _ _ _ _ _ _ _ _ _ c.frame_bytes-bytes.ensures.together.some
+    c.loop-frame.invariant.wanted c.in-Ok.ensures.wanted in
+    record { some = (h.first, h.rest, h.parts) }
+
+pub overflow_mul-frame : goal.overflow_mul-frame
+overflow_mul-frame g c =
+    let at = c.end_of_touched-end.ensures.each c.loop-frame.frame c.loop-frame.auto.frame c.loop-frame-test.true in
+    let small = size_is_small c.args.self.now c.frame_bytes-bytes.result c.frame_bytes-bytes.ensures.together c.frame_bytes-bytes.ensures.bytes
+    c.frame_bytes-bytes.ensures.most in
+    omega (arith, at.0, small, c.requires.within)
+
+pub copy_part-requires-clause-fits : goal.copy_part-requires-clause-fits
+copy_part-requires-clause-fits g c =
+    let small = size_is_small c.args.self.now c.frame_bytes-bytes.result c.frame_bytes-bytes.ensures.together c.frame_bytes-bytes.ensures.bytes
+    c.frame_bytes-bytes.ensures.most in
+    omega (arith, small, c.requires.within, c.loop-frame.invariant.long)
+
+pub copy_part-requires-clause-sound_fits : goal.copy_part-requires-clause-sound_fits
+copy_part-requires-clause-sound_fits g c =
+    let at = c.end_of_touched-end.ensures.each c.loop-frame.frame c.loop-frame.auto.frame c.loop-frame-test.true in
+    let small = size_is_small c.args.self.now c.frame_bytes-bytes.result c.frame_bytes-bytes.ensures.together c.frame_bytes-bytes.ensures.bytes
+    c.frame_bytes-bytes.ensures.most in
+    let same = ap (λ (x : Reader). sound_bytes x.shape) (c.in-Ok.ensures.wanted.same ∙ ap (λ (x : Reader). record x { kept = c.bring.new.self.kept })
+    c.loop-frame.invariant.wanted.same) in
+    omega (arith, at.0, small, c.requires.within, c.front.ensures.long, same, c.frame_bytes-bytes.ensures.bytes, c.frame_bytes-bytes.ensures.most)
+
+pub loop-frame-preserved : goal.loop-frame-preserved
+loop-frame-preserved g c =
+    let r = c.args.self.now in
+    let inv = c.loop-frame.invariant in
+    let k = c.loop-frame.frame in
+    let n = c.frame_bytes-bytes.result in
+    let len = length c.args.out.now in
+    let end = c.args.from + len in
+    let at = c.end_of_touched-end.ensures.each k c.loop-frame.auto.frame c.loop-frame-test.true in
+    let together = c.frame_bytes-bytes.ensures.together in
+    let below = frame_below r n k end together c.frame_bytes-bytes.ensures.bytes c.requires.within at.0 in
+    let all = one_more_wanted r c.loop-frame.self c.bring.new.self (c.args.from / n) k _ _ _ _ _ _ _ c.loop-frame.auto.frame inv.bytes inv.wanted
+    c.in-Ok.ensures.wanted in
+    let h = front_is r c.loop-frame.self c.bring.new.self k _ _ _ _ _ _ _ _ _ together.some inv.wanted c.in-Ok.ensures.wanted in
+    let shape = ap (λ (x : Reader). sound_bytes x.shape) all.same in
+    record {
+      bytes = c.in-Ok.ensures.bytes ∙ inv.bytes;
+      known = c.in-Ok.ensures.size_stays ∙ inv.known;
+      later = omega (arith, c.in-Ok.ensures.later, inv.later);
+      long = c.copy_part.auto.out ∙ inv.long;
+      wanted = all;
+      sound = λ file form sound told keeps of whole.
+          let next : k * n + n ≡ (k + 1) * n = omega arith in
+          let s = c.front.result.now in
+          let s_is = c.front.ensures.sound h.first h.rest h.parts in
+          let long : length s ≡ n = c.front.ensures.long ∙ shape ∙ sym c.frame_bytes-bytes.ensures.bytes in
+          let copied = subst (λ w. take (min (c.args.from + w) (k * n + length s) - c.args.from) c.copy_part.new.out
+          ≡ take (max c.args.from (k * n) - c.args.from) c.loop-frame.out ++ between s (max c.args.from (k * n) - k * n)
+          (min (c.args.from + w) (k * n + length s) - k * n)) inv.long c.copy_part.ensures in
+          let some : c.args.from < end = some_bytes c.args.from len _ _ k c.end_of_touched-end.ensures.whole c.loop-frame.auto.frame c.loop-frame-test.true in
+          subst (λ q. take (min end q - c.args.from) c.copy_part.new.out ≡ bytes_at sound c.args.from (min end q - c.args.from)) next
+          (part_more sound c.loop-frame.out c.copy_part.new.out s n c.args.from end (k * n) some at.0 at.1 long
+          (inv.sound file form sound told keeps of whole) copied
+          (front_part file form sound s r c.bring.new.self k n end of c.frame_bytes-bytes.ensures.shape whole all.same (all.keeps file told keeps) h s_is below
+          c.frame_bytes-bytes.ensures.bytes c.requires.within));
+    }
+
+pub returns-clause-sound : goal.returns-clause-sound
+returns-clause-sound g c file form sound told keeps of whole =
+    let n = c.frame_bytes-bytes.result in
+    let len = length c.args.out.now in
+    let last : c.loop-frame.frame ≡ c.end_of_touched-end.result =
+    omega (arith, c.loop-frame-test.false, c.loop-frame.auto.frame-end, c.end_of_touched-end.ensures.least) in
+    let done = all_bytes c.args.from len c.end_of_touched-end.result n c.loop-frame.frame c.end_of_touched-end.ensures.reached last in
+    all_read sound c.loop-frame.out c.args.from len _ c.loop-frame.invariant.long done (c.loop-frame.invariant.sound file form sound told keeps of whole)

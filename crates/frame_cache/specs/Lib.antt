@@ -1,0 +1,5 @@
+pub mod Slots
+pub mod Reader
+pub mod Reads
+pub mod Inside
+pub mod Laws

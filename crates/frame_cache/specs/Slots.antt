@@ -1,0 +1,63 @@
+-- Slots for the sounds of frames, in the order of their use, the last used first.
+use Rattle.std.specs.Prelude.{◌≡◌, ℕ, Bool, false, ◌==◌, if◌then◌else◌, List, [], ◌∷◌, length, map, take, option_map, Option, Some, None}
+use Rattle.std.specs.List.{AllByRecursion, filter_map}
+use Rattle.frame_cache.specs.declared.slots.Slot.{Slot}
+
+-- a frame and its sound
+pub record Kept : Type 0 where
+  pub frame : ℕ
+  pub sound : List ℕ
+
+abbrev pub kept : ℕ → List ℕ → Kept
+kept k sound = record { frame = k; sound = sound }
+
+-- the frames that are kept
+abbrev pub frames_in : List Kept → List ℕ
+frames_in ks = map (λ k. k.frame) ks
+
+-- what is kept of a frame, and the others
+abbrev pub found : List Kept → ℕ → Option Kept
+found [] k = None
+found (x ∷ xs) k = if x.frame == k then Some x else found xs k
+
+abbrev pub others : List Kept → ℕ → List Kept
+others [] k = []
+others (x ∷ xs) k = if x.frame == k then xs else x ∷ others xs k
+
+-- a frame that is kept moves to the front
+abbrev pub in_front : Option Kept → List Kept → ℕ → List Kept
+in_front None ks k = ks
+in_front (Some x) ks k = x ∷ others ks k
+
+abbrev pub moved : List Kept → ℕ → List Kept
+moved ks k = in_front (found ks k) ks k
+
+-- ---- what slots hold, in their order
+abbrev pub kept_of : ℕ × Slot → Option Kept
+kept_of e = option_map (λ k. kept k e.1.sound.items) e.1.frame
+
+abbrev pub kept_in : List (ℕ × Slot) → List Kept
+kept_in es = filter_map kept_of es
+
+-- behind a slot that holds no frame none holds one
+abbrev pub NoneBehind : Option ℕ → List Kept → Type 0
+NoneBehind None ks = ks ≡ []
+NoneBehind (Some k) ks = Unit {0}
+
+abbrev pub AreFilledFirst : List (ℕ × Slot) → Type 0
+AreFilledFirst [] = Unit {0}
+AreFilledFirst (e ∷ es) = NoneBehind e.1.frame (kept_in es) × AreFilledFirst es
+
+-- so many slots, each with room for so many bytes
+pub record AreSlots (count bytes : ℕ) (es : List (ℕ × Slot)) : Type 0 where
+  pub count_is : length es ≡ count
+  pub long : AllByRecursion (λ e. length e.1.sound.items ≡ bytes) es
+  pub filled : AreFilledFirst es
+
+-- the number of the first slot that holds a frame
+abbrev pub holds : ℕ × Slot → ℕ → Bool
+holds e k = elim e.1.frame [ None ↦ false | Some j ↦ j == k ]
+
+abbrev pub slot_of : List (ℕ × Slot) → ℕ → Option ℕ
+slot_of [] k = None
+slot_of (e ∷ es) k = if holds e k then Some e.0 else slot_of es k
