@@ -1,0 +1,10 @@
+pub mod FormSteps
+pub mod FormParts
+pub mod SoundSteps
+pub mod Starting
+pub mod Moves
+pub mod Gathering
+pub mod Due
+pub mod Answering
+pub mod Short
+pub mod Closing

@@ -1,0 +1,14 @@
+use Rattle.std.proofs.Common.{refl}
+use Rattle.push_decoder.proofs.decoder.PushDecoder.take.Goals as goal
+
+pub returns : goal.returns
+returns c = (
+  (refl, λ d. tt, λ taken answered has. c.in-Ok.ensures.after taken answered has),
+  record {
+    after = tt;
+    within = c.in-Ok.ensures.within;
+    answer = λ taken answered has.
+        let told = c.in-Ok.ensures.answer taken answered has in
+        (told.0, c.told.ensures answered _ (rw c.frame.ensures told.1));
+  },
+)

@@ -1,0 +1,7 @@
+pub mod Gathered
+pub mod Stages
+pub mod Events
+pub mod Reading
+pub mod Told
+pub mod Decoder
+pub mod Ends
