@@ -2,6 +2,10 @@
 # The built program, from outside: its status, what it writes, what it doesn't write, and what it tells people on standard error.
 set -euo pipefail
 cd "$(dirname "$0")/.."
+# `rt ci` leaves the program where it built it.
+if [ ! -x crates/dst_cli/out/dst_cli ]; then
+  (cd crates/dst_cli && rt run -- --version >/dev/null)
+fi
 program="$PWD/crates/dst_cli/out/dst_cli"
 coded="$PWD/crates/dst_cli/data/p1.dff"
 place=$(mktemp -d)
