@@ -30,6 +30,9 @@ pub mod Verdicts
 pub mod OneOutcome
 pub mod Stopping
 pub mod Settling
+pub mod OneSound
+pub mod DsfOutcome
+pub mod RangeOutcome
 pub mod OneAnswer
 pub mod ByIndex
 pub mod Progress

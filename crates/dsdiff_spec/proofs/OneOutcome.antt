@@ -45,7 +45,7 @@ pub record IsStoppedAt (file : List ℕ) (form : Form) (o : Answer) : Type 0 whe
   pub written : Before file form k out
   pub answer : o ≡ frame_refused k fault out
 
-number_of_stop : (n : ℕ) (frames : List (List ℕ)) (before : List (ℕ × List ℕ)) (stop : ℕ × List ℕ) (behind : List (ℕ × List ℕ)) →
+pub number_of_stop : (n : ℕ) (frames : List (List ℕ)) (before : List (ℕ × List ℕ)) (stop : ℕ × List ℕ) (behind : List (ℕ × List ℕ)) →
     enumerate_from n frames ≡ before ++ stop ∷ behind →
     (length before < length frames) × (stop.0 ≡ n + length before) × (stop.1 ≡ get_or frames (length before) [])
 number_of_stop n frames before stop behind e =
@@ -57,14 +57,20 @@ number_of_stop n frames before stop behind e =
     let here : (n + k, get_or frames k stop.1) ≡ stop = sym (get_or-enumerate_from n frames k stop within) ∙ there in
     (within, sym (ap (λ p. p.0) here), sym (ap (λ p. p.1) here) ∙ get_or_default frames k stop.1 [] within)
 
+-- what stands before it are the frames below its number
+pub front_of_stop : (frames : List (List ℕ)) (before : List (ℕ × List ℕ)) (stop : ℕ × List ℕ) (behind : List (ℕ × List ℕ)) →
+    enumerate_from 0 frames ≡ before ++ stop ∷ behind → before ≡ enumerate_from 0 (take (length before) frames)
+front_of_stop frames before stop behind e =
+    let k = length before in
+    sym (take_at before (stop ∷ behind) k refl) ∙ ap (take k) (sym e) ∙ take-numbered k 0 frames
+
 pub to_number : (file : List ℕ) (form : Form) (o : Answer) → IsStopped decode file form o → IsStoppedAt file form o
 to_number file form o s =
     let frames = frames_of file form in
     let k = length s.before in
     let at = number_of_stop 0 frames s.before s.stop s.behind s.is_run in
     let number : s.stop.0 ≡ k = omega (arith, at.1) in
-    let front : s.before ≡ enumerate_from 0 (take k frames) = sym (take_at s.before (s.stop ∷ s.behind) k refl) ∙ ap (take k) (sym s.is_run)
-    ∙ take-numbered k 0 frames in
+    let front = front_of_stop frames s.before s.stop s.behind s.is_run in
     record {
       k = k;
       fault = s.fault;
@@ -176,7 +182,7 @@ some_outcome file form answered = elim (verdict decode (shape form) (frames_of f
       )
 ]
 
-all_answered : (f : Shape) (frames : List (List ℕ)) → IsShape f → AllByRecursion AreBytes frames → AreAnswered decode f frames
+pub all_answered : (f : Shape) (frames : List (List ℕ)) → IsShape f → AllByRecursion AreBytes frames → AreAnswered decode f frames
 all_answered f [] lawful h = tt
 all_answered f (x ∷ xs) lawful h = (frame_is_answered f x lawful h.0, all_answered f xs lawful h.1)
 

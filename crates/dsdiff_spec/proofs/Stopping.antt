@@ -67,44 +67,50 @@ pub not_both : (c : Command) (form : Form) (a : List (ℕ × List ℕ)) (x : ℕ
 not_both c form [] x u e h r = h.0 e r
 not_both c form (p ∷ a) x u e h r = not_both c form a x u e h.1 r
 
--- ---- the outcome of an accepted file, of a command that writes nothing in front of a refused frame
+-- ---- the outcome of an accepted file
 abbrev pub One : (Answer → Type 0) → Type 0
 One P = (o : Answer) × P o × ((other : Answer) → P other → other ≡ o)
 
-abbrev pub WritesNothing : Command → List ℕ → Form → Type 0
-WritesNothing c file form = (k : ℕ) → WrittenBefore c file form k [] × ((out : List ℕ) → WrittenBefore c file form k out → out ≡ [])
+-- one list of bytes has a property
+abbrev pub OneOut : (List ℕ → Type 0) → Type 0
+OneOut P = (out : List ℕ) × P out × ((other : List ℕ) → P other → other ≡ out)
 
-same_stop : (c : Command) (file : List ℕ) (form : Form) (o other : Answer) (s : StopsIn c form (run c file form)) → WritesNothing c file form →
-    o ≡ frame_refused s.stop.0 s.fault [] → IsStopped c file form other → other ≡ o
-same_stop c file form o other s nothing is t =
+-- what is written in front of the first refused frame is one list of bytes
+abbrev pub WritesOne : Command → List ℕ → Form → Type 0
+WritesOne c file form = (s : StopsIn c form (run c file form)) → OneOut (WrittenBefore c file form s.stop.0)
+
+same_stop : (c : Command) (file : List ℕ) (form : Form) (o other : Answer) (s : StopsIn c form (run c file form))
+    (w : OneOut (WrittenBefore c file form s.stop.0)) → o ≡ frame_refused s.stop.0 s.fault w.0 → IsStopped c file form other → other ≡ o
+same_stop c file form o other s w is t =
     let same = one_first c form t.before s.before t.stop s.stop t.behind s.behind t.fault s.fault
     (sym t.is_run ∙ s.whole) t.first s.first t.refuses s.refuses in
     let fault = s.only t.fault (subst (λ (p : ℕ × List ℕ). Refuses c (shape form) p.1 t.fault) same t.refuses) in
-    let out = (nothing t.stop.0).1 t.out t.written in
+    let out = w.2 t.out (subst (λ (p : ℕ × List ℕ). WrittenBefore c file form p.0 t.out) same t.written) in
     t.answer
     ∙ ap (λ out. frame_refused t.stop.0 t.fault out) out
-    ∙ ap (λ fault. frame_refused t.stop.0 fault []) fault
-    ∙ ap (λ (p : ℕ × List ℕ). frame_refused p.0 s.fault []) same
+    ∙ ap (λ fault. frame_refused t.stop.0 fault w.0) fault
+    ∙ ap (λ (p : ℕ × List ℕ). frame_refused p.0 s.fault w.0) same
     ∙ sym is
 
-pub one_of_run : (c : Command) (file : List ℕ) (form : Form) → AreSettled c form (run c file form) → WritesNothing c file form →
+pub one_of_run : (c : Command) (file : List ℕ) (form : Form) → AreSettled c form (run c file form) → WritesOne c file form →
     (NoneRefused c form (run c file form) → One (Does c file form)) →
     One (λ o. IsStopped c file form o ⊎ IsDone c file form o)
-one_of_run c file form settled nothing does = go (stops_or_not c form (run c file form) settled)
+one_of_run c file form settled before does = go (stops_or_not c form (run c file form) settled)
   where
-    stops : (s : StopsIn c form (run c file form)) (o : Answer) → o ≡ frame_refused s.stop.0 s.fault [] → (other : Answer) →
-        IsStopped c file form other ⊎ IsDone c file form other → other ≡ o
-    stops s o is other (inl t) = same_stop c file form o other s nothing is t
-    stops s o is other (inr d) = absurd (not_both c form s.before s.stop s.behind s.fault (subst (NoneRefused c form) s.whole d.0) s.refuses)
+    stops : (s : StopsIn c form (run c file form)) (w : OneOut (WrittenBefore c file form s.stop.0)) (o : Answer) →
+        o ≡ frame_refused s.stop.0 s.fault w.0 → (other : Answer) → IsStopped c file form other ⊎ IsDone c file form other → other ≡ o
+    stops s w o is other (inl t) = same_stop c file form o other s w is t
+    stops s w o is other (inr d) = absurd (not_both c form s.before s.stop s.behind s.fault (subst (NoneRefused c form) s.whole d.0) s.refuses)
 
     done : (none : NoneRefused c form (run c file form)) (one : One (Does c file form)) (other : Answer) →
         IsStopped c file form other ⊎ IsDone c file form other → other ≡ one.0
     done none one other (inl t) = absurd (not_both c form t.before t.stop t.behind t.fault (subst (NoneRefused c form) t.is_run none) t.refuses)
     done none one other (inr d) = one.2 other d.1
 
-    go : StopsIn c form (run c file form) ⊎ NoneRefused c form (run c file form) → One (λ o. IsStopped c file form o ⊎ IsDone c file form o)
-    go (inl s) =
-        let o = frame_refused s.stop.0 s.fault [] in (
+    stopped : (s : StopsIn c form (run c file form)) → OneOut (WrittenBefore c file form s.stop.0) →
+        One (λ o. IsStopped c file form o ⊎ IsDone c file form o)
+    stopped s w =
+        let o = frame_refused s.stop.0 s.fault w.0 in (
           o,
           inl (record {
             before = s.before;
@@ -114,13 +120,19 @@ one_of_run c file form settled nothing does = go (stops_or_not c form (run c fil
             fault = s.fault;
             refuses = s.refuses;
             first = s.first;
-            out =
-                [];
-            written = (nothing s.stop.0).0;
+            out = w.0;
+            written = w.1;
             answer = refl;
           }),
-          stops s o refl,
+          stops s w o refl,
         )
+
+    go : StopsIn c form (run c file form) ⊎ NoneRefused c form (run c file form) → One (λ o. IsStopped c file form o ⊎ IsDone c file form o)
+    go (inl s) = stopped s (before s)
     go (inr none) =
         let one = does none in
         (one.0, inr (none, one.1), done none one)
+
+-- of a command that writes nothing in front of a refused frame
+pub nothing_before : {P : List ℕ → Type 0} → P [] → ((out : List ℕ) → P out → out ≡ []) → OneOut P
+nothing_before some only = ([], some, only)

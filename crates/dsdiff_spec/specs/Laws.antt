@@ -16,6 +16,7 @@ use Rattle.dsdiff_spec.specs.Decoded.{Plain, frames_of, plain_cmpr, plain_pad, k
 use Rattle.dsdiff_spec.specs.Cut as cutting
 use Rattle.dsdiff_spec.specs.Cut.{is_last}
 use Rattle.dsdiff_spec.specs.Dsf.{dsf_fault, dsdiff, ToDsf, bare}
+use Rattle.dsdiff_spec.specs.Ranges.{Sound}
 use Rattle.dsdiff_spec.specs.Words.{Command, encode, decode, cut, frame, check, index}
 use Rattle.dsdiff_spec.specs.Refusal.{refusal}
 use Rattle.dsdiff_spec.specs.Outcome.{Answer, done, coded_at, stored_at, OfCommand}
@@ -143,3 +144,9 @@ abbrev pub SameByIndexLaw : Type 0
 SameByIndexLaw =
     (k : ℕ) (file : List ℕ) → IsCodedFile file → (1 ≤ length (index_heads (accepted file))) × (compare_fault file (accepted file) ≡ None) →
     (o : Answer) → OfCommand (frame k true) file (refusal (frame k true) file) o ↔ OfCommand (frame k false) file (refusal (frame k false) file) o
+
+-- a coded form of a file has one sound, also where frames of it mean none
+abbrev pub OneSoundLaw : Type 0
+OneSoundLaw =
+    (file : List ℕ) (form : Form) → AreBytes file → IsShape (shape form) →
+    (sound : List ℕ) × Sound file form sound × ((other : List ℕ) → Sound file form other → other ≡ sound)

@@ -6,4 +6,3 @@ pub mod Wanting
 pub mod Filling
 pub mod Bringing
 pub mod Ending
-pub mod OneSound

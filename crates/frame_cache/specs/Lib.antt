@@ -2,4 +2,3 @@ pub mod Slots
 pub mod Reader
 pub mod Reads
 pub mod Inside
-pub mod Laws

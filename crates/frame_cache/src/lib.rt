@@ -13,7 +13,6 @@
 //! Which frames are decoded depends on the reads and the capacity alone. A fault leaves the reader serving.
 #![tactic(auto)]
 
-pub mod laws;
 mod part;
 mod reader;
 mod slots;

@@ -1,17 +1,15 @@
 -- Each frame means a sound or zeros stand for it, so that all frames have one list of sounds.
 use Rattle.std.proofs.Common.{◌≡◌, ◌⊎◌, inl, inr, ℕ, List, [], ◌∷◌, take, drop, map, replicate, refl, ap, ap₂, ◌∙◌}
-use Rattle.std.specs.List.{AllByRecursion, AllZip, concat}
+use Rattle.std.specs.List.{AllZip, concat}
 use Rattle.dst_spec.specs.Bits.{AreBytes}
 use Rattle.dst_spec.specs.Sample.{Shape, IsShape, sound_bytes}
-use Rattle.dst_spec.specs.Means.{Means}
 use Rattle.dst_spec.specs.Laws.{IsRefused, IsUnderstood}
 use Rattle.dst_spec.proofs.Lists.{AreBytes-take, AreBytes-drop}
 use Rattle.dst_spec.proofs.Understood.{decoding_law}
-use Rattle.dsdiff_spec.specs.Form.{Form, shape, size_of_sound}
+use Rattle.dsdiff_spec.specs.Form.{shape, size_of_sound}
 use Rattle.dsdiff_spec.specs.Walk.{Entry, entries, frame_at}
-use Rattle.dsdiff_spec.specs.Decoded.{frames_of}
-use Rattle.dsdiff_spec.specs.Ranges.{MeansOrZeros, Sound}
-use Rattle.frame_cache.specs.Laws.{OneSound}
+use Rattle.dsdiff_spec.specs.Ranges.{MeansOrZeros}
+use Rattle.dsdiff_spec.specs.Laws.{OneSoundLaw}
 
 -- what stands for a frame, and nothing else does
 pub record StandsAlone (f : Shape) (w : List ℕ) : Type 0 where
@@ -55,7 +53,7 @@ all_stand f file (e ∷ es) lawful bytes = with_first (all_stand f file es lawfu
         only [] z = absurd z
         only (s ∷ ss) z = ap₂ {A = List ℕ} (λ x xs. x ∷ xs) (here.only s z.0) (more.only ss z.1)
 
-pub one_sound : OneSound
+pub one_sound : OneSoundLaw
 one_sound file form bytes lawful =
     let all = all_stand (shape form) file (entries file form) lawful bytes in
     let sound = take (size_of_sound form) (concat all.sounds) in (

@@ -1,0 +1,5 @@
+use Rattle.dsdiff_spec.proofs.OneSound.{one_sound as law}
+use Rattle.dsdiff_spec.proofs.laws.one_sound.Goals as goal
+
+pub returns : goal.returns
+returns c = law
