@@ -164,3 +164,77 @@ fn words_of_cutting_and_making_are_tasks(rt: HostRuntime) -> Result<(), Fail> {
     }
     Ok(())
 }
+
+// Parts that are told by pairs of numbers.
+fn parts<const N: usize>(asked: [(u32, u32); N]) -> Option<Task> {
+    let mut pairs = [(0, 0); 16];
+    for (place, pair) in asked.iter().enumerate() {
+        if place < 16 {
+            pairs[place] = *pair;
+        }
+    }
+    let count = N as u32;
+    task(
+        Command::Range {
+            parts: Parts { count, pairs },
+        },
+        1,
+    )
+}
+
+#[test]
+fn words_of_dsf_files_and_of_parts_are_tasks(rt: HostRuntime) -> Result<(), Fail> {
+    let sixteen =
+        "range a b 1 2 3 4 5 6 7 8 9 10 11 12 13 14 15 16 1 2 3 4 5 6 7 8 9 10 11 12 13 14 15 16";
+    let seventeen =
+        "range a b 1 2 3 4 5 6 7 8 9 10 11 12 13 14 15 16 1 2 3 4 5 6 7 8 9 10 11 12 13 14 15 16 1 2";
+    let cases = [
+        (
+            "encode-dsf a.dsf b.dff",
+            task(Command::EncodeDsf { level: 1 }, 1),
+        ),
+        (
+            "encode-dsf a b --workers 4 --level 0",
+            task(Command::EncodeDsf { level: 0 }, 4),
+        ),
+        ("encode-dsf a", None),
+        ("decode-dsf a.dff b.dsf", task(Command::DecodeDsf, 1)),
+        ("decode-dsf a b --workers 16", task(Command::DecodeDsf, 16)),
+        ("decode-dsf a b --level 1", None),
+        ("range a b 0 4294967295", parts([(0, u32::MAX)])),
+        ("range a b 7 2 3 0", parts([(7, 2), (3, 0)])),
+        (
+            sixteen,
+            parts([
+                (1, 2),
+                (3, 4),
+                (5, 6),
+                (7, 8),
+                (9, 10),
+                (11, 12),
+                (13, 14),
+                (15, 16),
+                (1, 2),
+                (3, 4),
+                (5, 6),
+                (7, 8),
+                (9, 10),
+                (11, 12),
+                (13, 14),
+                (15, 16),
+            ]),
+        ),
+        (seventeen, None),
+        ("range a b", None),
+        ("range a b 1", None),
+        ("range a b 1 2 3", None),
+        ("range a b 1 02", None),
+        ("range a b 0 4294967296", None),
+        ("range a -b 0 1", None),
+    ];
+    for (text, expected) in cases {
+        let words = split(rt.alloc(), text)?;
+        assert_eq!(rt; read_words(words.as_slice()), expected, "{text}");
+    }
+    Ok(())
+}

@@ -1,6 +1,6 @@
 -- The rows of commands: name, words, options, and the command of their numbers and settings. How many work at a command is an option
 -- of its row, and one does else.
-use Rattle.std.specs.Prelude.{ℕ, ◌*◌, ◌/◌, Bool, ◌==◌, if◌then◌else◌, List, [], ◌∷◌, length, map, replicate, Option, Some, None, option_map}
+use Rattle.std.specs.Prelude.{ℕ, zero, suc, ◌/◌, Bool, ◌==◌, if◌then◌else◌, List, [], ◌∷◌, length, map, Option, Some, None, option_map}
 use Rattle.std.specs.List.{range_with_len}
 use Rattle.dsdiff_spec.specs.Bytes.{◌is◌, ◌above◌}
 use Rattle.dsdiff_spec.specs.Faults.{first_some}
@@ -58,9 +58,14 @@ pairs_of numbers = []
 abbrev row : String → List Slot → List Setting → (List ℕ → List (Word × ℕ) → Option Command) → Row
 row name slots settings command = record { name = name; slots = slots; settings = settings; command = command }
 
+-- two number words for each pair
+abbrev pub pair_slots : ℕ → List Slot
+pair_slots zero = []
+pair_slots (suc n) = number ∷ number ∷ pair_slots n
+
 -- one row for each number of pairs
 abbrev pub range_row : ℕ → Row
-range_row n = row "range" (file ∷ file ∷ replicate (2 * n) number) [] (λ n o. Some (range (pairs_of n)))
+range_row n = row "range" (file ∷ file ∷ pair_slots n) [] (λ numbers o. Some (range (pairs_of numbers)))
 
 abbrev pub range_rows : List Row
 range_rows = map range_row (range_with_len 1 16)
