@@ -8,6 +8,7 @@ use Rattle.dsdiff_spec.specs.Form.{frames_for}
 use Rattle.dsdiff_spec.specs.Origin.{is_bad_origin}
 use Rattle.dsdiff_spec.specs.Parts.{form_size, form_end}
 use Rattle.dsdiff_spec.specs.Rules.{is_version, is_frte, room_fault}
+use Rattle.dst_streams.specs.Told.{Loan}
 use Rattle.dsdiff_spec.specs.declared.faults.FileFault.{FileFault}
 use Rattle.dsdiff_spec.specs.declared.faults.FileFault.TheVariants.{NotForm, FormType, FormTooLarge, Overrun, SoundMissing, SoundTwice, SoundUneven, Version}
 use Rattle.dsdiff_spec.specs.declared.faults.FileFault.TheVariants.{Compression, PropMissing, PropTwice, PropTooLong, FrameRate, TooManyFrames, CodedChunk}
@@ -15,10 +16,11 @@ use Rattle.dsdiff_spec.specs.declared.faults.FileFault.TheVariants.{TailTooLong}
 use Rattle.dsdiff_chunks.specs.declared.open.OpenFault.{OpenFault}
 use Rattle.dsdiff_chunks.specs.declared.open.OpenFault.TheVariants.{Read, Memory, File}
 
--- A call reads a source: bytes and size stay, the count of faults doesn't fall, and at most so many bytes are given.
-pub record Reads {S : Type 0} (bytes : S → Option (List ℕ)) (known : S → Option ℕ) (faults given : S → ℕ) (old new : S) (most : ℕ) : Type 0 where
+-- A call reads a source: bytes, size and loan stay, the count of faults doesn't fall, and at most so many bytes are given.
+pub record Reads {S : Type 0} (bytes : S → Option (List ℕ)) (known : S → Option ℕ) (loan : S → Loan) (faults given : S → ℕ) (old new : S) (most : ℕ) : Type 0 where
   pub same_bytes : bytes new ≡ bytes old
   pub same_size : known new ≡ known old
+  pub same_loan : loan new ≡ loan old
   pub later : faults old ≤ faults new
   pub given_most : given new ≤ given old + most
 

@@ -27,6 +27,7 @@ pub struct Parts {
 /// Reads the parts of a form, by the rules on all forms.
 pub fn read_parts<S: Source>(alloc: Global, source: &mut S) -> Result<Parts, OpenFault>
     ensures bytes { S.bytes source.new ≡ S.bytes source.old }
+    ensures loan { S.loan source.new ≡ S.loan source.old }
     ensures size_stays { (n : ℕ) → S.known source.old ≡ Some n → S.known source.new ≡ Some n }
     ensures later { S.faults source.old ≤ S.faults source.new }
     ensures given { S.given source.new ≤ S.given source.old + 77841 }
@@ -70,7 +71,7 @@ pub fn plain_form<S: Source>(
 ) -> Result<PlainForm, OpenFault>
     requires parts { AreParts (S.bytes source.old) (S.known source.old) parts }
     requires kind { parts.sound.kind ≡ Kind.Plain }
-    ensures source { Reads S.bytes S.known S.faults S.given source.old source.new 131104 }
+    ensures source { Reads S.bytes S.known S.loan S.faults S.given source.old source.new 131104 }
     ensures end { IfOk result (λ f. f.end ≡ parts.chunks.end) }
     ensures form { IfOk result (λ f. (xs : List ℕ) → S.bytes source.old ≡ Some xs → form xs ≡ Ok (plain_seen f)) }
     ensures stops { IfErr result (Stops form_fault (S.bytes source.old) (S.faults source.old) (S.faults source.new)) }
@@ -112,7 +113,7 @@ pub fn coded_form<S: Source>(
 ) -> Result<CodedForm, OpenFault>
     requires parts { AreParts (S.bytes source.old) (S.known source.old) parts }
     requires kind { parts.sound.kind ≡ Kind.Coded }
-    ensures source { Reads S.bytes S.known S.faults S.given source.old source.new 131104 }
+    ensures source { Reads S.bytes S.known S.loan S.faults S.given source.old source.new 131104 }
     ensures end { IfOk result (λ f. f.end ≡ parts.chunks.end) }
     ensures form { IfOk result (λ f. (xs : List ℕ) → S.bytes source.old ≡ Some xs → form xs ≡ Ok (coded_seen f)) }
     ensures stops { IfErr result (Stops form_fault (S.bytes source.old) (S.faults source.old) (S.faults source.new)) }
@@ -155,7 +156,7 @@ pub fn coded_form<S: Source>(
 /// The form, of its parts.
 pub fn form_of<S: Source>(alloc: Global, source: &mut S, parts: Parts) -> Result<Form, OpenFault>
     requires { AreParts (S.bytes source.old) (S.known source.old) parts }
-    ensures source { Reads S.bytes S.known S.faults S.given source.old source.new 131104 }
+    ensures source { Reads S.bytes S.known S.loan S.faults S.given source.old source.new 131104 }
     ensures end { IfOk result (λ f. end_of f ≡ parts.chunks.end) }
     ensures form { IfOk result (λ f. (xs : List ℕ) → S.bytes source.old ≡ Some xs → form xs ≡ Ok (form_seen f)) }
     ensures stops { IfErr result (Stops form_fault (S.bytes source.old) (S.faults source.old) (S.faults source.new)) }

@@ -46,7 +46,7 @@ pub fn frame_count_in(frte: &[u8; 18]) -> Result<u32, FileFault>
 pub fn read_frte<S: Source>(source: &mut S, sound: ChunkHead) -> Result<u32, OpenFault>
     requires known { (n : ℕ) × (S.known source.old ≡ Some n) × (sound.place + 12 + sound.size ≤ n) }
     requires most { sound.place + 12 + sound.size ≤ 2 ^ 51 }
-    ensures source { Reads S.bytes S.known S.faults S.given source.old source.new 18 }
+    ensures source { Reads S.bytes S.known S.loan S.faults S.given source.old source.new 18 }
     ensures least { IfOk result (λ _. 18 ≤ sound.size) }
     ensures few { IfOk result (λ n. n ≤ 1000000) }
     ensures count { IfOk result (λ n. (xs : List ℕ) → S.bytes source.old ≡ Some xs → n ≡ number_at xs (sound.place + 12 + 12) 4) }
@@ -76,7 +76,7 @@ fn read_one_origin<S: Source>(
 ) -> Result<Origin, OpenFault>
     requires known { (n : ℕ) × (S.known source.old ≡ Some n) × (head.place + 12 + head.size ≤ n) }
     requires most { head.place + 12 + head.size ≤ 2 ^ 51 }
-    ensures source { Reads S.bytes S.known S.faults S.given source.old source.new 131086 }
+    ensures source { Reads S.bytes S.known S.loan S.faults S.given source.old source.new 131086 }
     ensures origin { IfOk result (λ k. (xs : List ℕ) → S.bytes source.old ≡ Some xs → origin_seen k ≡ origin_of (body_of xs (head_seen head))) }
     ensures lawful { IfOk result (λ k. IsOrigin channels.channels (sound_bytes channels) frame_count (origin_seen k)) }
     ensures accepted { IfOk result (λ _. (xs : List ℕ) → S.bytes source.old ≡ Some xs → is_bad_origin channels.channels (sound_bytes channels) frame_count (body_of xs (head_seen head)) ≡ false) }
@@ -108,7 +108,7 @@ pub fn read_any_origin<S: Source>(
     requires known { (n : ℕ) × (S.known source.old ≡ Some n) × (end ≤ n) }
     requires most { end ≤ 2 ^ 51 }
     requires tiled { TileTo end 16 (map head_seen heads.now) }
-    ensures source { Reads S.bytes S.known S.faults S.given source.old source.new 131086 }
+    ensures source { Reads S.bytes S.known S.loan S.faults S.given source.old source.new 131086 }
     ensures origin { IfOk result (λ o. (xs : List ℕ) → S.bytes source.old ≡ Some xs → option_map origin_seen o ≡ origin_in xs (named "KEPT" (map head_seen heads.now))) }
     ensures lawful { IfOk result (λ o. IsOriginIfAny channels.channels (sound_bytes channels) frame_count (option_map origin_seen o)) }
     ensures accepted { IfOk result (λ _. (xs : List ℕ) → S.bytes source.old ≡ Some xs → are_bad_origins channels.channels (sound_bytes channels) frame_count xs (named "KEPT" (map head_seen heads.now)) ≡ false) }

@@ -52,7 +52,7 @@ pub fn read_octets<S: Source>(
     requires known { (n : ℕ) × (S.known source.old ≡ Some n) × (from + count ≤ n) }
     requires few { count ≤ 131086 }
     requires fits { from + count < 2 ^ 64 }
-    ensures source { Reads S.bytes S.known S.faults S.given source.old source.new count }
+    ensures source { Reads S.bytes S.known S.loan S.faults S.given source.old source.new count }
     ensures long { IfOk result (λ octets. length octets.items ≡ count) }
     ensures read { IfOk result (λ octets. (xs : List ℕ) → S.bytes source.old ≡ Some xs → octets.items ≡ bytes_at xs from count) }
     ensures stops { IfErr result (λ fault. (rules : List ℕ → Option FileFault) → Stops rules (S.bytes source.old) (S.faults source.old) (S.faults source.new) fault) }
@@ -74,7 +74,7 @@ pub fn check_version<S: Source>(
 ) -> Result<(), OpenFault>
     requires known { (n : ℕ) × (S.known source.old ≡ Some n) × (end ≤ n) }
     requires tiled { TileTo end 16 (map head_seen heads.now) }
-    ensures source { Reads S.bytes S.known S.faults S.given source.old source.new 1 }
+    ensures source { Reads S.bytes S.known S.loan S.faults S.given source.old source.new 1 }
     ensures accepted { OnOk result ((xs : List ℕ) → S.bytes source.old ≡ Some xs → first_fault xs (the_first (map head_seen heads.now)) ≡ None) }
     ensures stops { IfErr result (Stops (λ xs. first_fault xs (the_first (map head_seen heads.now))) (S.bytes source.old) (S.faults source.old) (S.faults source.new)) }
 {
@@ -88,7 +88,7 @@ pub fn check_version<S: Source>(
 fn check_first<S: Source>(source: &mut S, head: ChunkHead, end: u64) -> Result<(), OpenFault>
     requires known { (n : ℕ) × (S.known source.old ≡ Some n) × (end ≤ n) }
     requires within { head.place + 12 + head.size ≤ end }
-    ensures source { Reads S.bytes S.known S.faults S.given source.old source.new 1 }
+    ensures source { Reads S.bytes S.known S.loan S.faults S.given source.old source.new 1 }
     ensures accepted { OnOk result ((xs : List ℕ) → S.bytes source.old ≡ Some xs → first_fault xs (head_seen head) ≡ None) }
     ensures stops { IfErr result (Stops (λ xs. first_fault xs (head_seen head)) (S.bytes source.old) (S.faults source.old) (S.faults source.new)) }
 {
@@ -133,7 +133,7 @@ pub fn read_body_of_prop<S: Source>(
     requires known { (n : ℕ) × (S.known source.old ≡ Some n) × (head.place + 12 + head.size ≤ n) }
     requires most { head.size ≤ 65536 }
     requires place { head.place ≤ 2 ^ 50 }
-    ensures source { Reads S.bytes S.known S.faults S.given source.old source.new 65536 }
+    ensures source { Reads S.bytes S.known S.loan S.faults S.given source.old source.new 65536 }
     ensures long { IfOk result (λ p. length p.body.items ≡ head.size) }
     ensures read { IfOk result (λ p. (xs : List ℕ) → S.bytes source.old ≡ Some xs → p.body.items ≡ bytes_at xs (head.place + 12) head.size) }
     ensures rules { IfOk result (λ p. local_fault (head.place + 12) p.body.items ≡ None) }

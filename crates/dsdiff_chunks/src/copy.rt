@@ -22,6 +22,7 @@ pub fn copy_range<S: Source, K: Sink>(
     requires order { from ≤ to }
     requires known { (n : ℕ) × (S.known source.old ≡ Some n) × (to ≤ n) }
     ensures bytes { S.bytes source.new ≡ S.bytes source.old }
+    ensures loan { S.loan source.new ≡ S.loan source.old }
     ensures stays { S.known source.new ≡ S.known source.old }
     ensures later { (S.faults source.old ≤ S.faults source.new) × (K.faults sink.old ≤ K.faults sink.new) }
     ensures sure { (room : ℕ) → K.room sink.old ≡ Some room → to - from ≤ room → OnOk result (K.room sink.new ≡ Some (room - (to - from))) }

@@ -15,6 +15,7 @@ pub fn read_head<S: Source>(source: &mut S, place: u64) -> Result<ChunkHead, Fai
     requires fits { place + 12 < 2 ^ 64 }
     requires size { (n : ℕ) × (S.known source.old ≡ Some n) × (place + 12 ≤ n) }
     ensures bytes { S.bytes source.new ≡ S.bytes source.old }
+    ensures loan { S.loan source.new ≡ S.loan source.old }
     ensures size_stays { S.known source.new ≡ S.known source.old }
     ensures given { S.given source.new ≤ S.given source.old + 12 }
     ensures cause { HasCause (S.faults source.old) (S.faults source.new) result }

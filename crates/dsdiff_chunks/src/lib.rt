@@ -38,6 +38,7 @@ mod write_coded;
 pub use coded::frame_count_in;
 pub use copy::{CopyFault, copy_range};
 pub use dsdiff_spec::FileFault;
+pub use find::{Finding, find_either};
 pub use form::{CodedForm, Form, PlainForm};
 pub use head::{head_of, read_head};
 pub use lists::{ChunkHead, Heads, Octets};

@@ -23,6 +23,7 @@ pub enum OpenFault {
 /// The first rule that the file breaks gives the fault. Frames aren't looked at.
 pub fn open_form<S: Source>(alloc: Global, source: &mut S) -> Result<Form, OpenFault>
     ensures bytes { S.bytes source.new ≡ S.bytes source.old }
+    ensures loan { S.loan source.new ≡ S.loan source.old }
     ensures size_stays { (n : ℕ) → S.known source.old ≡ Some n → S.known source.new ≡ Some n }
     ensures size_known { IfOk result (λ f. (n : ℕ) × (S.known source.new ≡ Some n) × (end_of f ≤ n)) }
     ensures form { IfOk result (λ f. (xs : List ℕ) → S.bytes source.old ≡ Some xs → form xs ≡ Ok (form_seen f)) }

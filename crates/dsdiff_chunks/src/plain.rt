@@ -70,7 +70,7 @@ fn check_room(chunks: &Chunks, prop_size: u64) -> Option<FileFault>
 fn read_pad<S: Source>(source: &mut S, sound: ChunkHead) -> Result<u8, OpenFault>
     requires known { (n : ℕ) × (S.known source.old ≡ Some n) × (sound.place + 12 + sound.size + sound.size % 2 ≤ n) }
     requires most { sound.place + 12 + sound.size ≤ 2 ^ 51 }
-    ensures source { Reads S.bytes S.known S.faults S.given source.old source.new 1 }
+    ensures source { Reads S.bytes S.known S.loan S.faults S.given source.old source.new 1 }
     ensures even { IfOk result (λ pad. sound.size % 2 ≡ 0 → pad ≡ 0) }
     ensures read { IfOk result (λ pad. (xs : List ℕ) → S.bytes source.old ≡ Some xs → pad ≡ (if sound.size % 2 == 1 then get_or xs (sound.place + 12 + sound.size) 0 else 0)) }
     ensures stops { IfErr result (λ fault. (rules : List ℕ → Option FileFault) → Stops rules (S.bytes source.old) (S.faults source.old) (S.faults source.new) fault) }
@@ -107,7 +107,7 @@ pub fn read_plain<S: Source>(
     requires most { chunks.now.end ≤ 2 ^ 50 + 12 }
     requires within { chunks.now.end ≤ chunks.now.size }
     requires padded { sound.place + 12 + sound.size + sound.size % 2 ≤ chunks.now.end }
-    ensures source { Reads S.bytes S.known S.faults S.given source.old source.new 65537 }
+    ensures source { Reads S.bytes S.known S.loan S.faults S.given source.old source.new 65537 }
     ensures even { IfOk result (λ _. sound.size % channels.channels ≡ 0) }
     ensures frames { IfOk result (λ p. p.frames ≡ frames_for (sound_bytes channels) sound.size) }
     ensures few { IfOk result (λ p. p.frames ≤ 1000000) }

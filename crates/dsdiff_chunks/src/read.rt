@@ -11,6 +11,7 @@ pub fn read_range<S: Source>(source: &mut S, from: u64, out: &mut [u8]) -> Resul
     requires fits { from + length out.old < 2 ^ 64 }
     requires inside { (n : ℕ) × (S.known source.old ≡ Some n) × (from + length out.old ≤ n) }
     ensures bytes { S.bytes source.new ≡ S.bytes source.old }
+    ensures loan { S.loan source.new ≡ S.loan source.old }
     ensures size_stays { S.known source.new ≡ S.known source.old }
     ensures read { OnOk result ((xs : List ℕ) → S.bytes source.old ≡ Some xs → out.new ≡ bytes_at xs from (length out.old)) }
     ensures given { S.given source.new ≤ S.given source.old + length out.old }

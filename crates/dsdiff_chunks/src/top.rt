@@ -66,6 +66,7 @@ fn end_of_form(size: u64, head: &[u8; 16]) -> Result<u64, FileFault>
 /// Reads the first bytes of a file, which tell the place behind its form.
 pub fn read_extent<S: Source>(source: &mut S) -> Result<Extent, OpenFault>
     ensures bytes { S.bytes source.new ≡ S.bytes source.old }
+    ensures loan { S.loan source.new ≡ S.loan source.old }
     ensures size_stays { (n : ℕ) → S.known source.old ≡ Some n → S.known source.new ≡ Some n }
     ensures later { S.faults source.old ≤ S.faults source.new }
     ensures given { S.given source.new ≤ S.given source.old + 16 }
@@ -106,7 +107,7 @@ fn lies_before(head: ChunkHead, end: u64) -> bool
 fn next_head<S: Source>(source: &mut S, place: u64, end: u64) -> Result<ChunkHead, OpenFault>
     requires before { place < end }
     requires known { (n : ℕ) × (S.known source.old ≡ Some n) × (end ≤ n) }
-    ensures source { Reads S.bytes S.known S.faults S.given source.old source.new 12 }
+    ensures source { Reads S.bytes S.known S.loan S.faults S.given source.old source.new 12 }
     ensures place { IfOk result (λ h. h.place ≡ place) }
     ensures within { IfOk result (λ h. place + 12 + h.size ≤ end) }
     ensures fits { IfOk result (λ h. fits may_lack_pad end (head_seen h) ≡ true) }
@@ -134,7 +135,7 @@ pub fn read_heads<S: Source>(
     requires least { 16 ≤ end }
     requires most { end ≤ 2 ^ 50 + 12 }
     requires known { (n : ℕ) × (S.known source.old ≡ Some n) × (end ≤ n) }
-    ensures source { Reads S.bytes S.known S.faults S.given source.old source.new 12288 }
+    ensures source { Reads S.bytes S.known S.loan S.faults S.given source.old source.new 12288 }
     ensures few { IfOk result (λ heads. length heads.items ≤ 1024) }
     ensures tiled { IfOk result (λ heads. TileTo end 16 (map head_seen heads.items)) }
     ensures whole { IfOk result (λ heads. All (λ h. fits may_lack_pad end h ≡ true) (map head_seen heads.items)) }
@@ -162,6 +163,7 @@ pub fn read_heads<S: Source>(
 /// Reads the heads of a file's form.
 pub fn read_chunks<S: Source>(alloc: Global, source: &mut S) -> Result<Chunks, OpenFault>
     ensures bytes { S.bytes source.new ≡ S.bytes source.old }
+    ensures loan { S.loan source.new ≡ S.loan source.old }
     ensures size_stays { (n : ℕ) → S.known source.old ≡ Some n → S.known source.new ≡ Some n }
     ensures later { S.faults source.old ≤ S.faults source.new }
     ensures given { S.given source.new ≤ S.given source.old + 12304 }

@@ -21,10 +21,10 @@ pub eight_joined : (F : ℕ → ℕ → ℕ) (c i : ℕ) → number_from (eight 
 unfolding number_from
 eight_joined F c i = refl
 
-abbrev joined_of : (ℕ → ℕ) → ℕ
+abbrev pub joined_of : (ℕ → ℕ) → ℕ
 joined_of g = joined (g 0) (g 1) (g 2) (g 3) (g 4) (g 5) (g 6) (g 7)
 
-same_joined : (a b c d e f g h a' b' c' d' e' f' g' h' : ℕ) → a ≡ a' → b ≡ b' → c ≡ c' → d ≡ d' → e ≡ e' → f ≡ f' → g ≡ g' → h ≡ h' →
+pub same_joined : (a b c d e f g h a' b' c' d' e' f' g' h' : ℕ) → a ≡ a' → b ≡ b' → c ≡ c' → d ≡ d' → e ≡ e' → f ≡ f' → g ≡ g' → h ≡ h' →
     joined a b c d e f g h ≡ joined a' b' c' d' e' f' g' h'
 same_joined a b c d e f g h a' b' c' d' e' f' g' h' p q r s t u v w = omega arith
 
@@ -42,7 +42,7 @@ joined_alike F c i g same =
 abbrev pub bit_of : ℕ → ℕ → ℕ → ℕ
 bit_of order byte s = byte / 2 ^ (if order == 1 then s else (7 - s)) % 2
 
-turned_bits : (b : ℕ) → joined_of (λ s. b / 2 ^ s % 2) ≡ turned b
+pub turned_bits : (b : ℕ) → joined_of (λ s. b / 2 ^ s % 2) ≡ turned b
 unfolding reverse_bits_onto
 turned_bits b =
     let b2 : b / 2 / 2 ≡ b / 4 = omega arith in
@@ -69,7 +69,7 @@ bits_in_order order b lawful small = go (order == 1)
     go false = kept_bits b small
 
 -- the first k bits, and zeros
-part_of_bits : (k : ℕ) (g : ℕ → ℕ) → ((s : ℕ) → g s < 2) → 0 < k → k < 8 →
+pub part_of_bits : (k : ℕ) (g : ℕ → ℕ) → ((s : ℕ) → g s < 2) → 0 < k → k < 8 →
     joined_of (λ s. if s below k then g s else 0) ≡ cleared (8 - k) (joined_of g)
 part_of_bits zero g bits least most = absurd (omega arith)
 part_of_bits (suc zero) g bits least most =
@@ -113,7 +113,7 @@ whole_byte f c i lawful small all =
     ∙ ap (λ b. if b then bit_of (dsf_of f).bits (block_byte f c i) s else 0) (lt-ltb (8 * i + s) (dsf_of f).samples (omega arith)))
     ∙ bits_in_order (dsf_of f).bits (block_byte f c i) lawful small
 
-below_by : (a s k n : ℕ) → n ≡ a + k → ((a + s) below n) ≡ (s below k)
+pub below_by : (a s k n : ℕ) → n ≡ a + k → ((a + s) below n) ≡ (s below k)
 below_by a s k n e = elim (cases_lt s k) [
   | inl l ↦ lt-ltb (a + s) n (omega arith) ∙ sym (lt-ltb s k l)
   | inr m ↦ le-ltb (a + s) n (omega arith) ∙ sym (le-ltb s k m)

@@ -43,6 +43,7 @@ impl<'a, S: Source> DsfSource<'a, S> {
         requires order { is_order form.bits ≡ true }
         requires says { IsFormOfTold (S.bytes source.now) form }
         ensures lent { result.source.ghost_name ≡ source.entry.ghost_name }
+        ensures loan { ⟦<DsfSource<'a, S> as Source>⟧.loan result ≡ Some (source.entry.ghost_name, S.bytes source.entry.now) }
         ensures bytes { ⟦<DsfSource<'a, S> as Source>⟧.bytes result ≡ plain_of (S.bytes source.entry.now) }
         ensures known { ⟦<DsfSource<'a, S> as Source>⟧.known result ≡ Some (whole_size (dsf_seen form)) }
         ensures faults { ⟦<DsfSource<'a, S> as Source>⟧.faults result ≡ S.faults source.entry.now }
@@ -148,6 +149,8 @@ impl<'a, S: Source> Source for DsfSource<'a, S> {
     ghost faults = { λ s. S.faults s.source.now };
 
     ghost given = { λ s. s.given };
+
+    ghost loan = { λ s. Some (s.source.ghost_name, S.bytes s.source.now) };
 
     ghost size_is_length = { λ s xs n told known. size_is_whole (S.bytes s.source.now) s.form xs n s.plain told known };
 

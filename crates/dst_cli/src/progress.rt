@@ -120,6 +120,8 @@ impl<'r, S: Source, R: Clock + Eprint> Source for Watched<'r, S, R> {
 
     ghost given = { λ w. S.given w.source };
 
+    ghost loan = { λ w. S.loan w.source };
+
     ghost size_is_length = { λ w xs n told known. S.size_is_length w.source xs n told known };
 
     ghost told_are_bytes = { λ w xs told. S.told_are_bytes w.source xs told };

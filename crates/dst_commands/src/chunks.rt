@@ -198,6 +198,7 @@ fn pass_chunk<S: Source, K: Sink>(
     requires within { body_end (head_seen head.now) ≤ (form_of passed.now).end }
     requires size { (n : ℕ) × (S.known source.old ≡ Some n) × ((form_of passed.now).end ≤ n) }
     ensures bytes { S.bytes source.new ≡ S.bytes source.old }
+    ensures loan { S.loan source.new ≡ S.loan source.old }
     ensures stays { S.known source.new ≡ S.known source.old }
     ensures source_later { S.faults source.old ≤ S.faults source.new }
     ensures sink_later { K.faults sink.old ≤ K.faults sink.new }
@@ -228,6 +229,7 @@ pub fn pass_chunks<S: Source, K: Sink>(
     requires cmpr { IsCmprIfAny (passing.cmpr_of passed.now) }
     requires size { (n : ℕ) × (S.known source.old ≡ Some n) × ((form_of passed.now).end ≤ n) }
     ensures bytes { S.bytes source.new ≡ S.bytes source.old }
+    ensures loan { S.loan source.new ≡ S.loan source.old }
     ensures stays { S.known source.new ≡ S.known source.old }
     ensures source_later { S.faults source.old ≤ S.faults source.new }
     ensures sink_later { K.faults sink.old ≤ K.faults sink.new }

@@ -35,7 +35,7 @@ pub trait Rules {
         form: Form,
     ) -> Result<Self::Opened, OpenFault>
         requires size { (n : ℕ) × (S.known source.old ≡ Some n) × (end_of form ≤ n) }
-        ensures source { Reads S.bytes S.known S.faults S.given source.old source.new (most self.now) }
+        ensures source { Reads S.bytes S.known S.loan S.faults S.given source.old source.new (most self.now) }
         ensures end { IfOk result (λ o. end o ≡ end_of form) }
         ensures passes { IfOk result (λ _. (file : List ℕ) → S.bytes source.old ≡ Some file → command_fault (command self.now) file (form_seen form) ≡ None) }
         ensures opened { IfOk result (λ o. (file : List ℕ) → S.bytes source.old ≡ Some file → files.accepted file ≡ form_seen form → is_of self.now file o) }
@@ -49,6 +49,7 @@ pub fn open_file<S: Source, R: Rules>(
     rules: &R,
 ) -> Result<R::Opened, OpenFault>
     ensures bytes { S.bytes source.new ≡ S.bytes source.old }
+    ensures loan { S.loan source.new ≡ S.loan source.old }
     ensures later { S.faults source.old ≤ S.faults source.new }
     ensures given { S.given source.new ≤ S.given source.old + (208948 + R.most rules.now) }
     ensures size { IfOk result (λ o. (n : ℕ) × (S.known source.new ≡ Some n) × (R.end o ≤ n)) }

@@ -67,7 +67,7 @@ pub fn walk_form<S: Source>(
     form: CodedForm,
 ) -> Result<WalkedForm, OpenFault>
     requires size { (n : ℕ) × (S.known source.old ≡ Some n) × (form.end ≤ n) }
-    ensures source { Reads S.bytes S.known S.faults S.given source.old source.new 48000000 }
+    ensures source { Reads S.bytes S.known S.loan S.faults S.given source.old source.new 48000000 }
     ensures form { IfOk result (λ w. w.form ≡ form) }
     ensures passes { IfOk result (λ _. (file : List ℕ) → S.bytes source.old ≡ Some file → walk_fault file (coded_seen form) ≡ None) }
     ensures entries { IfOk result (λ w. (file : List ℕ) → S.bytes source.old ≡ Some file → entries file (coded_seen form) ≡ w.index) }
@@ -271,7 +271,7 @@ fn check_index<S: Source>(
     walked: &WalkedForm,
 ) -> Result<(), OpenFault>
     requires size { (n : ℕ) × (S.known source.old ≡ Some n) × (walked.now.form.end ≤ n) }
-    ensures source { Reads S.bytes S.known S.faults S.given source.old source.new 12000000 }
+    ensures source { Reads S.bytes S.known S.loan S.faults S.given source.old source.new 12000000 }
     ensures same { OnOk result ((file : List ℕ) → S.bytes source.old ≡ Some file → walks.walk file (coded_seen walked.now.form) ≡ Ok walked.now.index → check_index_fault file (coded_seen walked.now.form) ≡ None) }
     ensures fault { (fault : FileFault) → result ≡ Err (OpenFault.File fault) → (file : List ℕ) → S.bytes source.old ≡ Some file → walks.walk file (coded_seen walked.now.form) ≡ Ok walked.now.index →
         check_index_fault file (coded_seen walked.now.form) ≡ Some fault }

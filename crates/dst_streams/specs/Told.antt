@@ -1,6 +1,10 @@
 -- What a device tells of its bytes: Some of them, or None where it tells nothing.
 use Rattle.std.specs.Prelude.{ℕ, ◌≡◌, ◌+◌, ◌-◌, ◌^◌, ◌<◌, ◌≤◌, ◌↔◌, min, List, [], ◌++◌, length, take, drop, Option, Some, None, Result, IsOk}
 
+-- a loan that a source reads through: the name that it has in proofs, and what the lent source tells
+abbrev pub Loan : Type 0
+Loan = Option (ℕ × Option (List ℕ))
+
 -- what is told after a piece is added at the end
 abbrev pub and_then : Option (List ℕ) → List ℕ → Option (List ℕ)
 and_then None piece = None

@@ -1,5 +1,5 @@
 // A source over lent bytes, which never fails.
-ghost use Rattle.std.specs.Prelude.{◌≡◌, ◌<◌, Some, length};
+ghost use Rattle.std.specs.Prelude.{◌≡◌, ◌<◌, Some, None, length};
 ghost use Rattle.std.specs.List.{All};
 
 use crate::{Failed, Source};
@@ -31,6 +31,8 @@ impl<'a> Source for HonestSource<'a> {
     ghost faults = { λ _. 0 };
 
     ghost given = { λ s. s.given };
+
+    ghost loan = { λ _. None };
 
     ghost use Rattle.dst_streams.specs.Laws.{bytes_of_both, size_of_both};
 

@@ -2,7 +2,7 @@
 ghost use Rattle.std.specs.Prelude.{◌≡◌, ◌<◌, ℕ, List, length, Option, Some, IsSome, IfOk, OnOk, OnErr, MatchResult};
 ghost use Rattle.std.specs.List.{AllByRecursion};
 ghost use Rattle.dst_streams.specs.Causes.{HasCause};
-ghost use Rattle.dst_streams.specs.Told.{HoldsFrom, IsReadCount, counted};
+ghost use Rattle.dst_streams.specs.Told.{Loan, HoldsFrom, IsReadCount, counted};
 
 /// A device failed. Want of memory inside a call of a real file or stream counts as such a failure too.
 #[derive(Clone, Copy, Debug, PartialEq, Eq)]
@@ -24,9 +24,13 @@ pub trait Source {
     /// How many bytes the source has given.
     ghost given: { Self → ℕ };
 
+    /// The loan that the source reads through, and what the lent source tells, or None where it reads through none. No call changes it.
+    ghost loan: { Self → Loan };
+
     /// The number of bytes, which never changes.
     fn size(&mut self) -> Result<u64, Failed>
         ensures bytes { bytes self.new ≡ bytes self.old }
+        ensures loan { loan self.new ≡ loan self.old }
         ensures size { IfOk result (λ n. known self.new ≡ Some n) }
         ensures stays { (n : ℕ) → known self.old ≡ Some n → known self.new ≡ Some n }
         ensures unknown { OnErr result (known self.new ≡ known self.old) }
@@ -41,6 +45,7 @@ pub trait Source {
         requires known { IsSome (known self.old) }
         requires room { 0 < length out.old }
         ensures bytes { bytes self.new ≡ bytes self.old }
+        ensures loan { loan self.new ≡ loan self.old }
         ensures stays { known self.new ≡ known self.old }
         ensures count { IfOk result (λ n. (size : ℕ) → known self.old ≡ Some size → IsReadCount size place (length out.old) n) }
         ensures read { IfOk result (λ n. HoldsFrom (bytes self.old) place n out.new) }

@@ -4,6 +4,7 @@ use Rattle.dst_spec.specs.Sample.{sound_bytes}
 use Rattle.dst_streams.specs.Causes.{Rose}
 use Rattle.dst_streams.proofs.Counts.{Rose-earlier}
 use Rattle.dst_streams.specs.declared.source.Failed.{Failed}
+use Rattle.dst_streams.specs.Told.{Loan}
 use Rattle.dsdiff_spec.specs.Chunks.{body_of}
 use Rattle.dsdiff_chunks.specs.declared.form.PlainForm.{PlainForm}
 use Rattle.dsdiff_chunks.specs.Seen.{head_seen}
@@ -17,36 +18,37 @@ use Rattle.dst_write.specs.Feeding.{IsLater, GivesPiece, FailsToRead, piece_of}
 abbrev pub piece_in : List ℕ → PlainForm → ℕ → List ℕ
 piece_in file f k = piece_of (sound_bytes f.channels) (body_of file (head_seen f.sound)) k
 
-module _ {S : Type 0} (bytes : S → Option (List ℕ)) (known : S → Option ℕ) (faults : S → ℕ) where
-  pub is_itself : (s : SoundPieces S) → IsLater bytes known faults s s
-  is_itself s = record { lent = refl; form_is = refl; bytes_are = refl; size_is = refl; later = omega arith }
+module _ {S : Type 0} (bytes : S → Option (List ℕ)) (known : S → Option ℕ) (loan : S → Loan) (faults : S → ℕ) where
+  pub is_itself : (s : SoundPieces S) → IsLater bytes known loan faults s s
+  is_itself s = record { lent = refl; form_is = refl; bytes_are = refl; size_is = refl; loan_is = refl; later = omega arith }
 
-  pub later_on : (s t u : SoundPieces S) → IsLater bytes known faults s t → IsLater bytes known faults t u → IsLater bytes known faults s u
+  pub later_on : (s t u : SoundPieces S) → IsLater bytes known loan faults s t → IsLater bytes known loan faults t u → IsLater bytes known loan faults s u
   later_on s t u p q = record {
     lent = q.lent ∙ p.lent;
     form_is = q.form_is ∙ p.form_is;
     bytes_are = q.bytes_are ∙ p.bytes_are;
     size_is = q.size_is ∙ p.size_is;
+    loan_is = q.loan_is ∙ p.loan_is;
     later = omega (arith, p.later, q.later);
   }
 
-  pub rose_since : (s t u : SoundPieces S) (e : Failed) → IsLater bytes known faults s t → FailsToRead bytes known faults t e u → Rose (faults s.source.now) (faults u.source.now)
+  pub rose_since : (s t u : SoundPieces S) (e : Failed) → IsLater bytes known loan faults s t → FailsToRead bytes known loan faults t e u → Rose (faults s.source.now) (faults u.source.now)
   rose_since s t u e p q = Rose-earlier (faults s.source.now) (faults t.source.now) (faults u.source.now) p.later q.rose
 
-  fed_on : (s t : SoundPieces S) (jobs : List Job) → Runs (GivesPiece bytes known faults) s jobs t → IsLater bytes known faults s t
-  fed_on s t jobs run = Runs-keep (GivesPiece bytes known faults) (IsLater bytes known faults s) (λ u job v p q. later_on s u v p q.same) s t jobs run (is_itself s)
+  fed_on : (s t : SoundPieces S) (jobs : List Job) → Runs (GivesPiece bytes known loan faults) s jobs t → IsLater bytes known loan faults s t
+  fed_on s t jobs run = Runs-keep (GivesPiece bytes known loan faults) (IsLater bytes known loan faults s) (λ u job v p q. later_on s u v p q.same) s t jobs run (is_itself s)
 
   -- behind a job, where the feed went on ahead and may have failed
-  pub fed_ahead : (s t u v w : SoundPieces S) (job : Job) (jobs : List Job) → IsLater bytes known faults s t → GivesPiece bytes known faults t job u → Runs (GivesPiece bytes known faults) u jobs v →
-      ((w ≡ v) ⊎ ((e : Failed) × FailsToRead bytes known faults v e w)) → IsLater bytes known faults s w
-  fed_ahead s t u v w job jobs p given run (inl same) = subst (IsLater bytes known faults s) (sym same) (later_on s u v (later_on s t u p given.same) (fed_on u v jobs run))
+  pub fed_ahead : (s t u v w : SoundPieces S) (job : Job) (jobs : List Job) → IsLater bytes known loan faults s t → GivesPiece bytes known loan faults t job u → Runs (GivesPiece bytes known loan faults) u jobs v →
+      ((w ≡ v) ⊎ ((e : Failed) × FailsToRead bytes known loan faults v e w)) → IsLater bytes known loan faults s w
+  fed_ahead s t u v w job jobs p given run (inl same) = subst (IsLater bytes known loan faults s) (sym same) (later_on s u v (later_on s t u p given.same) (fed_on u v jobs run))
   fed_ahead s t u v w job jobs p given run (inr (e, fails)) = later_on s v w (later_on s u v (later_on s t u p given.same) (fed_on u v jobs run)) fails.same
 
   -- the piece that it gave is that of its number
-  pub given_piece : (s t u : SoundPieces S) (job : Job) (n : ℕ) (file : List ℕ) → IsLater bytes known faults s t → t.next ≡ n → GivesPiece bytes known faults t job u → bytes s.source.now ≡ Some file →
+  pub given_piece : (s t u : SoundPieces S) (job : Job) (n : ℕ) (file : List ℕ) → IsLater bytes known loan faults s t → t.next ≡ n → GivesPiece bytes known loan faults t job u → bytes s.source.now ≡ Some file →
       job.sound.items ≡ piece_in file s.form.now n
   given_piece s t u job n file p at given told =
       given.piece file (p.bytes_are ∙ told) ∙ ap (λ (f : PlainForm). piece_in file f t.next) p.form_is ∙ ap (λ k. piece_in file s.form.now k) at
 
-  pub given_within : (s t u : SoundPieces S) (job : Job) (n : ℕ) → IsLater bytes known faults s t → t.next ≡ n → GivesPiece bytes known faults t job u → n < s.form.now.frames
+  pub given_within : (s t u : SoundPieces S) (job : Job) (n : ℕ) → IsLater bytes known loan faults s t → t.next ≡ n → GivesPiece bytes known loan faults t job u → n < s.form.now.frames
   given_within s t u job n p at given = omega (arith, given.within, at, ap (λ (f : PlainForm). f.frames) p.form_is)

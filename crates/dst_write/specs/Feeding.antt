@@ -3,6 +3,7 @@ use Rattle.std.specs.Prelude.{◌≡◌, ℕ, ◌+◌, ◌*◌, ◌<◌, ◌≤�
 use Rattle.dst_spec.specs.Sample.{Shape, sound_bytes}
 use Rattle.dst_streams.specs.Causes.{Rose}
 use Rattle.dst_streams.specs.declared.source.Failed.{Failed}
+use Rattle.dst_streams.specs.Told.{Loan}
 use Rattle.dsdiff_spec.specs.Bytes.{bytes_at, ◌below◌, ◌above◌}
 use Rattle.dsdiff_spec.specs.Chunks.{body_of}
 use Rattle.dsdiff_spec.specs.Coded.{filled}
@@ -21,16 +22,17 @@ feed_shape None end f = 1
 feed_shape (Some size) end f = if f.channels below 8 && not (end above size) then shape_number f else 1
 
 -- it is the same feed, later on
-pub record IsLater {S : Type 0} (bytes : S → Option (List ℕ)) (known : S → Option ℕ) (faults : S → ℕ) (s t : SoundPieces S) : Type 0 where
+pub record IsLater {S : Type 0} (bytes : S → Option (List ℕ)) (known : S → Option ℕ) (loan : S → Loan) (faults : S → ℕ) (s t : SoundPieces S) : Type 0 where
   pub lent : t.source.ghost_name ≡ s.source.ghost_name
   pub form_is : t.form.now ≡ s.form.now
   pub bytes_are : bytes t.source.now ≡ bytes s.source.now
   pub size_is : known t.source.now ≡ known s.source.now
+  pub loan_is : loan t.source.now ≡ loan s.source.now
   pub later : faults s.source.now ≤ faults t.source.now
 
 -- the next piece is read
-pub record GivesPiece {S : Type 0} (bytes : S → Option (List ℕ)) (known : S → Option ℕ) (faults : S → ℕ) (s : SoundPieces S) (job : Job) (t : SoundPieces S) : Type 0 where
-  pub same : IsLater bytes known faults s t
+pub record GivesPiece {S : Type 0} (bytes : S → Option (List ℕ)) (known : S → Option ℕ) (loan : S → Loan) (faults : S → ℕ) (s : SoundPieces S) (job : Job) (t : SoundPieces S) : Type 0 where
+  pub same : IsLater bytes known loan faults s t
   pub next : t.next ≡ s.next + 1
   pub within : s.next < s.form.now.frames
   pub number : job.number ≡ s.next
@@ -38,6 +40,6 @@ pub record GivesPiece {S : Type 0} (bytes : S → Option (List ℕ)) (known : S 
       job.sound.items ≡ piece_of (sound_bytes s.form.now.channels) (body_of file (head_seen s.form.now.sound)) s.next
 
 -- the source failed
-pub record FailsToRead {S : Type 0} (bytes : S → Option (List ℕ)) (known : S → Option ℕ) (faults : S → ℕ) (s : SoundPieces S) (failed : Failed) (t : SoundPieces S) : Type 0 where
-  pub same : IsLater bytes known faults s t
+pub record FailsToRead {S : Type 0} (bytes : S → Option (List ℕ)) (known : S → Option ℕ) (loan : S → Loan) (faults : S → ℕ) (s : SoundPieces S) (failed : Failed) (t : SoundPieces S) : Type 0 where
+  pub same : IsLater bytes known loan faults s t
   pub rose : Rose (faults s.source.now) (faults t.source.now)

@@ -43,6 +43,7 @@ pub fn encode_file<R: Threads + Sync, S: Source, K: Sink, P: Picker + Sync, G: G
     requires least { 0 < workers }
     requires most { workers ≤ 16 }
     ensures bytes { S.bytes source.new ≡ S.bytes source.old }
+    ensures loan { S.loan source.new ≡ S.loan source.old }
     ensures later { (S.faults source.old ≤ S.faults source.new) × (K.faults sink.old ≤ K.faults sink.new) }
     // the coded file is written whole
     ensures accepted { IfOk result (λ _. (file : List ℕ) → S.bytes source.old ≡ Some file → (level : ℕ) → refusal (encode level) file ≡ None) }
@@ -89,6 +90,7 @@ fn write_encoded<R: Threads + Sync, S: Source, K: Sink, P: Picker + Sync, G: Gat
     requires size { (n : ℕ) × (S.known source.old ≡ Some n) × (form.now.end ≤ n) }
     requires room { HasRoomFor form.now.channels form.now.frames workspace.old }
     ensures bytes { S.bytes source.new ≡ S.bytes source.old }
+    ensures loan { S.loan source.new ≡ S.loan source.old }
     ensures source_later { S.faults source.old ≤ S.faults source.new }
     ensures sink_later { K.faults sink.old ≤ K.faults sink.new }
     ensures cause { IfErr result (λ fault. HasItsCause fault (S.faults source.old) (S.faults source.new) (K.faults sink.old) (K.faults sink.new)) }

@@ -28,11 +28,11 @@ impl<S: Source> Feed<Job> for SoundPieces<'_, S> {
 
     ghost shape = { λ s. feed_shape (S.known s.source.now) s.form.now.end s.form.now.channels };
 
-    ghost gives = { GivesPiece S.bytes S.known S.faults };
+    ghost gives = { GivesPiece S.bytes S.known S.loan S.faults };
 
     ghost ended = { λ s. s.form.now.frames ≤ s.next };
 
-    ghost failed = { FailsToRead S.bytes S.known S.faults };
+    ghost failed = { FailsToRead S.bytes S.known S.loan S.faults };
 
     ghost bound = { λ s. s.form.now.frames - s.next };
 
@@ -61,6 +61,7 @@ fn read_piece<S: Source>(
     requires within { number < form.now.frames }
     requires room { length sound.old ≡ sound_bytes form.now.channels }
     ensures bytes { S.bytes source.new ≡ S.bytes source.old }
+    ensures loan { S.loan source.new ≡ S.loan source.old }
     ensures stays { S.known source.new ≡ S.known source.old }
     ensures cause { HasCause (S.faults source.old) (S.faults source.new) result }
     ensures long { length sound.new ≡ length sound.old }

@@ -29,6 +29,7 @@ const MOST_FRAMES: u32 = 1_000_000;
 pub fn walk<S: Source>(alloc: Global, source: &mut S, form: &CodedForm) -> Result<Index, OpenFault>
     requires size { (n : ℕ) × (S.known source.old ≡ Some n) × (form.now.end ≤ n) }
     ensures bytes { S.bytes source.new ≡ S.bytes source.old }
+    ensures loan { S.loan source.new ≡ S.loan source.old }
     ensures size_stays { S.known source.new ≡ S.known source.old }
     ensures index { IfOk result (λ i. (xs : List ℕ) → S.bytes source.old ≡ Some xs → walks.walk xs (coded_seen form.now) ≡ Ok i) }
     ensures fits { IfOk result (λ i. IsIndexOf (coded_seen form.now) i) }
@@ -48,6 +49,7 @@ fn next_head<S: Source>(source: &mut S, place: u64, end: u64) -> Result<ChunkHea
     requires before { place < end }
     requires size { (n : ℕ) × (S.known source.old ≡ Some n) × (end ≤ n) }
     ensures bytes { S.bytes source.new ≡ S.bytes source.old }
+    ensures loan { S.loan source.new ≡ S.loan source.old }
     ensures size_stays { S.known source.new ≡ S.known source.old }
     ensures later { S.faults source.old ≤ S.faults source.new }
     ensures given { S.given source.new ≤ S.given source.old + 12 }
@@ -79,6 +81,7 @@ fn walk_from<S: Source>(
     requires none { entries ≡ [] }
     requires size { (n : ℕ) × (S.known source.old ≡ Some n) × (form.now.end ≤ n) }
     ensures bytes { S.bytes source.new ≡ S.bytes source.old }
+    ensures loan { S.loan source.new ≡ S.loan source.old }
     ensures size_stays { S.known source.new ≡ S.known source.old }
     ensures later { S.faults source.old ≤ S.faults source.new }
     ensures given { S.given source.new ≤ S.given source.old + 48000000 }

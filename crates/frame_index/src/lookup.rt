@@ -29,6 +29,7 @@ pub fn read_index<S: Source>(
 ) -> Result<Index, OpenFault>
     requires size { (n : ℕ) × (S.known source.old ≡ Some n) × (form.now.end ≤ n) }
     ensures bytes { S.bytes source.new ≡ S.bytes source.old }
+    ensures loan { S.loan source.new ≡ S.loan source.old }
     ensures size_stays { S.known source.new ≡ S.known source.old }
     ensures accepted { OnOk result (index_fault (coded_seen form.now) form.now.frames ≡ None) }
     ensures count { IfOk result (λ i. length i ≡ form.now.frames) }
@@ -64,6 +65,7 @@ pub fn locate_by_index<S: Source>(
     requires size { (n : ℕ) × (S.known source.old ≡ Some n) × (form.now.end ≤ n) }
     requires below { k < form.now.frames }
     ensures bytes { S.bytes source.new ≡ S.bytes source.old }
+    ensures loan { S.loan source.new ≡ S.loan source.old }
     ensures size_stays { S.known source.new ≡ S.known source.old }
     ensures accepted { OnOk result ((xs : List ℕ) → S.bytes source.old ≡ Some xs → walks.by_index_fault xs (coded_seen form.now) k ≡ None) }
     ensures entry { IfOk result (λ e. (xs : List ℕ) → S.bytes source.old ≡ Some xs → entry_seen e ≡ walks.indexed xs (coded_seen form.now) k) }
@@ -134,6 +136,7 @@ fn read_entries<S: Source>(
     requires fits { place + 12 * count < 2 ^ 64 }
     requires size { (n : ℕ) × (S.known source.old ≡ Some n) × (place + 12 * count ≤ n) }
     ensures bytes { S.bytes source.new ≡ S.bytes source.old }
+    ensures loan { S.loan source.new ≡ S.loan source.old }
     ensures size_stays { S.known source.new ≡ S.known source.old }
     ensures given { S.given source.new ≤ S.given source.old + 12 * count }
     ensures later { S.faults source.old ≤ S.faults source.new }
@@ -156,6 +159,7 @@ fn read_entry<S: Source>(source: &mut S, place: u64) -> Result<Entry, Failed>
     requires fits { place + 12 < 2 ^ 64 }
     requires size { (n : ℕ) × (S.known source.old ≡ Some n) × (place + 12 ≤ n) }
     ensures bytes { S.bytes source.new ≡ S.bytes source.old }
+    ensures loan { S.loan source.new ≡ S.loan source.old }
     ensures size_stays { S.known source.new ≡ S.known source.old }
     ensures given { S.given source.new ≤ S.given source.old + 12 }
     ensures cause { HasCause (S.faults source.old) (S.faults source.new) result }
@@ -173,6 +177,7 @@ fn read_entry<S: Source>(source: &mut S, place: u64) -> Result<Entry, Failed>
 fn names_frame<S: Source>(source: &mut S, form: &CodedForm, entry: Entry) -> Result<bool, Failed>
     requires size { (n : ℕ) × (S.known source.old ≡ Some n) × (form.now.end ≤ n) }
     ensures bytes { S.bytes source.new ≡ S.bytes source.old }
+    ensures loan { S.loan source.new ≡ S.loan source.old }
     ensures size_stays { S.known source.new ≡ S.known source.old }
     ensures given { S.given source.new ≤ S.given source.old + 12 }
     ensures cause { HasCause (S.faults source.old) (S.faults source.new) result }

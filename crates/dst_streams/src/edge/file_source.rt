@@ -80,6 +80,8 @@ impl<'p, R: Files> Source for FileSource<'p, R> {
 
     ghost given = { λ s. s.given };
 
+    ghost loan = { λ _. None };
+
     ghost use Rattle.dst_streams.specs.Laws.{bytes_of_untold, size_of_untold};
 
     ghost size_is_length = { λ s xs n told known. size_of_untold xs n told };

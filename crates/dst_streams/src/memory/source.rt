@@ -1,5 +1,5 @@
 // A source over lent bytes, with short reads and planned failures.
-ghost use Rattle.std.specs.Prelude.{◌≡◌, ◌<◌, Some, length};
+ghost use Rattle.std.specs.Prelude.{◌≡◌, ◌<◌, Some, None, length};
 ghost use Rattle.std.specs.List.{All};
 
 use super::piece_limit;
@@ -48,6 +48,8 @@ impl<'a> Source for MemorySource<'a> {
     ghost faults = { λ s. s.faults };
 
     ghost given = { λ s. s.given };
+
+    ghost loan = { λ _. None };
 
     ghost use Rattle.dst_streams.specs.Laws.{bytes_of_both, size_of_both};
 

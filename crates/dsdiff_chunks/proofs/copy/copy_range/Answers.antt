@@ -42,6 +42,7 @@ loop-place-preserved g c =
       place_to = omega arith;
       bytes = search rules;
       known = search rules;
+      loan = search rules;
       copied = λ xs told.
           let read = HoldsFrom-later _ xs _ c.args.from c.loop-place.place c.in-Ok.count c.loop-place.invariant.from_place
           (c.loop-place.invariant.bytes ∙ told) c.in-Ok.ensures.read in

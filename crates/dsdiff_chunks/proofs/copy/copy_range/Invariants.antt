@@ -8,6 +8,7 @@ invariant-loop-place g l = record {
   place_to : l.place ≤ l.to;
   bytes : g.S.Source.bytes l.source ≡ g.S.Source.bytes l.initial.source;
   known : g.S.Source.known l.source ≡ g.S.Source.known l.initial.source;
+  loan : g.S.Source.loan l.source ≡ g.S.Source.loan l.initial.source;
   copied : (xs : List ℕ) → g.S.Source.bytes l.initial.source ≡ Some xs →
       g.K.Sink.written l.sink ≡ and_then (g.K.Sink.written l.initial.sink) (take (l.place - l.from) (drop l.from xs));
   sure : (room : ℕ) → g.K.Sink.room l.initial.sink ≡ Some room → l.to - l.from ≤ room → g.K.Sink.room l.sink ≡ Some (room - (l.place - l.from));

@@ -30,6 +30,7 @@ loop-place-preserved g c =
       within = omega (arith, length-drop c.loop-place.place c.loop-place.out);
       bytes = search rules;
       known = search rules;
+      loan = search rules;
       read = λ xs told.
           let place : c.args.from ≤ c.args.from + c.loop-place.place = omega arith in
           let more = HoldsFrom-later _ xs _ c.args.from (c.args.from + c.loop-place.place) c.in_ok-count.count place

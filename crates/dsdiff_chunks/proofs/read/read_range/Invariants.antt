@@ -8,6 +8,7 @@ invariant-loop-place g l = record {
   within : l.place ≤ length l.initial.out;
   bytes : g.S.Source.bytes l.source ≡ g.S.Source.bytes l.initial.source;
   known : g.S.Source.known l.source ≡ g.S.Source.known l.initial.source;
+  loan : g.S.Source.loan l.source ≡ g.S.Source.loan l.initial.source;
   read : (xs : List ℕ) → g.S.Source.bytes l.initial.source ≡ Some xs → take l.place l.out ≡ bytes_at xs l.from l.place;
   given : g.S.Source.given l.source ≤ g.S.Source.given l.initial.source + l.place;
   given_whole : g.S.Source.given l.initial.source < 2 ^ 64 → g.S.Source.given l.source ≡ counted (g.S.Source.given l.initial.source) l.place;

@@ -51,6 +51,7 @@ loop-place-preserved g c =
     record {
       bytes = search rules;
       known = search rules;
+      loan = search rules;
       faults = omega (arith, c.in-Ok.ensures.source.later);
       given = omega (arith, c.in-Ok.ensures.source.given_most, longer);
       few = omega (arith, longer, c.loop-place.heads.ok.0, c.if-len-eq-MOST_CHUNKS.false);

@@ -11,6 +11,7 @@ abbrev pub invariant-loop-place : goal.invariant-loop-place
 invariant-loop-place g l = record {
   bytes : g.S.Source.bytes l.source ≡ g.S.Source.bytes l.initial.source;
   known : g.S.Source.known l.source ≡ g.S.Source.known l.initial.source;
+  loan : g.S.Source.loan l.source ≡ g.S.Source.loan l.initial.source;
   faults : g.S.Source.faults l.initial.source ≤ g.S.Source.faults l.source;
   given : g.S.Source.given l.source ≤ g.S.Source.given l.initial.source + 12 * length l.heads.items;
   few : length l.heads.items ≤ 1024;

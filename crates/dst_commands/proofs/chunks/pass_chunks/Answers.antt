@@ -24,6 +24,7 @@ pub loop-head-preserved-then-not-passes : goal.loop-head-preserved-then-not-pass
 loop-head-preserved-then-not-passes g c = record {
   bytes = c.loop-head.invariant.bytes;
   known = c.loop-head.invariant.known;
+  loan = c.loop-head.invariant.loan;
   source_later = c.loop-head.invariant.source_later;
   sink_later = c.loop-head.invariant.sink_later;
   appended = λ file fits.
@@ -41,6 +42,7 @@ pub loop-head-preserved : goal.loop-head-preserved
 loop-head-preserved g c = record {
   bytes = c.in_default.ensures.bytes ∙ c.loop-head.invariant.bytes;
   known = c.in_default.ensures.stays ∙ c.loop-head.invariant.known;
+  loan = c.in_default.ensures.loan ∙ c.loop-head.invariant.loan;
   source_later = omega (arith, c.in_default.ensures.source_later, c.loop-head.invariant.source_later);
   sink_later = omega (arith, c.in_default.ensures.sink_later, c.loop-head.invariant.sink_later);
   appended = λ file fits.

@@ -9,6 +9,7 @@ abbrev pub invariant-loop-head : goal.invariant-loop-head
 invariant-loop-head g l = record {
   bytes : g.S.Source.bytes l.source ≡ g.S.Source.bytes l.initial.source;
   known : g.S.Source.known l.source ≡ g.S.Source.known l.initial.source;
+  loan : g.S.Source.loan l.source ≡ g.S.Source.loan l.initial.source;
   source_later : g.S.Source.faults l.initial.source ≤ g.S.Source.faults l.source;
   sink_later : g.K.Sink.faults l.initial.sink ≤ g.K.Sink.faults l.sink;
   appended : (file : List ℕ) → (form_of l.passed).end ≤ length file →

@@ -31,6 +31,7 @@ loop-place-init g c =
     record {
       bytes = refl;
       known = refl;
+      loan = refl;
       faults = omega arith;
       given = omega arith;
       few = omega arith;
@@ -102,6 +103,7 @@ loop-place-preserved g c =
     record {
       bytes = c.in-Ok.ensures.bytes ∙ c.loop-place.invariant.bytes;
       known = c.in-Ok.ensures.size_stays ∙ c.loop-place.invariant.known;
+      loan = c.in-Ok.ensures.loan ∙ c.loop-place.invariant.loan;
       faults = omega (arith, c.in-Ok.ensures.later, c.loop-place.invariant.faults);
       given = omega (arith, c.in-Ok.ensures.given, c.loop-place.invariant.given);
       few = omega (arith, few);

@@ -8,6 +8,7 @@ abbrev pub invariant-loop-place : goal.invariant-loop-place
 invariant-loop-place g l = record {
   bytes : g.S.Source.bytes l.source ≡ g.S.Source.bytes l.initial.source;
   known : g.S.Source.known l.source ≡ g.S.Source.known l.initial.source;
+  loan : g.S.Source.loan l.source ≡ g.S.Source.loan l.initial.source;
   faults : g.S.Source.faults l.initial.source ≤ g.S.Source.faults l.source;
   given : g.S.Source.given l.source ≤ g.S.Source.given l.initial.source + 12 * l.passed;
   few : l.passed ≤ 4000000;

@@ -22,7 +22,7 @@ pub returns-clause-given : goal.returns-clause-given
 returns-clause-given g c =
     let whole = with_items_is c.args.job.now.sound c.read_piece.new.sound (c.read_piece.ensures.long ∙ c.deref_mut.ensures.len) in
     λ given. record {
-      same = record { lent = refl; form_is = refl; bytes_are = c.read_piece.ensures.bytes; size_is = c.read_piece.ensures.stays; later = c.read_piece.ensures.cause.later };
+      same = record { lent = refl; form_is = refl; bytes_are = c.read_piece.ensures.bytes; size_is = c.read_piece.ensures.stays; loan_is = c.read_piece.ensures.loan; later = c.read_piece.ensures.cause.later };
       next = refl;
       within = omega (arith, c.if-self.false);
       number = refl;
