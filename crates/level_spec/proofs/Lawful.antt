@@ -1,43 +1,20 @@
 -- The picks of a level are lawful parameters.
-use Rattle.std.proofs.Common.{◌≡◌, ℕ, zero, suc, ◌+◌, ◌≤◌, max, ℤ, pos, true, List, [], ◌∷◌, length, map, replicate, fold, refl, ap, ◌∙◌, subst, sym}
+use Rattle.std.proofs.Common.{◌≡◌, ℕ, zero, suc, ◌≤◌, ℤ, pos, true, List, [], ◌∷◌, ◌++◌, length, map}
 use Rattle.std.proofs.Common.{lit≤, arith}
 use Rattle.std.proofs.lemmas.List.{length-replicate}
 use Rattle.std.proofs.lemmas.List.FromFn.{length-range_with_len, length-map-range_with_len}
 use Rattle.std.specs.List.{AllByRecursion, range_with_len}
 use Rattle.dst_spec.specs.Sample.{Shape, IsShape}
 use Rattle.dst_spec.specs.Table.{filter_kind, prob_kind, IsTable}
-use Rattle.dst_spec.specs.Map.{Numbers, element_count}
 use Rattle.dst_spec.specs.Header.{IsParams}
-use Rattle.dst_spec.proofs.Lists.{all_map, all_range}
+use Rattle.dst_spec.proofs.Lists.{all_map, all_range, all_append}
 use Rattle.level_spec.specs.Correlation.{correlations}
 use Rattle.level_spec.specs.Recursion.{solution}
 use Rattle.level_spec.specs.Counts.{counted}
-use Rattle.level_spec.specs.Picks.{channels_of, filter_for, per_channel, shared, level_picks}
+use Rattle.level_spec.specs.Picks.{channels_of, filter_for, per_channel, shared, orders, refined_shared, refined_own, refined_own_with_one_table, level_picks}
+use Rattle.level_spec.proofs.Maps.{numbered, numbered-count, zeros, one_number}
+use Rattle.level_spec.proofs.RefinedPicks.{IsParams-refined_shared, IsParams-refined_own, IsParams-refined_own_with_one_table}
 use Rattle.level_spec.proofs.Tables.{length-solution, IsTable-quantised, IsTable-counted}
-
-numbered : (a n : ℕ) → Numbers a (range_with_len a n)
-unfolding Numbers
-numbered a zero = tt
-numbered a (suc n) = (
-  omega arith,
-  let e : max a (a + 1) ≡ a + 1 =
-      omega arith in subst (λ m. Numbers m (range_with_len (a + 1) n)) (sym e) (numbered (a + 1) n),
-)
-
-numbered-count : (a n : ℕ) → fold (λ count e. max count (e + 1)) a (range_with_len a n) ≡ a + n
-numbered-count a zero = omega arith
-numbered-count a (suc n) = let e : max a (a + 1) ≡ a + 1 = omega arith in ap (λ m. fold (λ count e. max count (e + 1)) m (range_with_len (a + 1) n)) e
-    ∙ numbered-count (a + 1) n ∙ omega arith
-
-zeros : (count n : ℕ) → Numbers count (replicate n 0)
-unfolding Numbers
-zeros count zero = tt
-zeros count (suc n) = (omega arith, zeros (max count (0 + 1)) n)
-
-zeros-count : (count n : ℕ) → 1 ≤ count → fold (λ count e. max count (e + 1)) count (replicate n 0) ≡ count
-zeros-count count zero h = refl
-zeros-count count (suc n) h = let e : max count (0 + 1) ≡ count = omega arith in ap (λ m. fold (λ count e. max count (e + 1)) m (replicate n 0)) e
-    ∙ zeros-count count n h
 
 pub IsTable-filter_for : (f : Shape) (sound : List ℕ) (order : ℕ) (channels : List ℕ) → 1 ≤ order → order ≤ 128 →
     IsTable filter_kind (filter_for f sound order channels)
@@ -68,10 +45,6 @@ IsParams-per_channel f sound order least most =
           (all_range (λ c. IsTable prob_kind (map pos (probs c))) 0 C (λ c h. IsTable-counted f sound (c ∷ []) (filter c)));
     }
 
-one_number : (C : ℕ) → 1 ≤ C → 1 ≡ element_count (replicate C 0)
-one_number zero h = absurd (omega arith)
-one_number (suc n) h = sym (zeros-count 1 n (omega arith))
-
 pub IsParams-shared : (f : Shape) (sound : List ℕ) (order : ℕ) → 1 ≤ f.channels → 1 ≤ order → order ≤ 128 → IsParams f.channels (shared f sound order)
 unfolding shared
 IsParams-shared f sound order some least most =
@@ -86,28 +59,35 @@ IsParams-shared f sound order some least most =
       probs = (IsTable-counted f sound (channels_of f) (filter_for f sound order (channels_of f)), tt);
     }
 
+pub all_orders_lawful : (sound : List ℕ) (f : Shape) → IsShape f →
+    AllByRecursion (IsParams f.channels) (map (per_channel f sound) orders ++ map (shared f sound) orders)
+all_orders_lawful sound f h =
+    let own : (order : ℕ) → 1 ≤ order → order ≤ 128 → IsParams f.channels (per_channel f sound order) = IsParams-per_channel f sound in
+    let together : (order : ℕ) → 1 ≤ order → order ≤ 128 → IsParams f.channels (shared f sound order) =
+    λ order least most. IsParams-shared f sound order h.least least most in (
+      own 16 (lit≤ tt) (lit≤ tt),
+      (
+        own 32 (lit≤ tt) (lit≤ tt),
+        (
+          own 64 (lit≤ tt) (lit≤ tt),
+          (
+            own 128 (lit≤ tt) (lit≤ tt),
+            (together 16 (lit≤ tt) (lit≤ tt), (together 32 (lit≤ tt) (lit≤ tt), (together 64 (lit≤ tt) (lit≤ tt), (together 128 (lit≤ tt) (lit≤ tt), tt)))),
+          ),
+        ),
+      ),
+    )
+
 pub picks_are_lawful : (level : ℕ) (sound : List ℕ) (f : Shape) → IsShape f →
     (length (level_picks level sound f) ≤ 11) × AllByRecursion (IsParams f.channels) (level_picks level sound f)
 unfolding level_picks
 picks_are_lawful zero sound f h = (omega arith, tt)
 picks_are_lawful (suc zero) sound f h = (omega arith, (IsParams-per_channel f sound 32 (omega arith) (omega arith), tt))
-picks_are_lawful (suc (suc zero)) sound f h =
-    let own : (order : ℕ) → 1 ≤ order → order ≤ 128 → IsParams f.channels (per_channel f sound order) = IsParams-per_channel f sound in
-    let together : (order : ℕ) → 1 ≤ order → order ≤ 128 → IsParams f.channels (shared f sound order) =
-    λ order least most. IsParams-shared f sound order h.least least most in (
-      omega arith,
-      (
-        own 16 (lit≤ tt) (lit≤ tt),
-        (
-          own 32 (lit≤ tt) (lit≤ tt),
-          (
-            own 64 (lit≤ tt) (lit≤ tt),
-            (
-              own 128 (lit≤ tt) (lit≤ tt),
-              (together 16 (lit≤ tt) (lit≤ tt), (together 32 (lit≤ tt) (lit≤ tt), (together 64 (lit≤ tt) (lit≤ tt), (together 128 (lit≤ tt) (lit≤ tt), tt)))),
-            ),
-          ),
-        ),
-      ),
-    )
-picks_are_lawful (suc (suc (suc level))) sound f h = (omega arith, tt)
+picks_are_lawful (suc (suc zero)) sound f h = (omega arith, all_orders_lawful sound f h)
+picks_are_lawful (suc (suc (suc zero))) sound f h = (
+  omega arith,
+  all_append (IsParams f.channels) (map (per_channel f sound) orders ++ map (shared f sound) orders)
+      (refined_shared f sound ∷ refined_own f sound ∷ refined_own_with_one_table f sound ∷ []) (all_orders_lawful sound f h)
+      (IsParams-refined_shared f sound h.least, (IsParams-refined_own f sound, (IsParams-refined_own_with_one_table f sound h.least, tt))),
+)
+picks_are_lawful (suc (suc (suc (suc level)))) sound f h = (omega arith, tt)

@@ -1,10 +1,17 @@
 -- worked examples
 pub mod Examples
 pub mod Frames
+pub mod RefinedExamples
 -- the laws
 pub mod Sums
 pub mod Steps
 pub mod Bounds
 pub mod Tables
 pub mod Sizes
+pub mod Maps
+pub mod RowSteps
+pub mod Refined
+pub mod RefinedPicks
+pub mod KeptRows
 pub mod Lawful
+pub mod Longer

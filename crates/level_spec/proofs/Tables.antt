@@ -30,7 +30,7 @@ last_place-most test (suc n) = elim (test n) as (λ b. cond b (suc n) (last_plac
   )
 ]
 
-bounded-range : (q : ℤ) → InRange filter_kind (bounded q)
+pub bounded-range : (q : ℤ) → InRange filter_kind (bounded q)
 bounded-range q = (omega (arith, ints, clamps), omega (arith, ints, clamps))
 
 all_anyway : {A : Type 0} (P : A → Type 0) (xs : List A) → ((x : A) → P x) → AllByRecursion P xs

@@ -2,5 +2,10 @@ pub mod Correlation
 pub mod Recursion
 pub mod Scale
 pub mod Counts
+pub mod Rows
+pub mod Solving
+pub mod Fitting
+pub mod Size
+pub mod Refining
 pub mod Picks
 pub mod Laws

@@ -1,5 +1,5 @@
 // Laws of picks. The functions do nothing: their clauses are what is proved.
-ghost use Rattle.level_spec.specs.Laws.{CorrelationsLaw, OneRecursionLaw, BoundsLaw, PicksLaw};
+ghost use Rattle.level_spec.specs.Laws.{CorrelationsLaw, OneRecursionLaw, BoundsLaw, PicksLaw, NeverLongerLaw, RowsLaw};
 
 /// The correlations of one to six channels of a frame: the first is from 1 to 2 ^ 20, and no other is greater in size.
 pub fn correlations_law()
@@ -19,4 +19,14 @@ pub fn bounds_law()
 /// The picks of a level are few, and each is lawful parameters of the channels.
 pub fn picks_law()
     ensures { PicksLaw }
+{}
+
+/// A frame stored with the picks of level 3 is never longer than one with those of level 2.
+pub fn never_longer_law()
+    ensures { NeverLongerLaw }
+{}
+
+/// There are rows, each is small, and no divisor of solving is 0.
+pub fn rows_law()
+    ensures { RowsLaw }
 {}

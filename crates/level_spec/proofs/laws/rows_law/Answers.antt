@@ -1,0 +1,5 @@
+use Rattle.level_spec.proofs.KeptRows.{rows_are_small}
+use Rattle.level_spec.proofs.laws.rows_law.Goals as goal
+
+pub returns : goal.returns
+returns c = rows_are_small
