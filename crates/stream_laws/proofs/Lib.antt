@@ -1,0 +1,3 @@
+pub mod FramesCome
+pub mod ChunksCome
+pub mod Accepted
