@@ -1,3 +1,4 @@
 pub mod FramesCome
 pub mod ChunksCome
 pub mod Accepted
+pub mod Lawful
