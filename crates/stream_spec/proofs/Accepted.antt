@@ -1,33 +1,31 @@
 -- A file that is accepted for decoding is a stream of its frames.
-use Rattle.std.proofs.Common.{◌≡◌, ℕ, zero, suc, ◌+◌, ◌*◌, ◌%◌, ◌^◌, ◌<◌, ◌≤◌, ◌==◌, Bool, true, false, List, [], ◌∷◌, length, drop, get_or, map, Option, Some, None, refl, sym, ap, ap₂, subst, ◌∙◌, arith, inl, inr, ltb-false, eqb-true}
-use Rattle.std.specs.Prelude.{nat_lt, if◌then◌else◌, filter, codes, not, ◌||◌, ◌&&◌, bytes_eq}
+use Rattle.std.proofs.Common.{◌≡◌, ℕ, zero, suc, ◌+◌, ◌%◌, ◌^◌, ◌≤◌, ◌==◌, Bool, true, false, List, [], ◌∷◌, length, drop, get_or, map, Option, Some, None, refl, sym, ap, ap₂, subst, ◌∙◌, arith, inl, inr, ltb-false, eqb-true}
+use Rattle.std.specs.Prelude.{if◌then◌else◌, filter, codes, not, ◌||◌, ◌&&◌, bytes_eq}
 use Rattle.std.specs.List.{AllByRecursion, enumerate_from}
-use Rattle.std.proofs.lemmas.Bool.{le-ltb, and_parts, cases_lt, cases_Bool}
+use Rattle.std.proofs.lemmas.Bool.{and_parts, cases_lt, cases_Bool}
 use Rattle.std.proofs.lemmas.List.{length-take}
 use Rattle.std.proofs.lemmas.Slice.Eq.{bytes_eq-Decides}
-use Rattle.dst_spec.specs.Sample.{sound_bytes}
-use Rattle.dsdiff_spec.specs.Bytes.{bytes_at, number_at, ◌is◌, ◌above◌, ◌below◌}
+use Rattle.dsdiff_spec.specs.Bytes.{bytes_at, ◌is◌, ◌above◌, ◌below◌}
 use Rattle.dsdiff_spec.specs.Faults.{◌when◌, ◌otherwise◌, first_some}
-use Rattle.dsdiff_spec.specs.Chunks.{Head, Found, head_at, body_place, body_end, next_place, body_of, named, the_first, fits, chunks_from}
-use Rattle.dsdiff_spec.specs.Form.{Kind, plain, coded, is_plain, Form, longest_frame, shape}
+use Rattle.dsdiff_spec.specs.Chunks.{Head, head_at, body_place, body_end, next_place, body_of, named, the_first, fits, chunks_from}
+use Rattle.dsdiff_spec.specs.Form.{plain, coded, Form, longest_frame, shape}
 use Rattle.dsdiff_spec.specs.Parts.{form_size, form_end, top_level, all, prop_head, prop, compression, sounds, sound_head, kind, frame_count, frame_rate}
 use Rattle.dsdiff_spec.specs.Rules.{opening_fault, is_version, version_fault, prop_chunk_fault, local_fault, type_fault, prop_fault, sound_fault, kind_fault, is_frte, has_bad_origin, coded_fault, form_fault, form_of_kind, accepted}
-use Rattle.dsdiff_spec.specs.Walk.{in_dst, frame_heads, frame_fault, walk_fault, entry_of, entries, frame_at}
+use Rattle.dsdiff_spec.specs.Walk.{in_dst, frame_heads, frame_fault, walk_fault, entry_of, frame_at}
 use Rattle.dsdiff_spec.specs.Decoded.{frames_of}
-use Rattle.dsdiff_spec.specs.Refusal.{not_coded, not_walked}
-use Rattle.dsdiff_spec.specs.Laws.{IsCodedFile}
-use Rattle.dsdiff_spec.specs.Streams.{Stream, Front, ended, form_head_fault, frte_fault_at, sound_head_fault, with_front, kept, up_to, shape_in, frames_from, in_form, in_sound, stream, version_in, StreamLaw}
+use Rattle.dsdiff_spec.specs.Refusal.{not_coded}
+use Rattle.dsdiff_spec.specs.Streams.{Stream, Front, ended, form_head_fault, frte_fault_at, with_front, kept, frames_from, in_sound, version_in, StreamLaw}
 use Rattle.dsdiff_spec.specs.declared.faults.FileFault.{FileFault}
 use Rattle.dsdiff_spec.specs.declared.faults.FileFault.TheVariants.{NotForm, FormTooLarge, FormType, Overrun, Version, PropMissing, PropTwice, PropTooLong, PropType}
 use Rattle.dsdiff_spec.specs.declared.faults.FileFault.TheVariants.{SoundMissing, SoundTwice, Compression, FrameRate, TooManyFrames, KeptBad, CountDiffers, FrameTooLong, NotCoded}
 use Rattle.dsdiff_spec.proofs.Lawful.{first_gives_none, later_gives_none, when_not, left_is_false, right_is_false}
 use Rattle.dsdiff_spec.proofs.CodedFiles.{no_rule_fails, kind_gives_none, is_coded_kind, count_is_right}
-use Rattle.dsdiff_spec.proofs.Steps.{nothing, with_head, fits_body, found_at_end, found_at_misfit, found_at_chunk}
+use Rattle.dsdiff_spec.proofs.Steps.{fits_body, found_at_end, found_at_misfit, found_at_chunk}
 use Rattle.dsdiff_spec.proofs.Finding.{Stands, found_stand}
 use Rattle.dsdiff_spec.proofs.StreamSteps.{reaches}
 use Rattle.dsdiff_spec.proofs.ManyOfStreams.{Begins, behind_version, version_of, first_chunk_passes}
-use Rattle.stream_laws.proofs.FramesCome.{AreShort, frames_among, then_ended, frames_come}
-use Rattle.stream_laws.proofs.ChunksCome.{is_sound, IsProp, IsCodedSound, chunks_come}
+use Rattle.stream_spec.proofs.FramesCome.{AreShort, then_ended, frames_come}
+use Rattle.stream_spec.proofs.ChunksCome.{is_sound, IsProp, IsCodedSound, chunks_come}
 
 is_not_false : (b : Bool) → not b ≡ false → b ≡ true
 is_not_false true q = refl

@@ -1,14 +1,14 @@
 -- A stream in `DST `, whose chunks are all whole, with as many frames among them as are told and none too long: it has these frames, and ends
 -- behind the last of them.
-use Rattle.std.proofs.Common.{◌≡◌, ℕ, zero, suc, ◌+◌, ◌*◌, ◌<◌, ◌≤◌, ◌==◌, Bool, true, false, List, [], ◌∷◌, length, map, Option, Some, None, refl, sym, ap, ◌∙◌, arith}
-use Rattle.std.specs.Prelude.{nat_lt, if◌then◌else◌, filter, min, option_map}
+use Rattle.std.proofs.Common.{◌≡◌, ℕ, suc, ◌+◌, ◌*◌, ◌<◌, ◌≤◌, ◌==◌, Bool, true, false, List, ◌∷◌, length, map, Option, Some, None, refl, ap, ◌∙◌, arith}
+use Rattle.std.specs.Prelude.{nat_lt, if◌then◌else◌, option_map}
 use Rattle.std.specs.List.{AllByRecursion}
-use Rattle.std.proofs.lemmas.Bool.{le-ltb, eq-eqb, eqb-true, cases_Bool}
+use Rattle.std.proofs.lemmas.Bool.{le-ltb, eq-eqb, eqb-true}
 use Rattle.dst_spec.specs.Sample.{Shape, sound_bytes}
 use Rattle.dsdiff_spec.specs.Bytes.{◌is◌, ◌above◌}
 use Rattle.dsdiff_spec.specs.Faults.{◌when◌, ◌otherwise◌}
-use Rattle.dsdiff_spec.specs.Chunks.{Head, Found, head_at, body_place, body_end, next_place, body_of, named, fits, chunks_from}
-use Rattle.dsdiff_spec.specs.Streams.{Stream, Ending, ended, stopped, nothing_but, with_frame, up_to, whole_end, ending_at_head, frame_head_fault, with_frame_in, in_sound_chunk, found_with, counted, frames_from}
+use Rattle.dsdiff_spec.specs.Chunks.{Head, Found, head_at, body_end, next_place, body_of, named, fits, chunks_from}
+use Rattle.dsdiff_spec.specs.Streams.{Stream, ended, stopped, nothing_but, with_frame, up_to, whole_end, frame_head_fault, in_sound_chunk, found_with, frames_from}
 use Rattle.dsdiff_spec.specs.declared.faults.FileFault.{FileFault}
 use Rattle.dsdiff_spec.specs.declared.faults.FileFault.TheVariants.{Overrun, FrameTooLong, TooManyFrames, CountDiffers}
 use Rattle.dsdiff_spec.proofs.Steps.{nothing, with_head, fits_body}

@@ -2,3 +2,4 @@ pub mod FramesCome
 pub mod ChunksCome
 pub mod Accepted
 pub mod Lawful
+pub mod More

@@ -1,17 +1,16 @@
 -- A stream behind its `FVER`: where opening finds one `PROP` and behind it one sound, which is coded, the stream comes to that sound.
 use Rattle.std.proofs.Common.{◌≡◌, ℕ, zero, suc, ◌+◌, ◌<◌, ◌≤◌, Bool, true, false, List, [], ◌∷◌, length, Option, Some, None, refl, sym, ap, ◌∙◌, arith}
-use Rattle.std.specs.Prelude.{nat_lt, if◌then◌else◌, filter, min, option_map, codes, not, ◌||◌}
+use Rattle.std.specs.Prelude.{nat_lt, if◌then◌else◌, filter, option_map, codes, not, ◌||◌}
 use Rattle.std.proofs.lemmas.Bool.{le-ltb}
 use Rattle.std.proofs.lemmas.Slice.Eq.{bytes_eq-Decides}
-use Rattle.dsdiff_spec.specs.Bytes.{◌is◌, ◌above◌, ◌below◌}
-use Rattle.dsdiff_spec.specs.Faults.{◌when◌, ◌otherwise◌}
+use Rattle.dsdiff_spec.specs.Bytes.{◌is◌}
+use Rattle.dsdiff_spec.specs.Faults.{◌otherwise◌}
 use Rattle.dsdiff_spec.specs.Chunks.{Head, Found, head_at, body_place, body_end, next_place, body_of, named, fits, chunks_from}
-use Rattle.dsdiff_spec.specs.Parts.{compression}
 use Rattle.dsdiff_spec.specs.Rules.{local_fault}
-use Rattle.dsdiff_spec.specs.Streams.{Stream, Came, stopped, nothing_but, up_to, kept, whole_end, ending_at_head, chunk_head_fault, later_head_fault}
-use Rattle.dsdiff_spec.specs.Streams.{prop_head_fault, plain_head_fault, sound_head_fault, chunk_body_fault, came_with, in_sound, in_form_chunk, in_form}
+use Rattle.dsdiff_spec.specs.Streams.{stopped, up_to, kept, whole_end, ending_at_head, chunk_head_fault, later_head_fault}
+use Rattle.dsdiff_spec.specs.Streams.{prop_head_fault, plain_head_fault, sound_head_fault, came_with, in_sound, in_form}
 use Rattle.dsdiff_spec.specs.declared.faults.FileFault.{FileFault}
-use Rattle.dsdiff_spec.specs.declared.faults.FileFault.TheVariants.{Overrun, PropTooLong, PropType, Compression, FrameRate}
+use Rattle.dsdiff_spec.specs.declared.faults.FileFault.TheVariants.{Overrun, PropTooLong, PropType}
 use Rattle.dsdiff_spec.proofs.Steps.{nothing, with_head, fits_body}
 use Rattle.dsdiff_spec.proofs.Finding.{found_by}
 use Rattle.dsdiff_spec.proofs.StreamSteps.{reaches, head_is_whole, form_has_sound, form_has_chunk}

@@ -1,6 +1,6 @@
 -- What every stream has, whatever its bytes: followed chunk by chunk.
-use Rattle.std.proofs.Common.{◌≡◌, ℕ, zero, suc, ◌+◌, ◌*◌, ◌^◌, ◌<◌, ◌≤◌, ◌==◌, Bool, true, false, List, [], ◌∷◌, length, get_or, drop, Option, Some, None, refl, sym, ap, subst, ◌∙◌, arith, inl, inr, ltb-false, eqb-true}
-use Rattle.std.specs.Prelude.{nat_lt, if◌then◌else◌, codes, not, ◌||◌, ◌&&◌, min, option_map, unwrap_or}
+use Rattle.std.proofs.Common.{◌≡◌, ℕ, zero, suc, ◌+◌, ◌*◌, ◌<◌, ◌≤◌, ◌==◌, Bool, true, false, List, length, drop, Option, Some, None, refl, sym, ap, subst, ◌∙◌, arith, inl, inr, ltb-false, eqb-true}
+use Rattle.std.specs.Prelude.{nat_lt, if◌then◌else◌, codes, not, ◌||◌, option_map}
 use Rattle.std.specs.List.{AllByRecursion}
 use Rattle.std.proofs.lemmas.Bool.{and_parts, cases_lt, eq-eqb}
 use Rattle.std.proofs.lemmas.List.{length-take, length-take-le}
@@ -13,14 +13,14 @@ use Rattle.dsdiff_spec.specs.Chunks.{Head, head_at, body_place, body_end, next_p
 use Rattle.dsdiff_spec.specs.Parts.{form_end, in_prop}
 use Rattle.dsdiff_spec.specs.Rules.{local_fault, type_fault, rate_fault, channels_fault, compression_fault, moved, is_frte}
 use Rattle.dsdiff_spec.specs.Streams.{Stream, Ending, Front, ended, stopped, cut_off, nothing_but, with_front, with_frame, up_to, kept, whole_end, shape_in}
-use Rattle.dsdiff_spec.specs.Streams.{ending_at_head, frame_head_fault, with_frame_in, in_sound_chunk, found_with, counted, frames_from, Came, nothing_came, missing}
-use Rattle.dsdiff_spec.specs.Streams.{version_head_fault, prop_head_fault, plain_head_fault, sound_head_fault, later_head_fault, chunk_head_fault, prop_body_fault}
-use Rattle.dsdiff_spec.specs.Streams.{chunk_body_fault, came_with, frte_fault_at, front_of, in_sound, in_form_chunk, in_form, form_head_fault, stream}
+use Rattle.dsdiff_spec.specs.Streams.{ending_at_head, frame_head_fault, with_frame_in, in_sound_chunk, found_with, counted, frames_from, Came, nothing_came}
+use Rattle.dsdiff_spec.specs.Streams.{version_head_fault, prop_head_fault, plain_head_fault, sound_head_fault, later_head_fault, chunk_head_fault}
+use Rattle.dsdiff_spec.specs.Streams.{chunk_body_fault, frte_fault_at, in_sound, in_form_chunk, in_form, form_head_fault, stream}
 use Rattle.dsdiff_spec.specs.declared.faults.FileFault.{FileFault}
 use Rattle.dsdiff_spec.specs.declared.faults.FileFault.TheVariants.{NotForm, Overrun, Version, TooManyChunks, FrameTooLong, TooManyFrames, CountDiffers, PropTooLong, PropType, FrameRate}
 use Rattle.dsdiff_spec.proofs.Lawful.{first_gives_none, later_gives_none, when_not, moved_none}
 use Rattle.dsdiff_spec.proofs.StreamSteps.{sound_ends, sound_has_no_more, sound_ends_at_head, sound_has_chunk, form_ends, form_has_no_more, form_ends_at_head, form_has_sound, form_has_chunk}
-use Rattle.stream_laws.specs.Lawful.{IsLawfulFront, IsShort, AreLawful, IsLawful, LawfulStreamsLaw}
+use Rattle.stream_spec.specs.Lawful.{IsLawfulFront, IsShort, AreLawful, IsLawful, LawfulStreamsLaw}
 
 -- ---- endings that aren't behind the last frame
 abbrev IsEarly : Ending → Type 0

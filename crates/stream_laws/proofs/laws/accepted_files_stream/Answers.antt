@@ -1,5 +1,0 @@
-use Rattle.stream_laws.proofs.Accepted.{accepted_file_streams}
-use Rattle.stream_laws.proofs.laws.accepted_files_stream.Goals as goal
-
-pub returns : goal.returns
-returns c = accepted_file_streams

@@ -1,5 +1,0 @@
-use Rattle.stream_laws.proofs.Lawful.{streams_are_lawful as law}
-use Rattle.stream_laws.proofs.laws.streams_are_lawful.Goals as goal
-
-pub returns : goal.returns
-returns c = law
