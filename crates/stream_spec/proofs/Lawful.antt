@@ -20,7 +20,7 @@ use Rattle.dsdiff_spec.specs.declared.faults.FileFault.{FileFault}
 use Rattle.dsdiff_spec.specs.declared.faults.FileFault.TheVariants.{NotForm, Overrun, Version, TooManyChunks, FrameTooLong, TooManyFrames, CountDiffers, PropTooLong, PropType, FrameRate}
 use Rattle.dsdiff_spec.proofs.Lawful.{first_gives_none, later_gives_none, when_not, moved_none}
 use Rattle.dsdiff_spec.proofs.StreamSteps.{sound_ends, sound_has_no_more, sound_ends_at_head, sound_has_chunk, form_ends, form_has_no_more, form_ends_at_head, form_has_sound, form_has_chunk}
-use Rattle.stream_spec.specs.Lawful.{IsLawfulFront, IsShort, AreLawful, IsLawful, LawfulStreamsLaw}
+use Rattle.stream_spec.specs.Lawful.{IsLawfulFront, IsShort, AreLawful, IsLawful, IsPartOf, LawfulStreamsLaw}
 
 -- ---- endings that aren't behind the last frame
 abbrev IsEarly : Ending → Type 0
@@ -72,39 +72,41 @@ kept_then P (Some f) later none go_on = none f
 kept_then P None later none go_on = go_on refl
 
 -- ---- in `DST `, behind so many frames
-record FramesAre (f : Shape) (told found : ℕ) (s : Stream) : Type 0 where
+record FramesAre (w : List ℕ) (f : Shape) (told found : ℕ) (s : Stream) : Type 0 where
+  pub parts : AllByRecursion (IsPartOf w) s.frames
   pub short : AllByRecursion (IsShort f) s.frames
   pub few : found + length s.frames ≤ told
   pub ended : s.ending ≡ ended → found + length s.frames ≡ told
 
-early_frames : (f : Shape) (told found : ℕ) (e : Ending) → found ≤ told → IsEarly e → FramesAre f told found (nothing_but e)
-early_frames f told found e le early = record { short = tt; few = omega (arith, le); ended = λ same. absurd (not_ended e early same) }
+early_frames : (w : List ℕ) (f : Shape) (told found : ℕ) (e : Ending) → found ≤ told → IsEarly e → FramesAre w f told found (nothing_but e)
+early_frames w f told found e le early = record { parts = tt; short = tt; few = omega (arith, le); ended = λ same. absurd (not_ended e early same) }
 
-counted_frames : (f : Shape) (told found : ℕ) → found ≤ told → FramesAre f told found (nothing_but (counted told found))
-counted_frames f told found le = record { short = tt; few = omega (arith, le); ended = λ same. go (found == told) refl same }
+counted_frames : (w : List ℕ) (f : Shape) (told found : ℕ) → found ≤ told → FramesAre w f told found (nothing_but (counted told found))
+counted_frames w f told found le = record { parts = tt; short = tt; few = omega (arith, le); ended = λ same. go (found == told) refl same }
   where
     go : (b : Bool) → (found == told) ≡ b → (if b then ended else stopped (CountDiffers told found)) ≡ ended → found + 0 ≡ told
     go true e same = let all = eqb-true found told e in omega (arith, all)
     go false e same = absurd (not_ended (stopped (CountDiffers told found)) (tt {0}) same)
 
-one_frame_more : (w : List ℕ) (f : Shape) (told found : ℕ) (h : Head) (s : Stream) → h.size ≤ 2 * (sound_bytes f + 1) → FramesAre f told (found + 1) s →
-    FramesAre f told found (with_frame (body_of w h) s)
+one_frame_more : (w : List ℕ) (f : Shape) (told found : ℕ) (h : Head) (s : Stream) → h.size ≤ 2 * (sound_bytes f + 1) → FramesAre w f told (found + 1) s →
+    FramesAre w f told found (with_frame (body_of w h) s)
 one_frame_more w f told found h s short are =
     record {
+      parts = ((body_place h, h.size, refl), are.parts);
       short = (omega (arith, short, length-take h.size (drop (body_place h) w)), are.short);
       few = (let few = are.few in omega (arith, few));
       ended = λ same. (let all = are.ended same in omega (arith, all));
     }
 
 frames_after : (w : List ℕ) (f : Shape) (told end found : ℕ) (h : Head) (later : Stream) → found ≤ told →
-    frame_head_fault f told end found h ≡ None → (found_with h found ≤ told → FramesAre f told (found_with h found) later) →
-    FramesAre f told found (in_sound_chunk w end h later)
+    frame_head_fault f told end found h ≡ None → (found_with h found ≤ told → FramesAre w f told (found_with h found) later) →
+    FramesAre w f told found (in_sound_chunk w end h later)
 frames_after w f told end found h later le none next =
-    reached (FramesAre f told found) w h.place (body_end h) (with_frame_in w h (up_to w h.place (whole_end end h) later)) cut
+    reached (FramesAre w f told found) w h.place (body_end h) (with_frame_in w h (up_to w h.place (whole_end end h) later)) cut
     (λ there. by_name (h.id is "DSTF") (later_gives_none (Overrun h.place when body_end h above end) _ none) next)
   where
-    cut : FramesAre f told found (nothing_but (cut_off (Overrun h.place)))
-    cut = early_frames f told found (cut_off (Overrun h.place)) le (tt {0})
+    cut : FramesAre w f told found (nothing_but (cut_off (Overrun h.place)))
+    cut = early_frames w f told found (cut_off (Overrun h.place)) le (tt {0})
 
     frame_rules : Option FileFault
     frame_rules =
@@ -121,10 +123,10 @@ frames_after w f told end found h later le none next =
     by_name : (b : Bool) →
         (if b then (FrameTooLong found h.size when h.size above 2 * (sound_bytes f + 1) otherwise TooManyFrames when found above 999999
         otherwise CountDiffers told (told + 1) when found == told) else None) ≡ None →
-        ((if b then (found + 1) else found) ≤ told → FramesAre f told (if b then (found + 1) else found) later) →
-        FramesAre f told found
+        ((if b then (found + 1) else found) ≤ told → FramesAre w f told (if b then (found + 1) else found) later) →
+        FramesAre w f told found
         (if b then with_frame (body_of w h) (up_to w h.place (whole_end end h) later) else up_to w h.place (whole_end end h) later)
-    by_name false none next = reached (FramesAre f told found) w h.place (whole_end end h) later cut (λ there. next le)
+    by_name false none next = reached (FramesAre w f told found) w h.place (whole_end end h) later cut (λ there. next le)
     by_name true none next =
         let third = CountDiffers told (told + 1) when found == told in
         let second = TooManyFrames when found above 999999 otherwise third in
@@ -132,28 +134,28 @@ frames_after w f told end found h later le none next =
         let count = less (when_not (CountDiffers told (told + 1)) (found == told) (later_gives_none (TooManyFrames when found above 999999) third
         (later_gives_none (FrameTooLong found h.size when h.size above 2 * (sound_bytes f + 1)) second none))) in
         one_frame_more w f told found h _ size
-        (reached (FramesAre f told (found + 1)) w h.place (whole_end end h) later (early_frames f told (found + 1) (cut_off (Overrun h.place)) (omega (arith, count)) (tt {0}))
+        (reached (FramesAre w f told (found + 1)) w h.place (whole_end end h) later (early_frames w f told (found + 1) (cut_off (Overrun h.place)) (omega (arith, count)) (tt {0}))
         (λ there. next (omega (arith, count))))
 
-frames_are : (w : List ℕ) (f : Shape) (told end most found place : ℕ) → found ≤ told → FramesAre f told found (frames_from w f told end most found place)
+frames_are : (w : List ℕ) (f : Shape) (told end most found place : ℕ) → found ≤ told → FramesAre w f told found (frames_from w f told end most found place)
 frames_are w f told end zero found place le = elim (cases_lt place end) [
-  | inr ge ↦ subst (FramesAre f told found) (sym (sound_ends w f told end zero found place ge)) (counted_frames f told found le)
-  | inl lt ↦ subst (FramesAre f told found) (sym (sound_has_no_more w f told end found place lt)) (early_frames f told found (stopped TooManyChunks) le (tt {0}))
+  | inr ge ↦ subst (FramesAre w f told found) (sym (sound_ends w f told end zero found place ge)) (counted_frames w f told found le)
+  | inl lt ↦ subst (FramesAre w f told found) (sym (sound_has_no_more w f told end found place lt)) (early_frames w f told found (stopped TooManyChunks) le (tt {0}))
 ]
 frames_are w f told end (suc most) found place le = elim (cases_lt place end) [
-  | inr ge ↦ subst (FramesAre f told found) (sym (sound_ends w f told end (suc most) found place ge)) (counted_frames f told found le)
+  | inr ge ↦ subst (FramesAre w f told found) (sym (sound_ends w f told end (suc most) found place ge)) (counted_frames w f told found le)
   | inl lt ↦ go lt (ending_at_head w end place (frame_head_fault f told end found (head_at w place))) refl
       (λ n le. frames_are w f told end most n (next_place (head_at w place)) le)
 ]
   where
     go : place < end → (o : Option Ending) → ending_at_head w end place (frame_head_fault f told end found (head_at w place)) ≡ o →
-        ((n : ℕ) → n ≤ told → FramesAre f told n (frames_from w f told end most n (next_place (head_at w place)))) →
-        FramesAre f told found (frames_from w f told end (suc most) found place)
+        ((n : ℕ) → n ≤ told → FramesAre w f told n (frames_from w f told end most n (next_place (head_at w place)))) →
+        FramesAre w f told found (frames_from w f told end (suc most) found place)
     go lt (Some e) same next =
-        subst (FramesAre f told found) (sym (sound_ends_at_head w f told end most found place e lt same))
-        (early_frames f told found e le (ends_early w end place _ e same))
+        subst (FramesAre w f told found) (sym (sound_ends_at_head w f told end most found place e lt same))
+        (early_frames w f told found e le (ends_early w end place _ e same))
     go lt None same next =
-        subst (FramesAre f told found) (sym (sound_has_chunk w f told end most found place lt same))
+        subst (FramesAre w f told found) (sym (sound_has_chunk w f told end most found place lt same))
         (frames_after w f told end found (head_at w place) _ le (no_fault_at_head w end place _ same) (next (found_with (head_at w place) found)))
 
 -- ---- in the form, where these bodies came
@@ -163,8 +165,8 @@ record CameLawful (came : Came) : Type 0 where
   pub rules : (p : List ℕ) → came.prop ≡ Some p → local_fault 0 p ≡ None
   pub none : came.version ≡ None → came.prop ≡ None
 
-early_form : (e : Ending) → IsEarly e → IsLawful (nothing_but e)
-early_form e early = record { front = λ f same. absurd cc; frames = λ f same. absurd cc; ended = λ same. absurd (not_ended e early same) }
+early_form : (w : List ℕ) (e : Ending) → IsEarly e → IsLawful w (nothing_but e)
+early_form w e early = record { front = λ f same. absurd cc; frames = λ f same. absurd cc; ended = λ same. absurd (not_ended e early same) }
 
 -- the rules on a body don't depend on where it begins
 anywhere : (start : ℕ) (body : List ℕ) → local_fault start body ≡ None → local_fault 0 body ≡ None
@@ -179,16 +181,17 @@ anywhere start body none =
     ∙ last
 
 -- ---- `DST `, behind `FVER` and `PROP`
-lawful_front : (front : Front) (s : Stream) → IsLawfulFront front → FramesAre (shape_in front.prop) front.frames 0 s → IsLawful (with_front front s)
-lawful_front front s lawful are =
+lawful_front : (w : List ℕ) (front : Front) (s : Stream) → IsLawfulFront front → FramesAre w (shape_in front.prop) front.frames 0 s → IsLawful w (with_front front s)
+lawful_front w front s lawful are =
     record {
       front = λ f same. (let e : front ≡ f = cc in subst IsLawfulFront e lawful);
-      frames = λ f same. (let e : front ≡ f = cc in subst (λ g. AreLawful g (with_front front s)) e all);
+      frames = λ f same. (let e : front ≡ f = cc in subst (λ g. AreLawful w g (with_front front s)) e all);
       ended = λ same. (front, refl);
     }
   where
-    all : AreLawful front (with_front front s)
+    all : AreLawful w front (with_front front s)
     all = record {
+      parts = are.parts;
       short = are.short;
       few = (let few = are.few in omega (arith, few));
       ended = λ same. (let count = are.ended same in omega (arith, count));
@@ -200,22 +203,22 @@ told_few w place none =
     (when_not TooManyFrames _ (later_gives_none (FrameRate when not (is_frte w place) || not (number_at w (place + 16) 2 == 75)) _ none))
 
 sound_lawful : (w v p : List ℕ) (h : Head) → CameLawful (record { version = Some v; prop = Some p }) →
-    IsLawful (in_sound w (record { version = Some v; prop = Some p }) h)
+    IsLawful w (in_sound w (record { version = Some v; prop = Some p }) h)
 sound_lawful w v p h came =
     let front : Front = record { version = v; prop = p; frames = number_at w (body_place h + 12) 4 } in
-    reached IsLawful w (body_place h) (body_place h + 18) _ (early_form (cut_off (Overrun (body_place h))) (tt {0}))
-    (λ there. kept_then IsLawful (frte_fault_at w (body_place h)) _ (λ f. early_form (stopped f) (tt {0}))
-    (λ none. lawful_front front _
+    reached (IsLawful w) w (body_place h) (body_place h + 18) _ (early_form w (cut_off (Overrun (body_place h))) (tt {0}))
+    (λ there. kept_then (IsLawful w) (frte_fault_at w (body_place h)) _ (λ f. early_form w (stopped f) (tt {0}))
+    (λ none. lawful_front w front _
     (record { version = came.version v refl; most = came.most p refl; rules = came.rules p refl; frames = told_few w (body_place h) none })
     (frames_are w (shape_in p) front.frames (body_end h) 4000000 0 (body_place h + 18) (omega arith))))
 
 -- ---- a chunk of the form
 chunk_lawful : (w : List ℕ) (end : ℕ) (came : Came) (h : Head) (later : Stream) →
-    (body_end h ≤ length w → chunk_body_fault w came h ≡ None → IsLawful later) → IsLawful (in_form_chunk w end came h later)
+    (body_end h ≤ length w → chunk_body_fault w came h ≡ None → IsLawful w later) → IsLawful w (in_form_chunk w end came h later)
 chunk_lawful w end came h later next =
-    reached IsLawful w h.place (body_end h) _ (early_form (cut_off (Overrun h.place)) (tt {0}))
-    (λ there. kept_then IsLawful (chunk_body_fault w came h) _ (λ f. early_form (stopped f) (tt {0}))
-    (λ none. reached IsLawful w h.place (whole_end end h) later (early_form (cut_off (Overrun h.place)) (tt {0})) (λ all. next there none)))
+    reached (IsLawful w) w h.place (body_end h) _ (early_form w (cut_off (Overrun h.place)) (tt {0}))
+    (λ there. kept_then (IsLawful w) (chunk_body_fault w came h) _ (λ f. early_form w (stopped f) (tt {0}))
+    (λ none. reached (IsLawful w) w h.place (whole_end end h) later (early_form w (cut_off (Overrun h.place)) (tt {0})) (λ all. next there none)))
 
 no_version_and_coded : (id : List ℕ) → (id is "FVER") ≡ true → (id is "DST ") ≡ true → ⊥
 no_version_and_coded id p q =
@@ -294,13 +297,13 @@ prop_short prop h none is_prop = go prop (h.id is "PROP") is_prop (asked_by_ids 
 
 -- ---- the form
 form_lawful : (w : List ℕ) (end most : ℕ) (version prop : Option (List ℕ)) (place : ℕ) → CameLawful (record { version = version; prop = prop }) →
-    IsLawful (in_form w end most (record { version = version; prop = prop }) place)
+    IsLawful w (in_form w end most (record { version = version; prop = prop }) place)
 form_lawful w end zero version prop place came = elim (cases_lt place end) [
-  | inr ge ↦ subst IsLawful (sym (form_ends w end zero (record { version = version; prop = prop }) place ge)) (early_form (stopped _) (tt {0}))
-  | inl lt ↦ subst IsLawful (sym (form_has_no_more w end (record { version = version; prop = prop }) place lt)) (early_form (stopped TooManyChunks) (tt {0}))
+  | inr ge ↦ subst (IsLawful w) (sym (form_ends w end zero (record { version = version; prop = prop }) place ge)) (early_form w (stopped _) (tt {0}))
+  | inl lt ↦ subst (IsLawful w) (sym (form_has_no_more w end (record { version = version; prop = prop }) place lt)) (early_form w (stopped TooManyChunks) (tt {0}))
 ]
 form_lawful w end (suc most) version prop place came = elim (cases_lt place end) [
-  | inr ge ↦ subst IsLawful (sym (form_ends w end (suc most) (record { version = version; prop = prop }) place ge)) (early_form (stopped _) (tt {0}))
+  | inr ge ↦ subst (IsLawful w) (sym (form_ends w end (suc most) (record { version = version; prop = prop }) place ge)) (early_form w (stopped _) (tt {0}))
   | inl lt ↦ go lt version prop came (ending_at_head w end place (chunk_head_fault end (record { version = version; prop = prop }) (head_at w place))) refl
       ((head_at w place).id is "DST ") refl (λ v p n c. form_lawful w end most v p n c)
 ]
@@ -311,28 +314,28 @@ form_lawful w end (suc most) version prop place came = elim (cases_lt place end)
     go : place < end → (v p : Option (List ℕ)) → CameLawful (record { version = v; prop = p }) →
         (o : Option Ending) → ending_at_head w end place (chunk_head_fault end (record { version = v; prop = p }) (head_at w place)) ≡ o →
         (b : Bool) → ((head_at w place).id is "DST ") ≡ b →
-        ((x y : Option (List ℕ)) (n : ℕ) → CameLawful (record { version = x; prop = y }) → IsLawful (in_form w end most (record { version = x; prop = y }) n)) →
-        IsLawful (in_form w end (suc most) (record { version = v; prop = p }) place)
+        ((x y : Option (List ℕ)) (n : ℕ) → CameLawful (record { version = x; prop = y }) → IsLawful w (in_form w end most (record { version = x; prop = y }) n)) →
+        IsLawful w (in_form w end (suc most) (record { version = v; prop = p }) place)
     go lt v p came (Some e) same b d next =
-        subst IsLawful (sym (form_ends_at_head w end most (record { version = v; prop = p }) place e lt same)) (early_form e (ends_early w end place _ e same))
+        subst (IsLawful w) (sym (form_ends_at_head w end most (record { version = v; prop = p }) place e lt same)) (early_form w e (ends_early w end place _ e same))
     go lt None p came None same true d next =
         let none = later_gives_none (Overrun (head_at w place).place when body_end (head_at w place) above end) _ (no_fault_at_head w end place _ same) in
         absurd (no_version_and_coded (head_at w place).id (is_version (head_at w place) none).0 d)
     go lt (Some v) p came None same true d next =
         let none = later_gives_none (Overrun (head_at w place).place when body_end (head_at w place) above end) _ (no_fault_at_head w end place _ same) in
         let has = has_prop p (head_at w place) none d in
-        subst IsLawful (sym (form_has_sound w end most (record { version = Some v; prop = p }) place lt same d))
-        (subst (λ x. IsLawful (in_sound w (record { version = Some v; prop = x }) (head_at w place))) (sym has.1)
+        subst (IsLawful w) (sym (form_has_sound w end most (record { version = Some v; prop = p }) place lt same d))
+        (subst (λ x. IsLawful w (in_sound w (record { version = Some v; prop = x }) (head_at w place))) (sym has.1)
         (sound_lawful w v has.0 (head_at w place) (subst (λ x. CameLawful (record { version = Some v; prop = x })) has.1 came)))
     go lt None p came None same false d next =
         let none = later_gives_none (Overrun (head_at w place).place when body_end (head_at w place) above end) _ (no_fault_at_head w end place _ same) in
-        subst IsLawful (sym (form_has_chunk w end most (record { version = None; prop = p }) place lt same d))
+        subst (IsLawful w) (sym (form_has_chunk w end most (record { version = None; prop = p }) place lt same d))
         (chunk_lawful w end (record { version = None; prop = p }) (head_at w place) _
         (λ there body. next (Some (body_of w (head_at w place))) None (next_place (head_at w place))
         (version_came w (head_at w place) there (is_version (head_at w place) none).1)))
     go lt (Some v) p came None same false d next =
         let none = later_gives_none (Overrun (head_at w place).place when body_end (head_at w place) above end) _ (no_fault_at_head w end place _ same) in
-        subst IsLawful (sym (form_has_chunk w end most (record { version = Some v; prop = p }) place lt same d))
+        subst (IsLawful w) (sym (form_has_chunk w end most (record { version = Some v; prop = p }) place lt same d))
         (chunk_lawful w end (record { version = Some v; prop = p }) (head_at w place) _
         (λ there body. next (Some v) (if (head_at w place).id is "PROP" then Some (body_of w (head_at w place)) else p) (next_place (head_at w place))
         (prop_came w v p (head_at w place) ((head_at w place).id is "PROP") came there (prop_short p (head_at w place) none) body)))
@@ -344,6 +347,6 @@ streams_are_lawful w = go (nat_lt (length w) 16)
     nothing_lawful : CameLawful nothing_came
     nothing_lawful = record { version = λ v same. absurd cc; most = λ p same. absurd cc; rules = λ p same. absurd cc; none = λ same. refl }
 
-    go : (b : Bool) → IsLawful (elim b [ true ↦ nothing_but (cut_off NotForm) | false ↦ kept (form_head_fault w) (in_form w (form_end w) 1024 nothing_came 16) ])
-    go true = early_form (cut_off NotForm) (tt {0})
-    go false = kept_then IsLawful (form_head_fault w) _ (λ f. early_form (stopped f) (tt {0})) (λ none. form_lawful w (form_end w) 1024 None None 16 nothing_lawful)
+    go : (b : Bool) → IsLawful w (elim b [ true ↦ nothing_but (cut_off NotForm) | false ↦ kept (form_head_fault w) (in_form w (form_end w) 1024 nothing_came 16) ])
+    go true = early_form w (cut_off NotForm) (tt {0})
+    go false = kept_then (IsLawful w) (form_head_fault w) _ (λ f. early_form w (stopped f) (tt {0})) (λ none. form_lawful w (form_end w) 1024 None None 16 nothing_lawful)

@@ -3,3 +3,5 @@ pub mod ChunksCome
 pub mod Accepted
 pub mod Lawful
 pub mod More
+pub mod OneOutcome
+pub mod Outcomes

@@ -1,6 +1,6 @@
 -- A stream that more bytes follow, part by part.
-use Rattle.std.proofs.Common.{◌≡◌, ℕ, zero, suc, ◌+◌, ◌-◌, ◌*◌, ◌^◌, ◌<◌, ◌≤◌, ◌==◌, Bool, true, false, List, [], ◌∷◌, ◌++◌, length, get_or, take, drop, Option, Some, None, refl, sym, ap, ap₂, subst, ◌∙◌, arith, inl, inr, ltb-false, eqb-true, ◌⊎◌, length-append, length-drop, append-nil}
-use Rattle.std.specs.Prelude.{nat_lt, if◌then◌else◌, not, ◌||◌, ◌&&◌, min, option_map, unwrap_or, slice_index}
+use Rattle.std.proofs.Common.{◌≡◌, ℕ, zero, suc, ◌+◌, ◌*◌, ◌^◌, ◌<◌, ◌≤◌, ◌==◌, Bool, true, false, List, [], ◌∷◌, ◌++◌, length, get_or, take, drop, Option, Some, None, refl, sym, ap, ap₂, subst, ◌∙◌, arith, inl, inr, ltb-false, eqb-true, ◌⊎◌, length-append, length-drop, append-nil}
+use Rattle.std.specs.Prelude.{nat_lt, if◌then◌else◌, not, ◌||◌, ◌&&◌, option_map, unwrap_or}
 use Rattle.std.proofs.lemmas.Bool.{cases_lt, le-ltb, lt-ltb, and_parts}
 use Rattle.std.proofs.lemmas.List.{take-append-le, drop-append-le, get_or_append_left}
 use Rattle.byteorder.specs.Endian.{big_from}
@@ -9,10 +9,10 @@ use Rattle.dsdiff_spec.specs.Bytes.{bytes_at, number_at, ◌is◌, ◌above◌, 
 use Rattle.dsdiff_spec.specs.Faults.{◌when◌, ◌otherwise◌}
 use Rattle.dsdiff_spec.specs.Chunks.{Head, head_at, body_place, body_end, next_place, body_of}
 use Rattle.dsdiff_spec.specs.Parts.{form_size, form_end}
-use Rattle.dsdiff_spec.specs.Rules.{local_fault, is_frte}
+use Rattle.dsdiff_spec.specs.Rules.{local_fault}
 use Rattle.dsdiff_spec.specs.Streams.{Stream, Ending, Front, ended, stopped, cut_off, nothing_but, with_front, with_frame, up_to, kept, whole_end, shape_in}
 use Rattle.dsdiff_spec.specs.Streams.{ending_at_head, frame_head_fault, with_frame_in, in_sound_chunk, found_with, counted, frames_from, Came, nothing_came, missing}
-use Rattle.dsdiff_spec.specs.Streams.{version_head_fault, later_head_fault, chunk_head_fault, chunk_body_fault, version_body_fault, prop_body_fault, came_with, frte_fault_at, front_of, in_sound, in_form_chunk, in_form, form_head_fault, stream}
+use Rattle.dsdiff_spec.specs.Streams.{version_head_fault, later_head_fault, chunk_head_fault, chunk_body_fault, version_body_fault, prop_body_fault, came_with, frte_fault_at, in_sound, in_form_chunk, in_form, form_head_fault, stream}
 use Rattle.dsdiff_spec.specs.declared.faults.FileFault.{FileFault}
 use Rattle.dsdiff_spec.specs.declared.faults.FileFault.TheVariants.{NotForm, FormTooLarge, FormType, Overrun, Version, TooManyChunks, FrameRate, TooManyFrames}
 use Rattle.dsdiff_spec.proofs.StreamSteps.{reaches, head_passes, head_is_cut, head_is_whole, sound_ends, sound_has_no_more, sound_ends_at_head, sound_has_chunk, form_ends, form_has_no_more, form_ends_at_head, form_has_sound, form_has_chunk}

@@ -1,6 +1,7 @@
 // Laws of streams. The functions do nothing: their clauses are what is proved.
 ghost use Rattle.stream_spec.specs.Lawful.{LawfulStreamsLaw};
 ghost use Rattle.stream_spec.specs.More.{MoreBytesLaw};
+ghost use Rattle.stream_spec.specs.Outcome.{OneOutcomeLaw};
 ghost use Rattle.dsdiff_spec.specs.Streams.{StreamLaw};
 
 /// A file that is accepted for decoding is a stream: in front of its frames stand its `FVER`, its `PROP` and its frame count, its frames are
@@ -19,4 +20,9 @@ pub fn streams_are_lawful()
 /// cut off the front and the frames are those that the longer one begins with.
 pub fn more_bytes()
     ensures { MoreBytesLaw }
+{}
+
+/// A stream has one outcome.
+pub fn one_outcome()
+    ensures { OneOutcomeLaw }
 {}
