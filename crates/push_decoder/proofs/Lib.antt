@@ -8,3 +8,4 @@ pub mod Due
 pub mod Answering
 pub mod Short
 pub mod Closing
+pub mod Pieces

@@ -5,3 +5,4 @@ pub mod Reading
 pub mod Told
 pub mod Decoder
 pub mod Ends
+pub mod Laws

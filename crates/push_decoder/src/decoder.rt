@@ -1,5 +1,5 @@
 // A decoder that is fed.
-ghost use Rattle.std.specs.Prelude.{◌≡◌, ◌≤◌, ℕ, List, [], length, Option, IfOk};
+ghost use Rattle.std.specs.Prelude.{◌≡◌, ◌+◌, ◌^◌, ◌≤◌, ℕ, List, [], length, Option, IfOk};
 ghost use Rattle.std.specs.Borrow.{sem};
 ghost use Rattle.push_decoder.specs.Events.{Answered, Event, begun, nothing_answered};
 ghost use Rattle.dsdiff_spec.specs.Streams.{Front, stream};
@@ -58,6 +58,14 @@ impl PushDecoder {
         ensures { (taken : List ℕ) (front : Front) (frames : List (List ℕ)) → StandsFor self.now taken (begun front frames) → result.now ≡ front.version }
     {
         self.reader.version()
+    }
+
+    /// How many bytes were taken. Behind the end of the longest form none is.
+    pub fn taken(&self) -> u64
+        ensures count { (taken : List ℕ) (answered : Answered) → StandsFor self.now taken answered → result ≡ length taken }
+        ensures most { result ≤ 2 ^ 50 + 12 }
+    {
+        self.reader.taken()
     }
 
     /// What the stream comes to where no byte follows: Ok where its last frame came and `DST ` ends. Else the fault that was answered or

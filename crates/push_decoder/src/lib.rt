@@ -24,12 +24,14 @@
 //!
 //! Behind the last piece [`PushDecoder::close`] tells whether the stream ended behind its last frame. A contract says what a decoder stands for:
 //! the bytes that were taken and the events that were answered (`specs/Decoder.antt`); what is due of them is a function of these bytes alone
-//! (`specs/Events.antt`, which stands on the definition of a stream in `dsdiff_spec`).
+//! (`specs/Events.antt`, which stands on the definition of a stream in `dsdiff_spec`). So the frames that were lent are those of the stream, in order,
+//! for every list of pieces: that is a law of [`laws`].
 #![tactic(auto)]
 
 mod decoder;
 mod form;
 mod gathered;
+pub mod laws;
 mod moving;
 mod reading;
 mod sound;

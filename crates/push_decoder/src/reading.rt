@@ -282,6 +282,14 @@ impl Reader {
         self.prop.as_slice()
     }
 
+    /// How many bytes were taken.
+    pub fn taken(&self) -> u64
+        ensures count { result ≡ self.now.taken }
+        ensures most { result ≤ 2 ^ 50 + 12 }
+    {
+        self.taken
+    }
+
     /// The same, with a fault told apart.
     pub fn take(&mut self, piece: &[u8]) -> Result<(usize, Answer), FileFault>
         ensures inside { IfOk result (λ r. Lies r.1 r.0 (length piece.now)) }

@@ -1,0 +1,4 @@
+//! Pipes decoded.
+#![tactic(auto)]
+
+mod events;

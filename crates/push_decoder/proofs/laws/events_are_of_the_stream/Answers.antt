@@ -1,0 +1,5 @@
+use Rattle.push_decoder.proofs.Pieces.{events_law as law}
+use Rattle.push_decoder.proofs.laws.events_are_of_the_stream.Goals as goal
+
+pub returns : goal.returns
+returns c = law

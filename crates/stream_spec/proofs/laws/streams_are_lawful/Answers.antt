@@ -1,0 +1,5 @@
+use Rattle.stream_spec.proofs.Lawful.{streams_are_lawful as law}
+use Rattle.stream_spec.proofs.laws.streams_are_lawful.Goals as goal
+
+pub returns : goal.returns
+returns c = law
