@@ -24,6 +24,11 @@ use Rattle.dsdiff_spec.proofs.DsfOutcome.{dsf_frames_are_settled, dsf_before, ds
 use Rattle.dsdiff_spec.proofs.RangeOutcome.{parts_are_settled, part_before, all_parts}
 use Rattle.dsdiff_spec.proofs.OneOutcome.{decoding_has_one_outcome, all_answered}
 
+-- ---- the commands that have an outcome: all
+abbrev pub HasOutcome : Command → Type 0
+HasOutcome c = ⊤
+
+-- ---- each of them has one outcome
 form_is_accepted : (c : Command) (file : List ℕ) → form_refusal c file ≡ None → form_fault file ≡ None
 form_is_accepted c file h = go (form_fault file) refl h
   where
@@ -125,17 +130,17 @@ reading_parts_has_one_outcome pairs file bytes = answered (range pairs) file (fo
     one_of_run (range pairs) file form (parts_are_settled pairs file form (wants form pairs)) (part_before pairs file form sound)
     (λ never. all_parts pairs file form sound))
 
-pub command_has_one_outcome : (c : Command) (file : List ℕ) → AreBytes file → One (OfCommand c file (refusal c file))
-command_has_one_outcome decode file bytes = decoding_has_one_outcome file bytes
-command_has_one_outcome (frame k b) file bytes = writing_has_one_outcome k b file bytes
-command_has_one_outcome check file bytes = checking_has_one_outcome file bytes
-command_has_one_outcome show file bytes = showing_has_one_outcome file bytes
-command_has_one_outcome (show_frame k) file bytes = showing_a_frame_has_one_outcome k file bytes
-command_has_one_outcome index file bytes = listing_has_one_outcome file bytes
-command_has_one_outcome (encode level) file bytes = coding_has_one_outcome level file
-command_has_one_outcome (cut first last) file bytes = cutting_has_one_outcome first last file
-command_has_one_outcome (make start frames channels multiple) file bytes = making_has_one_outcome start frames channels multiple file
-command_has_one_outcome (make_run start frames channels multiple) file bytes = running_has_one_outcome start frames channels multiple file
-command_has_one_outcome (encode_dsf level) file bytes = coding_dsf_has_one_outcome level file
-command_has_one_outcome decode_dsf file bytes = decoding_dsf_has_one_outcome file bytes
-command_has_one_outcome (range pairs) file bytes = reading_parts_has_one_outcome pairs file bytes
+pub command_has_one_outcome : (c : Command) (file : List ℕ) → HasOutcome c → AreBytes file → One (OfCommand c file (refusal c file))
+command_has_one_outcome decode file h bytes = decoding_has_one_outcome file bytes
+command_has_one_outcome (frame k b) file h bytes = writing_has_one_outcome k b file bytes
+command_has_one_outcome check file h bytes = checking_has_one_outcome file bytes
+command_has_one_outcome show file h bytes = showing_has_one_outcome file bytes
+command_has_one_outcome (show_frame k) file h bytes = showing_a_frame_has_one_outcome k file bytes
+command_has_one_outcome index file h bytes = listing_has_one_outcome file bytes
+command_has_one_outcome (encode level) file h bytes = coding_has_one_outcome level file
+command_has_one_outcome (cut first last) file h bytes = cutting_has_one_outcome first last file
+command_has_one_outcome (make start frames channels multiple) file h bytes = making_has_one_outcome start frames channels multiple file
+command_has_one_outcome (make_run start frames channels multiple) file h bytes = running_has_one_outcome start frames channels multiple file
+command_has_one_outcome (encode_dsf level) file h bytes = coding_dsf_has_one_outcome level file
+command_has_one_outcome decode_dsf file h bytes = decoding_dsf_has_one_outcome file bytes
+command_has_one_outcome (range pairs) file h bytes = reading_parts_has_one_outcome pairs file bytes

@@ -13,4 +13,4 @@ one_outcome words file bytes = go (command_of words)
   where
     go : (r : Option Command) → One (OfWords r file)
     go None = (not_understood, refl, λ other o. o)
-    go (Some c) = command_has_one_outcome c file bytes
+    go (Some c) = command_has_one_outcome c file tt bytes
