@@ -14,11 +14,11 @@ use Rattle.dsf_files.proofs.PlainBytes.{samples_are_bits}
 use Rattle.dsf_files.proofs.SoundSamples.{sample_of_sound}
 
 -- functions that are alike on a range give the same lists
-map_alike : {A : Type 0} (f g : ℕ → A) (a n : ℕ) → ((k : ℕ) → k < a + n → f k ≡ g k) → map f (range_with_len a n) ≡ map g (range_with_len a n)
+pub map_alike : {A : Type 0} (f g : ℕ → A) (a n : ℕ) → ((k : ℕ) → k < a + n → f k ≡ g k) → map f (range_with_len a n) ≡ map g (range_with_len a n)
 map_alike f g a zero same = refl
 map_alike f g a (suc n) same = ap₂ (λ x xs. x ∷ xs) (same a (omega arith)) (map_alike f g (a + 1) n (λ k l. same k (omega (arith, l))))
 
-flat_alike : (f g : ℕ → List ℕ) (a n : ℕ) → ((k : ℕ) → k < a + n → f k ≡ g k) → flat_map f (range_with_len a n) ≡ flat_map g (range_with_len a n)
+pub flat_alike : (f g : ℕ → List ℕ) (a n : ℕ) → ((k : ℕ) → k < a + n → f k ≡ g k) → flat_map f (range_with_len a n) ≡ flat_map g (range_with_len a n)
 flat_alike f g a zero same = refl
 flat_alike f g a (suc n) same = ap₂ (λ x xs. x ++ xs) (same a (omega arith)) (flat_alike f g (a + 1) n (λ k l. same k (omega (arith, l))))
 

@@ -18,7 +18,7 @@ use Rattle.dsdiff_spec.specs.Made.{plain_form}
 use Rattle.dsdiff_spec.specs.Written.{form_of}
 use Rattle.dsdiff_spec.specs.Coded.{Picks, pieces, stored_frames}
 use Rattle.dsdiff_spec.specs.Decoded.{frames_of}
-use Rattle.dsdiff_spec.specs.Dsf.{Dsf, dsf_of, octets, rows, dsf_sample, dsdiff, dsfk_heads, dsf_said, dsf_in, usual_type, dsf_with, bare, sample_to, to_dsf, ToDsf}
+use Rattle.dsdiff_spec.specs.Dsf.{Dsf, dsf_of, dsf_fault, octets, rows, dsf_sample, dsdiff, dsfk_heads, dsf_said, dsf_in, usual_type, dsf_with, bare, sample_to, to_dsf, ToDsf}
 use Rattle.dsdiff_spec.specs.Form.{size_of_sound}
 use Rattle.dsdiff_spec.specs.Samples.{sample_in}
 use Rattle.dsdiff_spec.specs.Laws.{ArePicks, IsPlainFile, coded_file, DsfLaw}
@@ -100,10 +100,13 @@ module _ (f : List ℕ) (picks : Picks) (bytes : AreBytes f) (a : IsAcceptedDsf 
     bytes_here : AreBytes (form_of (map bytes_of_chunk (dsf_chunks (dsf_of f).channels (dsf_of f).multiple (sound f (dsf_of f)) (told (dsf_of f)))))
     bytes_here = subst AreBytes (form_is f) form_bytes
 
+    pub accepts_at : (level : ℕ) → refusal (encode level) (dsdiff f) ≡ None
+    accepts_at level =
+        ap (refusal (encode level)) (form_is f)
+        ∙ is_accepted (dsf_of f).channels (dsf_of f).multiple (sound f (dsf_of f)) (told (dsf_of f)) is_made refl s_whole s_few bytes_here level
+
     accepts : refusal (encode 1) (dsdiff f) ≡ None
-    accepts =
-        ap (refusal (encode 1)) (form_is f)
-        ∙ is_accepted (dsf_of f).channels (dsf_of f).multiple (sound f (dsf_of f)) (told (dsf_of f)) is_made refl s_whole s_few bytes_here 1
+    accepts = accepts_at 1
 
     plain_file : IsPlainFile (dsdiff f)
     plain_file = (form_bytes, accepts)
@@ -237,3 +240,7 @@ pub samples_come_back : DsfLaw
 samples_come_back f picks bytes none are =
     let a = accepted_dsf f bytes none in
     (comes_back f picks bytes a are, alone f picks bytes a are)
+
+-- picks of no parameters at all are enough to tell that the plain form is accepted
+pub plain_form_accepted : (f : List ℕ) → AreBytes f → dsf_fault f ≡ None → (level : ℕ) → refusal (encode level) (dsdiff f) ≡ None
+plain_form_accepted f bytes none level = accepts_at f (λ sound shape. []) bytes (accepted_dsf f bytes none) (λ sound shape lawful sounded. (omega arith, tt)) level

@@ -1,0 +1,5 @@
+use Rattle.dsf_laws.proofs.ComingBack.{plain_form_accepted}
+use Rattle.dsf_laws.proofs.laws.plain_form_is_accepted.Goals as goal
+
+pub returns : goal.returns
+returns c = plain_form_accepted
