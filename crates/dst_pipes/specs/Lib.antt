@@ -1,1 +1,4 @@
-pub mod Taking
+pub mod Heads
+pub mod States
+pub mod Steps
+pub mod Endings

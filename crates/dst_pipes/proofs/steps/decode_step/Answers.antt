@@ -1,0 +1,114 @@
+use Rattle.std.proofs.Common.{◌≡◌, ℕ, ◌+◌, ◌-◌, ◌<◌, List, ◌++◌, take, Some, None, Ok, Err, ap, sym, subst, ◌∙◌, arith}
+use Rattle.push_decoder.specs.Events.{has_ended, due}
+use Rattle.push_decoder.proofs.Pieces.{events_law}
+use Rattle.dst_pipes.specs.States.{Works, Wrote, BeginsSo, events_left}
+use Rattle.dst_pipes.specs.Steps.{HasBegun}
+use Rattle.dst_pipes.proofs.Stepping.{begins_more, told_of, begun_goes_on, begun_stops, begun_no_read, sound_goes_on, sound_left, sound_stops, sound_no_device}
+use Rattle.dst_pipes.proofs.steps.decode_step.Goals as goal
+
+pub returns-in-Err-clause-ends : goal.returns-in-Err-clause-ends
+returns-in-Err-clause-ends g c taken answered has works old room wrote =
+    let told = c.in-Err.ensures.took taken answered has works in
+    record {
+      count = told.0;
+      answered = answered;
+      begins = begins_more taken (take told.0 c.args.piece.now) answered (events_law c.args.decoder.now taken answered has);
+      due = told.1;
+      wrote = wrote;
+    }
+
+pub begin-requires : goal.begin-requires
+begin-requires g c =
+    let r = c.requires.ready in
+    let t = rw c.in-Head.is at (c.in-Ok.ensures.took r.taken r.answered r.stands r.works) in
+    record { head = (t.front, told_of _ _ _ _ _ _ _ t) }
+
+pub write_sound-requires : goal.write_sound-requires
+write_sound-requires g c =
+    let r = c.requires.ready in
+    let t = rw c.in-Frame.is at (c.in-Ok.ensures.took r.taken r.answered r.stands r.works) in
+    let room = t.room in
+    let few = t.few in
+    let count = t.works.decoded in
+    record { some = (t.work_is, t.some, omega (arith, room, few, count)) }
+
+pub returns-in-More-clause-ends : goal.returns-in-More-clause-ends
+returns-in-More-clause-ends g c taken answered has works old room wrote =
+    let t = rw c.in-More.is at (c.in-Ok.ensures.took taken answered has works) in
+    (t.0, record { answered = answered; stands = t.2; works = t.3; wrote = wrote; nothing_due = t.1 })
+
+pub returns-in-End-clause-ends : goal.returns-in-End-clause-ends
+returns-in-End-clause-ends g c taken answered has works old room wrote =
+    let t = rw c.in-End.is at (c.in-Ok.ensures.took taken answered has works) in
+    let begins = begins_more taken (take c.in-Ok.taken.0 c.args.piece.now) answered (events_law c.args.decoder.now taken answered has) in
+    record {
+      front = t.front;
+      frames = t.frames;
+      begins = subst (BeginsSo (taken ++ take c.in-Ok.taken.0 c.args.piece.now)) t.behind begins;
+      due = subst (λ a. due (taken ++ take c.in-Ok.taken.0 c.args.piece.now) a ≡ Some has_ended) t.behind t.due;
+      works = subst (λ a. Works a c.take_step.new.work) t.behind t.works;
+      wrote = subst (λ a. Wrote a old (g.K.Sink.written c.args.sink.now) room (g.K.Sink.room c.args.sink.now)) t.behind wrote;
+    }
+
+pub returns-in-Ok-begin-clause-fewer : goal.returns-in-Ok-begin-clause-fewer
+returns-in-Ok-begin-clause-fewer g c n e =
+    let r = c.requires.ready in
+    let t = rw c.in-Head.is at (c.in-Ok.ensures.took r.taken r.answered r.stands r.works) in
+    let none : c.args.work.now ≡ None = subst (λ a. Works a c.args.work.now) t.nothing r.works in
+    let most : events_left c.args.work.now ≡ 1000002 = ap events_left none in
+    omega (arith, most, c.in-Ok-begin.ensures.fewer)
+
+pub returns-in-Ok-begin-clause-ends : goal.returns-in-Ok-begin-clause-ends
+returns-in-Ok-begin-clause-ends g c taken answered has works old room wrote =
+    let t = rw c.in-Head.is at (c.in-Ok.ensures.took taken answered has works) in
+    let begun = c.in-Ok-begin.ensures.begun t.front (told_of _ _ _ _ _ _ _ t) in
+    begun_goes_on c.in-Ok-begin.begun t.front _ c.take_step.new.decoder old _ _ room _ _ t.stands begun.0
+    (subst (λ a. Wrote a old (g.K.Sink.written c.args.sink.now) room (g.K.Sink.room c.args.sink.now)) t.nothing wrote) begun.1
+
+pub returns-in-Err-begin-clause-no_read : goal.returns-in-Err-begin-clause-no_read
+returns-in-Err-begin-clause-no_read g c e =
+    let r = c.requires.ready in
+    let t = rw c.in-Head.is at (c.in-Ok.ensures.took r.taken r.answered r.stands r.works) in
+    begun_no_read c.in-Err-begin.fault t.front _ _ _ _ (c.in-Err-begin.ensures.begun t.front (told_of _ _ _ _ _ _ _ t)) cc
+
+pub returns-in-Err-begin-clause-memory : goal.returns-in-Err-begin-clause-memory
+returns-in-Err-begin-clause-memory g c e =
+    let r = c.requires.ready in
+    let t = rw c.in-Head.is at (c.in-Ok.ensures.took r.taken r.answered r.stands r.works) in
+    (subst (λ a. Works a c.args.work.now) t.nothing r.works, c.in-Err-begin.ensures.memory cc)
+
+pub returns-in-Err-begin-clause-ends : goal.returns-in-Err-begin-clause-ends
+returns-in-Err-begin-clause-ends g c taken answered has works old room wrote =
+    let t = rw c.in-Head.is at (c.in-Ok.ensures.took taken answered has works) in
+    begun_stops c.in-Err-begin.fault t.front taken c.args.piece.now c.in-Ok.taken.0 c.take_step.new.decoder old _ _ room _ _ t.stands
+    (subst (λ a. Wrote a old (g.K.Sink.written c.args.sink.now) room (g.K.Sink.room c.args.sink.now)) t.nothing wrote)
+    (c.in-Err-begin.ensures.begun t.front (told_of _ _ _ _ _ _ _ t))
+
+pub returns-in-Ok-write_sound-clause-fewer : goal.returns-in-Ok-write_sound-clause-fewer
+returns-in-Ok-write_sound-clause-fewer g c n e =
+    let r = c.requires.ready in
+    let t = rw c.in-Frame.is at (c.in-Ok.ensures.took r.taken r.answered r.stands r.works) in
+    sound_left c.in-Frame.answer _ r.answered _ c.args.work.now _ _ t _ _ _ _ r.works (c.in-Ok-write_sound.ensures.sound t.work_is t.some)
+
+pub returns-in-Ok-write_sound-clause-ends : goal.returns-in-Ok-write_sound-clause-ends
+returns-in-Ok-write_sound-clause-ends g c taken answered has works old room wrote =
+    let t = rw c.in-Frame.is at (c.in-Ok.ensures.took taken answered has works) in
+    sound_goes_on c.in-Frame.answer _ answered c.take_step.new.decoder _ _ t old _ _ room _ _ wrote (c.in-Ok-write_sound.ensures.sound t.work_is t.some)
+
+pub returns-in-Err-write_sound-clause-no_read : goal.returns-in-Err-write_sound-clause-no_read
+returns-in-Err-write_sound-clause-no_read g c e =
+    let r = c.requires.ready in
+    let t = rw c.in-Frame.is at (c.in-Ok.ensures.took r.taken r.answered r.stands r.works) in
+    (sound_no_device c.in-Frame.answer c.in-Err-write_sound.fault t.work_is _ _ _ _ _ (c.in-Err-write_sound.ensures.sound t.work_is t.some)).0 cc
+
+pub returns-in-Err-write_sound-clause-memory : goal.returns-in-Err-write_sound-clause-memory
+returns-in-Err-write_sound-clause-memory g c e =
+    let r = c.requires.ready in
+    let t = rw c.in-Frame.is at (c.in-Ok.ensures.took r.taken r.answered r.stands r.works) in
+    absurd ((sound_no_device c.in-Frame.answer c.in-Err-write_sound.fault t.work_is _ _ _ _ _ (c.in-Err-write_sound.ensures.sound t.work_is t.some)).1 cc)
+
+pub returns-in-Err-write_sound-clause-ends : goal.returns-in-Err-write_sound-clause-ends
+returns-in-Err-write_sound-clause-ends g c taken answered has works old room wrote =
+    let t = rw c.in-Frame.is at (c.in-Ok.ensures.took taken answered has works) in
+    sound_stops c.in-Frame.answer c.in-Err-write_sound.fault taken c.args.piece.now c.in-Ok.taken.0 answered c.take_step.new.decoder _ _ t old _ _ room _ _ wrote
+    (c.in-Err-write_sound.ensures.sound t.work_is t.some)

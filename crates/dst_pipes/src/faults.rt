@@ -1,0 +1,25 @@
+// What decoding a stream answers.
+use dsdiff_spec::FileFault;
+use dst_num::FrameFault;
+
+/// A stream was decoded: how many frames it has, and the bytes of their sound.
+#[derive(Clone, Copy, Debug, PartialEq, Eq)]
+pub struct Piped {
+    pub frames: u32,
+    pub bytes: u64,
+}
+
+/// Why a stream wasn't decoded.
+#[derive(Clone, Copy, Debug, Drop, PartialEq, Eq)]
+pub enum PipeFault {
+    /// The flow failed.
+    Read,
+    /// The sink failed.
+    Write,
+    /// Memory was refused, before the first call on the sink.
+    Memory,
+    /// The stream breaks a rule, or ends too early; what the fault means is told at `FileFault`.
+    File(FileFault),
+    /// A frame offends; it is told by its number, from 0.
+    Frame { frame: u32, fault: FrameFault },
+}
