@@ -1,3 +1,5 @@
 pub mod Events
 pub mod Frames
 pub mod Stepping
+pub mod Waiting
+pub mod Moved

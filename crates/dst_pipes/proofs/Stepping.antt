@@ -116,6 +116,19 @@ wrote_before taken answered answer d work t old new room left wrote = subst (λ 
 abbrev pub WithOneMore : Work → Work
 WithOneMore m = record m { decoded = m.decoded + 1 }
 
+pub sound_works : (answer : Result ℕ FrameFault) (taken : List ℕ) (answered : Answered) (d : PushDecoder) (work later : Option Work) (t : FrameCame taken answered answer d work)
+    (here new : Option (List ℕ)) (half left : Option ℕ) → SoundEnds answer (Ok tt) t.work_is later here new half left →
+    Works (begun t.front (t.frames ++ t.frame ∷ [])) later
+sound_works (Err fault) taken answered d work later t here new half left ends = absurd ends
+sound_works (Ok tail) taken answered d work later t here new half left ends =
+    (WithOneMore t.work_is, ends.0, record {
+      channels = t.works.channels;
+      scratch = t.works.scratch;
+      sound = t.works.sound;
+      told = t.works.told;
+      decoded = (let count = t.works.decoded in omega (arith, count, length-append t.frames (t.frame ∷ [])));
+    })
+
 pub sound_goes_on : (answer : Result ℕ FrameFault) (taken : List ℕ) (answered : Answered) (d : PushDecoder) (work later : Option Work) (t : FrameCame taken answered answer d work)
     (old here new : Option (List ℕ)) (room half left : Option ℕ) → Wrote answered old here room half →
     SoundEnds answer (Ok tt) t.work_is later here new half left → GoesOn taken d later old new room left
@@ -126,13 +139,7 @@ sound_goes_on (Ok tail) taken answered d work later t old here new room half lef
     record {
       answered = begun t.front (t.frames ++ t.frame ∷ []);
       stands = t.stands;
-      works = (WithOneMore m, ends.0, record {
-        channels = t.works.channels;
-        scratch = t.works.scratch;
-        sound = t.works.sound;
-        told = t.works.told;
-        decoded = (let count = t.works.decoded in omega (arith, count, length-append t.frames (t.frame ∷ [])));
-      });
+      works = sound_works (Ok tail) taken answered d work later t here new half left ends;
       wrote = record {
         sounds = before.sounds ++ m.sound.items ∷ [];
         are = one_more_sound t.front t.frames before.sounds t.frame m.sound.items before.are t.decoded.0 t.decoded.1;
@@ -207,3 +214,13 @@ sound_no_device (Err g) Write m later here new half left ends = absurd ends
 sound_no_device (Err g) Read m later here new half left ends = absurd ends
 sound_no_device (Err g) Memory m later here new half left ends = absurd ends
 sound_no_device (Err g) (File f) m later here new half left ends = absurd ends
+
+-- ---- where nothing is decoded in, nothing was before
+pub both_none : (answered : Answered) (x y : Option Work) → Works answered x → Works answered y → x ≡ None → y ≡ None
+both_none nothing_answered x y p q e = q
+both_none (begun front frames) x y p q e = absurd (let never : Some p.0 ≡ None = sym p.1 ∙ e in cc)
+
+pub sound_some : (answer : Result ℕ FrameFault) (m : Work) (later : Option Work) (here new : Option (List ℕ)) (half left : Option ℕ) →
+    SoundEnds answer (Ok tt) m later here new half left → later ≡ None → ⊥
+sound_some (Err fault) m later here new half left ends e = absurd ends
+sound_some (Ok tail) m later here new half left ends e = (let never : Some (WithOneMore m) ≡ None = sym ends.0 ∙ e in absurd cc)

@@ -20,4 +20,4 @@ mod steps;
 mod work;
 
 pub use faults::{PipeFault, Piped};
-// pub use pipe::decode_pipe;
+pub use pipe::decode_pipe;

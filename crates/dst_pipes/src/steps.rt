@@ -88,10 +88,12 @@ pub(crate) fn decode_step<K: Sink>(
     requires ready { IsReady decoder.old work.old }
     ensures within { IfOk result (λ r. r.0 ≤ length piece.now) }
     ensures fewer { (n : ℕ) → result ≡ Ok (n, Next.Again) → events_left work.new < events_left work.old }
+    ensures ready { (n : ℕ) → result ≡ Ok (n, Next.Again) → IsReady decoder.new work.new }
     ensures later { K.faults sink.old ≤ K.faults sink.new }
     ensures write { result ≡ Err PipeFault.Write → Rose (K.faults sink.old) (K.faults sink.new) }
     ensures no_read { result ≡ Err PipeFault.Read → ⊥ }
     ensures memory { result ≡ Err PipeFault.Memory → (work.old ≡ None) × (sink.new ≡ sink.old) }
+    ensures untouched { IfOk result (λ _. work.new ≡ None → (sink.new ≡ sink.old) × (work.old ≡ None)) }
     ensures ends { (taken : List ℕ) (answered : Answered) → StandsFor decoder.old taken answered → Works answered work.old →
         (old : Option (List ℕ)) (room : Option ℕ) → Wrote answered old (K.written sink.old) room (K.room sink.old) →
         StepEnds result taken piece.now decoder.new work.new old (K.written sink.new) room (K.room sink.new) }

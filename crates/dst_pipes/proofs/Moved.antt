@@ -1,0 +1,49 @@
+-- What a step says of the rest of a piece, of the whole piece.
+use Rattle.std.proofs.Common.{◌≡◌, ℕ, ◌+◌, ◌≤◌, List, [], ◌∷◌, ◌++◌, length, take, drop, Option, refl, sym, ap, subst, ◌∙◌, arith, length-drop}
+use Rattle.std.proofs.lemmas.List.{take_all}
+use Rattle.push_decoder.specs.Events.{due, begun}
+use Rattle.push_decoder.specs.declared.decoder.PushDecoder.{PushDecoder}
+use Rattle.push_decoder.proofs.Short.{and_more}
+use Rattle.dst_pipes.specs.States.{BeginsSo}
+use Rattle.dst_pipes.specs.Steps.{StopsBy, Waits, HasCome}
+use Rattle.dst_pipes.specs.declared.work.Work.{Work}
+use Rattle.dst_pipes.specs.declared.faults.PipeFault.{PipeFault}
+use Rattle.dst_pipes.specs.declared.faults.PipeFault.TheVariants.{Read, Write, Memory, File, Frame}
+
+pub stops_moved : (fault : PipeFault) (taken piece : List ℕ) (m : ℕ) (old new : Option (List ℕ)) (room left : Option ℕ) →
+    StopsBy fault (taken ++ take m piece) (drop m piece) old new room left → StopsBy fault taken piece old new room left
+stops_moved Read taken piece m old new room left s = s
+stops_moved Memory taken piece m old new room left s = s
+stops_moved Write taken piece m old new room left s =
+    record {
+      count = m + s.count;
+      front = s.front;
+      frames = s.frames;
+      begins = subst (λ p. BeginsSo p (begun s.front s.frames)) (and_more taken piece m s.count) s.begins;
+      sounds = s.sounds;
+      are = s.are;
+      stops = s.stops;
+    }
+stops_moved (File fault) taken piece m old new room left s =
+    record {
+      count = m + s.count;
+      answered = s.answered;
+      begins = subst (λ p. BeginsSo p s.answered) (and_more taken piece m s.count) s.begins;
+      due = ap (λ p. due p s.answered) (sym (and_more taken piece m s.count)) ∙ s.due;
+      wrote = s.wrote;
+    }
+stops_moved (Frame k fault) taken piece m old new room left s =
+    record {
+      count = m + s.count;
+      front = s.front;
+      frames = s.frames;
+      frame = s.frame;
+      begins = subst (λ p. BeginsSo p (begun s.front (s.frames ++ s.frame ∷ []))) (and_more taken piece m s.count) s.begins;
+      number = s.number;
+      offends = s.offends;
+      wrote = s.wrote;
+    }
+
+pub whole_piece : (taken piece : List ℕ) (m n : ℕ) → n ≡ length (drop m piece) → m ≤ length piece → (taken ++ take m piece) ++ take n (drop m piece) ≡ taken ++ piece
+whole_piece taken piece m n e le =
+    and_more taken piece m n ∙ ap (λ w. taken ++ w) (take_all (m + n) piece (omega (arith, e, le, length-drop m piece)))

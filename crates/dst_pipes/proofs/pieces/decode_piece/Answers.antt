@@ -1,0 +1,56 @@
+use Rattle.std.proofs.Common.{◌≡◌, ℕ, ◌+◌, ◌-◌, ◌≤◌, List, ◌++◌, length, take, drop, None, Ok, refl, ap, sym, subst, ◌∙◌, arith}
+use Rattle.push_decoder.proofs.Short.{rest_of, and_more}
+use Rattle.dst_pipes.specs.States.{Works, Wrote}
+use Rattle.dst_pipes.specs.Steps.{StopsBy, Waits, GoesOn, HasCome}
+use Rattle.dst_pipes.specs.declared.steps.Next.TheVariants.{Again}
+use Rattle.dst_pipes.proofs.Moved.{stops_moved, whole_piece}
+use Rattle.dst_pipes.proofs.pieces.decode_piece.Goals as goal
+
+pub returns-in-Err-clause-ends : goal.returns-in-Err-clause-ends
+returns-in-Err-clause-ends g c taken answered has works old room wrote =
+    let goes = c.loop-taken.invariant.goes taken answered has works old room wrote in
+    let m = c.loop-taken.start in
+    let ends = c.in-Err.ensures.ends (taken ++ take m c.args.piece.now) goes.answered goes.stands goes.works old room goes.wrote in
+    stops_moved c.in-Err.fault taken c.args.piece.now m old _ room _ (rw (rest_of c.args.piece.now m) at ends)
+
+pub loop-taken-smaller : goal.loop-taken-smaller
+loop-taken-smaller g c =
+    let fewer = c.in-Ok.ensures.fewer c.in-Ok.taken.0 (ap (λ x. Ok (c.in-Ok.taken.0, x)) c.in-Again.is) in
+    omega (arith, fewer)
+
+pub loop-taken-preserved : goal.loop-taken-preserved
+loop-taken-preserved g c = record {
+  ready = c.in-Ok.ensures.ready c.in-Ok.taken.0 (ap (λ x. Ok (c.in-Ok.taken.0, x)) c.in-Again.is);
+  within = omega (arith, c.in-Ok.ensures.within);
+  later = omega (arith, c.in-Ok.ensures.later, c.loop-taken.invariant.later);
+  untouched = λ e.
+      let step = c.in-Ok.ensures.untouched e in
+      let before = c.loop-taken.invariant.untouched step.1 in
+      (step.0 ∙ before.0, before.1);
+  goes = λ taken answered has works old room wrote.
+      let goes = c.loop-taken.invariant.goes taken answered has works old room wrote in
+      let m = c.loop-taken.start in
+      let ends = rw c.in-Again.is at (c.in-Ok.ensures.ends (taken ++ take m c.args.piece.now) goes.answered goes.stands goes.works old room goes.wrote) in
+      subst (λ p. GoesOn p c.decode_step.new.decoder c.decode_step.new.work old (g.K.Sink.written c.decode_step.new.sink) room (g.K.Sink.room c.decode_step.new.sink))
+      (and_more taken c.args.piece.now m c.in-Ok.taken.0) (rw (rest_of c.args.piece.now m) at ends);
+}
+
+pub returns-in-More-clause-ends : goal.returns-in-More-clause-ends
+returns-in-More-clause-ends g c taken answered has works old room wrote =
+    let goes = c.loop-taken.invariant.goes taken answered has works old room wrote in
+    let m = c.loop-taken.start in
+    let ends = rw c.in-More.is at (c.in-Ok.ensures.ends (taken ++ take m c.args.piece.now) goes.answered goes.stands goes.works old room goes.wrote) in
+    let moved = rw (rest_of c.args.piece.now m) at ends in
+    subst (λ p. Waits p c.decode_step.new.decoder c.decode_step.new.work old (g.K.Sink.written c.decode_step.new.sink) room (g.K.Sink.room c.decode_step.new.sink))
+    (whole_piece taken c.args.piece.now m c.in-Ok.taken.0 moved.0 (omega (arith, c.loop-taken.invariant.within))) moved.1
+
+pub returns-in-End-clause-ends : goal.returns-in-End-clause-ends
+returns-in-End-clause-ends g c taken answered has works old room wrote =
+    let goes = c.loop-taken.invariant.goes taken answered has works old room wrote in
+    let m = c.loop-taken.start in
+    let ends = rw c.in-End.is at (c.in-Ok.ensures.ends (taken ++ take m c.args.piece.now) goes.answered goes.stands goes.works old room goes.wrote) in
+    (
+      m + c.in-Ok.taken.0,
+      subst (λ p. HasCome p c.decode_step.new.work old (g.K.Sink.written c.decode_step.new.sink) room (g.K.Sink.room c.decode_step.new.sink))
+          (and_more taken c.args.piece.now m c.in-Ok.taken.0) (rw (rest_of c.args.piece.now m) at ends),
+    )
