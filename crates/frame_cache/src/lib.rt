@@ -19,4 +19,5 @@ mod slots;
 #[cfg(test)]
 mod tests;
 
+pub use part::end_of_touched;
 pub use reader::{RangeFault, RangeReader, Reading};

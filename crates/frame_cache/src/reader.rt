@@ -82,7 +82,9 @@ impl RangeReader {
         requires least { 1 ≤ capacity }
         requires most { capacity ≤ 64 }
         requires index { IsIndexOf (coded_seen form.now) index }
-        ensures { IfOk result (λ r. r ≡ fresh_reader (coded_seen form.now) index capacity) }
+        ensures fresh { IfOk result (λ r. r ≡ fresh_reader (coded_seen form.now) index capacity) }
+        // the sound is no longer than that of all frames
+        ensures size { size_of_sound (coded_seen form.now) ≤ length index * sound_bytes form.now.channels }
     {
         let channels = form.channels;
         let bytes = channels.sound_bytes();
