@@ -11,13 +11,13 @@ use Rattle.dst_words.specs.RowWords.{of_settings, cut_words, make_words, span_in
 use Rattle.dst_words.proofs.Options.{or_none, set_behind}
 
 -- the numbers of one slot in front of those of the others
-abbrev pub then_slot : Option (List ℕ) → Option (List ℕ × List Word) → Option (List ℕ × List Word)
+abbrev then_slot : Option (List ℕ) → Option (List ℕ × List Word) → Option (List ℕ × List Word)
 then_slot o r = elim o [ None ↦ None | Some ns ↦ option_map (λ r. (ns ++ r.0, r.1)) r ]
 
-abbrev pub no_number : Bool → Option (List ℕ)
+abbrev no_number : Bool → Option (List ℕ)
 no_number b = if b then Some [] else None
 
-abbrev pub a_number : Option ℕ → Option (List ℕ)
+abbrev a_number : Option ℕ → Option (List ℕ)
 a_number o = option_map (λ n. n ∷ []) o
 
 abbrev behind : (List ℕ → List Word → Option Task) → Option (List ℕ × List Word) → Option Task

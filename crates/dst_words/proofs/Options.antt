@@ -3,15 +3,11 @@ use Rattle.std.proofs.Common.{◌≡◌, ℕ, zero, suc, ◌*◌, ◌<◌, Bool,
 use Rattle.std.proofs.lemmas.List.{take_all}
 use Rattle.std.specs.Prelude.{codes, not, find, filter, option_map}
 use Rattle.std.specs.List.{AllByRecursion}
-use Rattle.std.proofs.lemmas.Slice.Eq.{bytes_eq-Decides}
-use Rattle.std.specs.Prelude.{bytes_eq}
 use Rattle.dsdiff_spec.specs.Bytes.{◌is◌}
-use Rattle.dsdiff_spec.specs.Faults.{first_some}
-use Rattle.dsdiff_spec.specs.Words.{Word, Command, Task, encode, encode_dsf, show}
-use Rattle.words_spec.specs.Slots.{file, number, read_slots, Setting, level, workers, allowed_value, setting_value, read_settings}
-use Rattle.words_spec.specs.Rows.{Row, level_of, workers_of, show_frame_of, task_with, task_behind, row_task, range_row, rows, task_of}
-use Rattle.dst_words.specs.RowWords.{of_slots, of_settings, coding_task, encode_words, encode_dsf_words, decode_words, decode_dsf_words, frame_words, check_words, index_words, show_words}
-use Rattle.dst_words.specs.RowWords.{level_and_workers_in}
+use Rattle.dsdiff_spec.specs.Words.{Word, Task, encode}
+use Rattle.words_spec.specs.Slots.{file, read_slots, Setting, level, workers, allowed_value, setting_value, read_settings}
+use Rattle.words_spec.specs.Rows.{level_of, workers_of, task_with, task_of}
+use Rattle.dst_words.specs.RowWords.{of_settings, coding_task, encode_words, level_and_workers_in}
 use Prim.Native.String.{String}
 
 abbrev pub HasValue : Setting → Type 0
@@ -69,14 +65,13 @@ too_many_words (suc n) settings (w ∷ ws) h long =
         ap (option_map (λ found. (w, k) ∷ found)) (later vs (omega (arith, fewer, long))))
 
 -- a row with a level and workers
-pub task_of_coding : (at : ℕ → Command) (words : List Word) →
-    of_settings (level ∷ workers ∷ []) (λ o. Some (at (level_of o))) words ≡ option_map (coding_task at) (level_and_workers_in words)
+pub task_of_coding : (words : List Word) → of_settings (level ∷ workers ∷ []) (λ o. Some (encode (level_of o))) words ≡ option_map coding_task (level_and_workers_in words)
 unfolding level_and_workers_in
-task_of_coding at words = go (read_settings 2 (level ∷ workers ∷ []) words)
+task_of_coding words = go (read_settings 2 (level ∷ workers ∷ []) words)
   where
     go : (o : Option (List (Word × ℕ))) → ◌≡◌ {A = Option Task}
-        (elim o [ None ↦ None | Some o ↦ option_map (task_with o) (Some (at (level_of o))) ])
-        (option_map (coding_task at) (option_map (λ o. (level_of o, workers_of o)) o))
+        (elim o [ None ↦ None | Some o ↦ option_map (task_with o) (Some (encode (level_of o))) ])
+        (option_map coding_task (option_map (λ o. (level_of o, workers_of o)) o))
     go None = refl
     go (Some o) = refl
 
@@ -91,19 +86,15 @@ same_or_none (Some t) = refl
 abbrev behind_slots : (List Word → Option Task) → Option (List ℕ × List Word) → Option Task
 behind_slots f o = elim o [ None ↦ None | Some read ↦ f read.1 ]
 
-coded_row : (at : ℕ → Command) (o : Option (List ℕ × List Word)) →
-    or_none (behind_slots (of_settings (level ∷ workers ∷ []) (λ o. Some (at (level_of o)))) o)
-    ≡ behind_slots (λ words. option_map (coding_task at) (level_and_workers_in words)) o
-coded_row at None = refl
-coded_row at (Some read) = same_or_none (of_settings (level ∷ workers ∷ []) (λ o. Some (at (level_of o))) read.1) ∙ task_of_coding at read.1
-
 pub encode_row : (words : List Word) → task_of (codes "encode" ∷ words) ≡ encode_words words
 unfolding task_of
-encode_row words = coded_row encode (read_slots (file ∷ file ∷ []) words)
-
-pub encode_dsf_row : (words : List Word) → task_of (codes "encode-dsf" ∷ words) ≡ encode_dsf_words words
-unfolding task_of
-encode_dsf_row words = coded_row encode_dsf (read_slots (file ∷ file ∷ []) words)
+encode_row words = go (read_slots (file ∷ file ∷ []) words)
+  where
+    go : (o : Option (List ℕ × List Word)) →
+        or_none (behind_slots (of_settings (level ∷ workers ∷ []) (λ o. Some (encode (level_of o)))) o)
+        ≡ behind_slots (λ words. option_map coding_task (level_and_workers_in words)) o
+    go None = refl
+    go (Some read) = same_or_none (of_settings (level ∷ workers ∷ []) (λ o. Some (encode (level_of o))) read.1) ∙ task_of_coding read.1
 
 -- words behind the first one, which is a row's name
 pub row_named : {A : Type 0} (f : A → Word) (name : String) (row : List Word → Option Task) → ((words : List Word) → task_of (codes name ∷ words) ≡ row words) →
@@ -112,57 +103,3 @@ row_named f name row same [] x long e = absurd (omega arith)
 row_named f name row same (w ∷ ws) x long e =
     let rest : take (length (w ∷ ws) - 1) ws ≡ ws = take_all (length (w ∷ ws) - 1) ws (omega arith) in
     ap (λ name. task_of (name ∷ map f ws)) e ∙ same (map f ws) ∙ ap (λ rest. row (map f rest)) (sym rest)
-
--- ---- rows of which each has a name of its own, and the two of `show`
-pub decode_row : (words : List Word) → task_of (codes "decode" ∷ words) ≡ decode_words words
-unfolding task_of
-decode_row words = same_or_none (decode_words words)
-
-pub decode_dsf_row : (words : List Word) → task_of (codes "decode-dsf" ∷ words) ≡ decode_dsf_words words
-unfolding task_of
-decode_dsf_row words = same_or_none (decode_dsf_words words)
-
-pub frame_row : (words : List Word) → task_of (codes "frame" ∷ words) ≡ frame_words words
-unfolding task_of
-frame_row words = same_or_none (frame_words words)
-
-pub check_row : (words : List Word) → task_of (codes "check" ∷ words) ≡ check_words words
-unfolding task_of
-check_row words = same_or_none (check_words words)
-
-pub index_row : (words : List Word) → task_of (codes "index" ∷ words) ≡ index_words words
-unfolding task_of
-index_row words = same_or_none (index_words words)
-
-pub show_row : (words : List Word) → task_of (codes "show" ∷ words) ≡ show_words words
-unfolding task_of
-show_row words =
-    ap (λ later. elim (of_slots (file ∷ []) (λ n. of_settings [] (λ o. Some show)) words) [ Some t ↦ Some t | None ↦ later ])
-    (same_or_none (of_slots (file ∷ number ∷ []) (λ n. of_settings [] (λ o. show_frame_of n)) words))
-
--- ---- words whose first is the name of no row
-abbrev pub IsNamed : Word → Row → Type 0
-IsNamed name r = name ≡ codes r.name
-
-unnamed : (name : Word) (words : List Word) (r : Row) → (IsNamed name r → ⊥) → row_task (name ∷ words) r ≡ None
-unnamed name words r other = go (bytes_eq name (codes r.name)) refl
-  where
-    go : (b : Bool) → bytes_eq name (codes r.name) ≡ b →
-        ◌≡◌ {A = Option Task} (if b then elim (read_slots r.slots words) [ None ↦ None | Some read ↦ task_behind r read ] else None) None
-    go true e = absurd (other ((bytes_eq-Decides name (codes r.name)).0 e))
-    go false e = refl
-
-pub none_named : (name : Word) (words : List Word) (rs : List Row) → AllByRecursion (λ r. IsNamed name r → ⊥) rs → first_some (row_task (name ∷ words)) rs ≡ None
-none_named name words [] h = refl
-none_named name words (r ∷ rs) h =
-    ap (λ t. elim t [ Some x ↦ Some x | None ↦ first_some (row_task (name ∷ words)) rs ]) (unnamed name words r h.0) ∙ none_named name words rs h.1
-
-pub not_range : (name : Word) (ns : List ℕ) → (name ≡ codes "range" → ⊥) → AllByRecursion (λ r. IsNamed name r → ⊥) (map range_row ns)
-not_range name [] h = tt
-not_range name (n ∷ ns) h = (h, not_range name ns h)
-
-pub no_name : {A : Type 0} (f : A → Word) (words : List A) (x : A) → 1 ≤ length words → AllByRecursion (λ r. IsNamed (f (get_or words 0 x)) r → ⊥) rows →
-    task_of (map f words) ≡ None
-unfolding task_of
-no_name f [] x long h = absurd (omega arith)
-no_name f (w ∷ ws) x long h = none_named (f w) (map f ws) rows h

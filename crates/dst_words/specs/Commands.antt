@@ -1,19 +1,14 @@
 -- Commands and tasks as the definitions have them.
-use Rattle.std.specs.Prelude.{ℕ, ◌/◌, ◌≤◌, ⊤, List, take}
+use Rattle.std.specs.Prelude.{ℕ, ◌/◌, ◌≤◌, ⊤}
 use Rattle.dst_spec.specs.Sample.{Shape}
 use Rattle.dsdiff_spec.specs.Words as words
 use Rattle.dst_words.specs.declared.words.Command.{Command}
-use Rattle.dst_words.specs.declared.words.Command.TheVariants.{Encode, Decode, Cut, Frame, Check, Show, ShowFrame, Index, Make, MakeRun, EncodeDsf, DecodeDsf, Range}
-use Rattle.dst_words.specs.declared.parts.Parts.{Parts}
+use Rattle.dst_words.specs.declared.words.Command.TheVariants.{Encode, Decode, Cut, Frame, Check, Show, ShowFrame, Index, Make, MakeRun}
 use Rattle.dst_words.specs.declared.words.Task.{Task}
 
 -- channels, and their rate in multiples of 64 times 44.1 kHz
 abbrev pub channels_seen : Shape → ℕ × ℕ
 channels_seen f = (f.channels, f.octets / 4704)
-
--- parts, each a first group and a number of groups
-abbrev pub parts_seen : Parts → List (ℕ × ℕ)
-parts_seen p = take p.count p.pairs
 
 abbrev pub command_seen : Command → words.Command
 command_seen (Encode level) = words.encode level
@@ -26,9 +21,6 @@ command_seen (ShowFrame frame) = words.show_frame frame
 command_seen Index = words.index
 command_seen (Make start frames f) = words.make start frames (channels_seen f).0 (channels_seen f).1
 command_seen (MakeRun start frames f) = words.make_run start frames (channels_seen f).0 (channels_seen f).1
-command_seen (EncodeDsf level) = words.encode_dsf level
-command_seen DecodeDsf = words.decode_dsf
-command_seen (Range parts) = words.range (parts_seen parts)
 
 abbrev pub task_seen : Task → words.Task
 task_seen t = record { command = command_seen t.command; workers = t.workers }
@@ -37,15 +29,13 @@ task_seen t = record { command = command_seen t.command; workers = t.workers }
 abbrev pub HasFewWorkers : Task → Type 0
 HasFewWorkers t = (1 ≤ t.workers) × (t.workers ≤ 16)
 
--- Numbers that the command allows: a level that there is, frames of which the first isn't behind the last, no more made frames than
--- are made, or made in memory, and no more parts than there is room for.
+-- Numbers that the command allows: a level that there is, frames of which the first isn't behind the last, and no more made frames than
+-- are made, or made in memory.
 abbrev pub NumbersAreLawful : Command → Type 0
 NumbersAreLawful (Encode level) = level ≤ 2
 NumbersAreLawful (Cut first last) = first ≤ last
 NumbersAreLawful (Make start frames channels) = frames ≤ 1000
 NumbersAreLawful (MakeRun start frames channels) = frames ≤ 100
-NumbersAreLawful (EncodeDsf level) = level ≤ 2
-NumbersAreLawful (Range parts) = parts.count ≤ 16
 NumbersAreLawful c = ⊤
 
 abbrev pub HasLawfulNumbers : Task → Type 0

@@ -1,7 +1,7 @@
 -- What the words behind a row's name ask for.
-use Rattle.std.specs.Prelude.{ℕ, Bool, ◌&&◌, ◌||◌, ◌==◌, if◌then◌else◌, List, [], ◌∷◌, length, Option, Some, None, option_map}
+use Rattle.std.specs.Prelude.{ℕ, Bool, ◌&&◌, if◌then◌else◌, List, [], ◌∷◌, length, Option, Some, None, option_map}
 use Rattle.dsdiff_spec.specs.Bytes.{◌is◌, ◌above◌}
-use Rattle.dsdiff_spec.specs.Words.{Word, Command, Task, show, index, encode, decode, cut, check, make, make_run, encode_dsf, decode_dsf, range}
+use Rattle.dsdiff_spec.specs.Words.{Word, Command, Task, show, index, encode, decode, cut, check, make, make_run}
 use Rattle.words_spec.specs.Slots.{Slot, file, number, is_file_word, number_word}
 use Rattle.words_spec.specs.Slots.{number_within, read_slots, Setting, level, workers, by_index, rate, read_settings}
 use Rattle.words_spec.specs.Rows.{level_of, workers_of, multiple_of, is_set, frame_of, show_frame_of, task_with}
@@ -38,41 +38,16 @@ span_in first last = elim (number_word first) [
 unfoldable pub channels_in : Word → List Word → Option (ℕ × ℕ)
 channels_in count options = elim (number_within 1 6 count) [ None ↦ None | Some n ↦ option_map (λ m. (n, m)) (multiple_in options) ]
 
--- pairs of numbers one behind the other, and one to sixteen of them
-abbrev pub pair_in : Word → Word → Option (ℕ × ℕ)
-pair_in from count = elim (number_word from) [ None ↦ None | Some a ↦ option_map (λ b. (a, b)) (number_word count) ]
-
-unfoldable pub pairs_in : List Word → Option (List (ℕ × ℕ))
-pairs_in [] = Some []
-pairs_in (from ∷ []) = None
-pairs_in (from ∷ count ∷ words) = elim (pair_in from count) [ None ↦ None | Some pair ↦ option_map (λ pairs. pair ∷ pairs) (pairs_in words) ]
-
-unfoldable pub parts_in : List Word → Option (List (ℕ × ℕ))
-parts_in words = if length words == 0 || length words above 32 then None else pairs_in words
-
 -- a command at which one works
 abbrev pub alone : Command → Task
 alone c = record { command = c; workers = 1 }
 
 -- the words of each row; `show` and `make` have two
-abbrev pub coding_task : (ℕ → Command) → ℕ × ℕ → Task
-coding_task at set = record { command = at set.0; workers = set.1 }
-
-abbrev pub coding_words : (ℕ → Command) → List Word → Option Task
-coding_words at = of_slots (file ∷ file ∷ []) (λ n words. option_map (coding_task at) (level_and_workers_in words))
+abbrev pub coding_task : ℕ × ℕ → Task
+coding_task set = record { command = encode set.0; workers = set.1 }
 
 abbrev pub encode_words : List Word → Option Task
-encode_words = coding_words encode
-
-abbrev pub encode_dsf_words : List Word → Option Task
-encode_dsf_words = coding_words encode_dsf
-
-abbrev pub range_task : List (ℕ × ℕ) → Task
-range_task parts = alone (range parts)
-
-abbrev pub range_words : List Word → Option Task
-range_words (input ∷ output ∷ numbers) = if is_file_word input && is_file_word output then option_map range_task (parts_in numbers) else None
-range_words words = None
+encode_words = of_slots (file ∷ file ∷ []) (λ n words. option_map coding_task (level_and_workers_in words))
 
 abbrev pub cutting_task : ℕ × ℕ → Task
 cutting_task span = alone (cut span.0 span.1)
@@ -84,9 +59,6 @@ cut_words words = None
 
 abbrev pub decode_words : List Word → Option Task
 decode_words = of_slots (file ∷ file ∷ []) (λ n. of_settings (workers ∷ []) (λ o. Some decode))
-
-abbrev pub decode_dsf_words : List Word → Option Task
-decode_dsf_words = of_slots (file ∷ file ∷ []) (λ n. of_settings (workers ∷ []) (λ o. Some decode_dsf))
 
 abbrev pub frame_words : List Word → Option Task
 frame_words = of_slots (file ∷ file ∷ number ∷ []) (λ n. of_settings (by_index ∷ []) (λ o. frame_of (is_set "--by-index" o) n))

@@ -12,11 +12,9 @@
 //! Nothing here takes memory.
 #![tactic(auto)]
 
-mod parts;
 mod slots;
 #[cfg(test)]
 mod tests;
 mod words;
 
-pub use parts::Parts;
 pub use words::{Command, Task, read_words};

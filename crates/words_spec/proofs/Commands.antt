@@ -2,7 +2,7 @@
 use Rattle.std.proofs.Common.{◌≡◌, ℕ, List, [], ◌∷◌, map, refl, true, false, Some, None}
 use Rattle.std.specs.Prelude.{codes}
 use Prim.Native.String.{String}
-use Rattle.dsdiff_spec.specs.Words.{Word, Command, Task, encode, decode, cut, frame, check, show, show_frame, index, make, make_run, encode_dsf, decode_dsf, range}
+use Rattle.dsdiff_spec.specs.Words.{Word, Command, Task, encode, decode, cut, frame, check, show, show_frame, index, make, make_run}
 use Rattle.words_spec.specs.Rows.{task_of}
 
 abbrev pub words : List String → List Word
@@ -121,43 +121,6 @@ most_frames_that_are_made_and_run = refl
 pub no_frames_are_made_and_run : task_of (words ("make" ∷ "7" ∷ "--run" ∷ "0" ∷ "1" ∷ "--rate" ∷ "256" ∷ [])) ≡ Some ((make_run 7 0 1 4) by 1)
 unfolding task_of
 no_frames_are_made_and_run = refl
-
-pub level_one_does_else_of_dsf : task_of (words ("encode-dsf" ∷ "a.dsf" ∷ "b.dff" ∷ [])) ≡ Some ((encode_dsf 1) by 1)
-unfolding task_of
-level_one_does_else_of_dsf = refl
-
-pub level_and_workers_of_dsf : task_of (words ("encode-dsf" ∷ "a" ∷ "b" ∷ "--workers" ∷ "16" ∷ "--level" ∷ "2" ∷ [])) ≡ Some ((encode_dsf 2) by 16)
-unfolding task_of
-level_and_workers_of_dsf = refl
-
-pub decoded_to_dsf : task_of (words ("decode-dsf" ∷ "a.dff" ∷ "b.dsf" ∷ [])) ≡ Some (decode_dsf by 1)
-unfolding task_of
-decoded_to_dsf = refl
-
-pub decoded_to_dsf_by_workers : task_of (words ("decode-dsf" ∷ "a" ∷ "b" ∷ "--workers" ∷ "16" ∷ [])) ≡ Some (decode_dsf by 16)
-unfolding task_of
-decoded_to_dsf_by_workers = refl
-
-pub one_part : task_of (words ("range" ∷ "a" ∷ "b" ∷ "0" ∷ "4294967295" ∷ [])) ≡ Some ((range ((0, 4294967295) ∷ [])) by 1)
-unfolding task_of
-one_part = refl
-
-pub two_parts_in_their_order : task_of (words ("range" ∷ "a" ∷ "b" ∷ "7" ∷ "2" ∷ "3" ∷ "0" ∷ [])) ≡ Some ((range ((7, 2) ∷ (3, 0) ∷ [])) by 1)
-unfolding task_of
-two_parts_in_their_order = refl
-
--- fifteen parts, and one more
-abbrev fourteen_numbers : List String → List String
-fourteen_numbers more =
-    "1" ∷ "2" ∷ "3" ∷ "4" ∷ "5" ∷ "6" ∷ "7" ∷ "8" ∷ "9" ∷ "10" ∷ "11" ∷ "12" ∷ "13" ∷ "14" ∷ more
-
-abbrev seven_parts : List (ℕ × ℕ) → List (ℕ × ℕ)
-seven_parts more = (1, 2) ∷ (3, 4) ∷ (5, 6) ∷ (7, 8) ∷ (9, 10) ∷ (11, 12) ∷ (13, 14) ∷ more
-
-pub sixteen_parts : task_of (words ("range" ∷ "a" ∷ "b" ∷ fourteen_numbers (fourteen_numbers ("15" ∷ "16" ∷ "17" ∷ "18" ∷ []))))
-    ≡ Some ((range (seven_parts (seven_parts ((15, 16) ∷ (17, 18) ∷ [])))) by 1)
-unfolding task_of
-sixteen_parts = refl
 
 -- ---- words that no row has
 pub no_words : task_of [] ≡ None
@@ -383,36 +346,3 @@ pipe_is_no_row = refl
 pub help_is_no_row : task_of (words ("--help" ∷ [])) ≡ None
 unfolding task_of
 help_is_no_row = refl
-
-pub level_of_dsf_past_the_greatest : task_of (words ("encode-dsf" ∷ "a" ∷ "b" ∷ "--level" ∷ "3" ∷ [])) ≡ None
-unfolding task_of
-level_of_dsf_past_the_greatest = refl
-
-pub no_level_of_decoding_to_dsf : task_of (words ("decode-dsf" ∷ "a" ∷ "b" ∷ "--level" ∷ "1" ∷ [])) ≡ None
-unfolding task_of
-no_level_of_decoding_to_dsf = refl
-
-pub two_files_are_needed_of_dsf : task_of (words ("decode-dsf" ∷ "a" ∷ [])) ≡ None
-unfolding task_of
-two_files_are_needed_of_dsf = refl
-
-pub no_part : task_of (words ("range" ∷ "a" ∷ "b" ∷ [])) ≡ None
-unfolding task_of
-no_part = refl
-
-pub half_a_part : task_of (words ("range" ∷ "a" ∷ "b" ∷ "1" ∷ "2" ∷ "3" ∷ [])) ≡ None
-unfolding task_of
-half_a_part = refl
-
-pub seventeen_parts :
-    task_of (words ("range" ∷ "a" ∷ "b" ∷ fourteen_numbers (fourteen_numbers ("15" ∷ "16" ∷ "17" ∷ "18" ∷ "19" ∷ "20" ∷ [])))) ≡ None
-unfolding task_of
-seventeen_parts = refl
-
-pub group_past_32_bits : task_of (words ("range" ∷ "a" ∷ "b" ∷ "0" ∷ "4294967296" ∷ [])) ≡ None
-unfolding task_of
-group_past_32_bits = refl
-
-pub options_of_parts : task_of (words ("range" ∷ "a" ∷ "b" ∷ "0" ∷ "1" ∷ "--workers" ∷ "2" ∷ [])) ≡ None
-unfolding task_of
-options_of_parts = refl

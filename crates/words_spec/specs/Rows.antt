@@ -1,10 +1,9 @@
--- The rows of commands: name, words, options, and the command of their numbers and settings. How many work at a command is an option
--- of its row, and one does else.
-use Rattle.std.specs.Prelude.{ℕ, zero, suc, ◌/◌, Bool, ◌==◌, if◌then◌else◌, List, [], ◌∷◌, length, map, Option, Some, None, option_map}
-use Rattle.std.specs.List.{range_with_len}
+-- The rows of commands: name, words, options, and the command of their numbers and settings. Commands on DSF files and on parts of the
+-- sound have none yet. How many work at a command is an option of its row, and one does else.
+use Rattle.std.specs.Prelude.{ℕ, ◌/◌, Bool, ◌==◌, if◌then◌else◌, List, [], ◌∷◌, length, Option, Some, None, option_map}
 use Rattle.dsdiff_spec.specs.Bytes.{◌is◌, ◌above◌}
 use Rattle.dsdiff_spec.specs.Faults.{first_some}
-use Rattle.dsdiff_spec.specs.Words.{Word, Command, Task, encode, decode, cut, frame, check, show, show_frame, index, make, make_run, encode_dsf, decode_dsf, range}
+use Rattle.dsdiff_spec.specs.Words.{Word, Command, Task, encode, decode, cut, frame, check, show, show_frame, index, make, make_run}
 use Rattle.words_spec.specs.Slots.{Slot, file, number}
 use Rattle.words_spec.specs.Slots.{within, fixed, read_slots, Setting, level, workers, by_index, rate, read_settings, set_or}
 use Prim.Native.String.{String}
@@ -49,26 +48,9 @@ abbrev pub make_run_of : ℕ → List ℕ → Option Command
 make_run_of multiple (start ∷ frames ∷ channels ∷ []) = Some (make_run start frames channels multiple)
 make_run_of multiple numbers = None
 
--- numbers two by two: a first group of the sound, and how many groups
-abbrev pub pairs_of : List ℕ → List (ℕ × ℕ)
-pairs_of (from ∷ count ∷ numbers) = (from, count) ∷ pairs_of numbers
-pairs_of numbers = []
-
 -- the rows: name, words behind it, options, and the command of the numbers and settings that stand in them
 abbrev row : String → List Slot → List Setting → (List ℕ → List (Word × ℕ) → Option Command) → Row
 row name slots settings command = record { name = name; slots = slots; settings = settings; command = command }
-
--- two number words for each pair
-abbrev pub pair_slots : ℕ → List Slot
-pair_slots zero = []
-pair_slots (suc n) = number ∷ number ∷ pair_slots n
-
--- one row for each number of pairs
-abbrev pub range_row : ℕ → Row
-range_row n = row "range" (file ∷ file ∷ pair_slots n) [] (λ numbers o. Some (range (pairs_of numbers)))
-
-abbrev pub range_rows : List Row
-range_rows = map range_row (range_with_len 1 16)
 
 abbrev pub rows : List Row
 rows =
@@ -82,9 +64,7 @@ rows =
     ∷ row "index" (file ∷ []) [] (λ n o. Some index)
     ∷ row "make" (number ∷ file ∷ within 0 1000 ∷ within 1 6 ∷ []) (rate ∷ []) (λ n o. make_of (multiple_of o) n)
     ∷ row "make" (number ∷ fixed "--run" ∷ within 0 100 ∷ within 1 6 ∷ []) (rate ∷ []) (λ n o. make_run_of (multiple_of o) n)
-    ∷ row "encode-dsf" (file ∷ file ∷ []) (level ∷ workers ∷ []) (λ n o. Some (encode_dsf (level_of o)))
-    ∷ row "decode-dsf" (file ∷ file ∷ []) (workers ∷ []) (λ n o. Some decode_dsf)
-    ∷ range_rows
+    ∷ []
 
 -- the task of words that are a row
 abbrev pub task_with : List (Word × ℕ) → Command → Task
