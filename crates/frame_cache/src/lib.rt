@@ -19,5 +19,4 @@ mod slots;
 #[cfg(test)]
 mod tests;
 
-pub use part::end_of_touched;
 pub use reader::{RangeFault, RangeReader, Reading};

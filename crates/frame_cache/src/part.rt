@@ -5,7 +5,7 @@ ghost use Rattle.dsdiff_spec.specs.Bytes.{between};
 ghost use Rattle.dsdiff_spec.specs.Ranges.{touched};
 
 /// The frame behind the last one that bytes from a place on touch, each frame having so many bytes of sound.
-pub fn end_of_touched(bytes: u64, from: u64, count: u64) -> u64
+pub(crate) fn end_of_touched(bytes: u64, from: u64, count: u64) -> u64
     requires some { 0 < bytes }
     requires fits { from + count < 2 ^ 63 }
     ensures least { from / bytes ≤ result }
