@@ -1,5 +1,5 @@
 -- How the decoding of a stream ends, from what came of it.
-use Rattle.std.proofs.Common.{◌≡◌, ◌⊎◌, inl, inr, ℕ, zero, suc, ◌+◌, ◌-◌, ◌*◌, ◌<◌, ◌≤◌, List, [], ◌∷◌, ◌++◌, length, take, drop, get_or, replicate, Option, Some, None, Result, Ok, Err, refl, sym, ap, ap₂, subst, ◌∙◌, arith, length-append, append-nil, append_assoc, take-append-drop}
+use Rattle.std.proofs.Common.{◌≡◌, ◌⊎◌, inl, inr, ℕ, suc, ◌+◌, ◌-◌, ◌*◌, ◌<◌, ◌≤◌, List, [], ◌∷◌, ◌++◌, length, take, drop, get_or, replicate, Option, Some, None, refl, sym, ap, ap₂, subst, ◌∙◌, arith, length-append, append-nil, append_assoc, take-append-drop}
 use Rattle.std.specs.List.{AllByRecursion, AllZip, concat}
 use Rattle.std.proofs.lemmas.Bool.{cases_lt}
 use Rattle.std.proofs.lemmas.List.{take_all, get_or_at, length-replicate}
@@ -11,31 +11,30 @@ use Rattle.dst_spec.specs.Means.{Means}
 use Rattle.dst_spec.specs.Offends.{Offends}
 use Rattle.dst_spec.specs.declared.faults.FrameFault.{FrameFault}
 use Rattle.dst_spec.proofs.Unique.{tail_law}
-use Rattle.dst_streams.specs.Told.{and_then, IsCutShort}
 use Rattle.dsdiff_spec.specs.declared.faults.FileFault.{FileFault}
 use Rattle.dsdiff_spec.specs.Ranges.{MeansOrZeros}
 use Rattle.dsdiff_spec.specs.Words.{decode}
 use Rattle.dsdiff_spec.specs.Progress.{NoneOf}
 use Rattle.dsdiff_spec.specs.Outcome.{Answer, frame_refused}
-use Rattle.dsdiff_spec.specs.Streams.{Ending, ended, stopped, cut_off, Front, Stream, shape_in, stream, PipeOut, piped, piped_before, place_of_piped_sound}
+use Rattle.dsdiff_spec.specs.Streams.{Ending, ended, stopped, cut_off, Front, shape_in, stream, PipeOut, piped, piped_before, place_of_piped_sound}
 use Rattle.dsdiff_spec.proofs.Lawful.{prop_has_a_shape}
 use Rattle.dsdiff_spec.proofs.Pieces.{AreWhole, length-sounds}
 use Rattle.dsdiff_spec.proofs.Progress.{BeginsWith, take-joined}
 use Rattle.dsdiff_spec.proofs.Verdicts.{stop_is_not_earlier}
 use Rattle.stream_spec.specs.Lawful.{IsLawfulFront}
 use Rattle.stream_spec.specs.More.{GoesOn}
-use Rattle.stream_spec.specs.Outcome.{StreamOutcome, OfStream, IsStopped, IsThrough, stream_refused, at_ending, told_sound}
+use Rattle.stream_spec.specs.Outcome.{StreamOutcome, OfStream, IsStopped, IsThrough, at_ending}
 use Rattle.stream_spec.proofs.Lawful.{streams_are_lawful}
 use Rattle.stream_spec.proofs.More.{more_bytes}
 use Rattle.stream_spec.proofs.OneOutcome.{some_sounds, frames_are_bytes, one_outcome}
-use Rattle.push_decoder.specs.Events.{Answered, nothing_answered, begun, has_ended, has_stopped, front_event, frame_event, due}
-use Rattle.dst_commands.specs.Writing.{Adds, Stops}
-use Rattle.dst_commands.proofs.Writing.{stops_in, stops_behind, stops_at_once, stops_unsettled, and_then-nothing}
+use Rattle.push_decoder.specs.Events.{begun, has_ended, has_stopped, front_event, frame_event}
+use Rattle.dst_commands.specs.Writing.{Stops}
+use Rattle.dst_commands.proofs.Writing.{stops_in, stops_at_once}
 use Rattle.dst_pipes.specs.Heads.{head_of}
-use Rattle.dst_pipes.specs.States.{AreSounds, HasWritten, Wrote, BeginsSo}
-use Rattle.dst_pipes.specs.Endings.{Writes, IsStoppedShort, LacksRoom}
+use Rattle.dst_pipes.specs.States.{AreSounds, BeginsSo}
+use Rattle.dst_pipes.specs.Endings.{IsStoppedShort, LacksRoom}
 use Rattle.dst_pipes.proofs.Events.{all_behind}
-use Rattle.dst_pipes.proofs.Written.{size_of, zeros, length-body, piped_is, length-head}
+use Rattle.dst_pipes.proofs.Written.{size_of, zeros, piped_is, length-head}
 
 -- ---- what is decided stays
 pub stays_ended : (p rest : List ℕ) → (stream p).ending ≡ ended → stream (p ++ rest) ≡ stream p

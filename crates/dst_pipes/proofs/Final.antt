@@ -1,23 +1,20 @@
 -- The answer to a stream, from how its last piece ended.
-use Rattle.std.proofs.Common.{◌≡◌, ℕ, ◌+◌, ◌*◌, ◌≤◌, List, [], ◌∷◌, ◌++◌, length, take, drop, Option, Some, None, Result, Ok, Err, inl, inr, false, true, refl, sym, ap, subst, ◌∙◌, append-nil, append_assoc, take-append-drop}
+use Rattle.std.proofs.Common.{◌≡◌, ℕ, List, [], ◌∷◌, ◌++◌, length, take, drop, Option, Some, None, Err, inl, inr, false, true, refl, sym, ap, subst, ◌∙◌, append-nil}
 use Rattle.std.specs.List.{concat}
-use Rattle.std.specs.Prelude.{IsOk}
 use Rattle.dst_spec.specs.Bits.{AreBytes}
-use Rattle.dst_spec.specs.Sample.{sound_bytes}
 use Rattle.dst_spec.specs.declared.faults.FrameFault.{FrameFault}
 use Rattle.dst_streams.specs.Told.{and_then}
 use Rattle.dsdiff_spec.specs.declared.faults.FileFault.{FileFault}
 use Rattle.dsdiff_spec.specs.Lines.{decoded_line}
-use Rattle.dsdiff_spec.specs.Outcome.{Answer, done, frame_refused}
-use Rattle.dsdiff_spec.specs.Streams.{Ending, ended, stopped, cut_off, Front, shape_in, stream, piped, piped_before}
+use Rattle.dsdiff_spec.specs.Outcome.{done, frame_refused}
+use Rattle.dsdiff_spec.specs.Streams.{Ending, ended, stopped, cut_off, Front, stream, piped, piped_before}
 use Rattle.stream_spec.specs.Outcome.{StreamOutcome, OfStream, IsEarly, stream_refused, at_ending, told_sound}
-use Rattle.push_decoder.specs.Events.{Answered, nothing_answered, begun, has_ended, has_stopped, front_event, frame_event, due}
+use Rattle.push_decoder.specs.Events.{Answered, nothing_answered, begun, has_stopped, due}
 use Rattle.push_decoder.specs.Told.{EndsAs}
 use Rattle.push_decoder.specs.Laws.{AreOf}
-use Rattle.dst_commands.specs.Writing.{Adds, Stops}
 use Rattle.dst_commands.proofs.Writing.{stops_behind, stops_unsettled, and_then-nothing}
 use Rattle.dst_pipes.specs.Heads.{head_of}
-use Rattle.dst_pipes.specs.States.{AreSounds, HasWritten, Wrote, BeginsSo}
+use Rattle.dst_pipes.specs.States.{AreSounds, Wrote, BeginsSo}
 use Rattle.dst_pipes.specs.Steps.{HasCome, StopsAtFault, StopsAtFrame, StopsInWriting}
 use Rattle.dst_pipes.specs.Endings.{Writes, IsStoppedShort, LacksRoom}
 use Rattle.dst_pipes.specs.declared.work.Work.{Work}

@@ -1,5 +1,5 @@
 -- The run over a flow: a piece moved from its front, and what it says of the whole stream.
-use Rattle.std.proofs.Common.{◌≡◌, ◌⊎◌, inl, inr, ℕ, ◌+◌, ◌*◌, ◌<◌, ◌≤◌, List, [], ◌∷◌, ◌++◌, length, take, drop, Option, Some, None, Result, Ok, Err, Bool, false, true, refl, sym, ap, ap₂, subst, ◌∙◌, append-nil, append_assoc, take-append-drop, arith}
+use Rattle.std.proofs.Common.{◌≡◌, ◌⊎◌, inl, inr, ℕ, ◌*◌, ◌≤◌, List, [], ◌∷◌, ◌++◌, take, drop, Option, Some, None, Result, Ok, Err, refl, sym, ap, ap₂, subst, ◌∙◌, append_assoc, take-append-drop, arith}
 use Rattle.std.specs.Prelude.{IsOk, IfOk, IfErr}
 use Rattle.dst_spec.specs.Bits.{AreBytes}
 use Rattle.dst_spec.specs.Sample.{sound_bytes}
@@ -7,11 +7,8 @@ use Rattle.dst_streams.specs.Causes.{Rose}
 use Rattle.dst_streams.specs.Told.{after_piece, and_then, IsCutShort}
 use Rattle.dsdiff_spec.specs.Lines.{decoded_line}
 use Rattle.dsdiff_spec.specs.Outcome.{Answer, done}
-use Rattle.dsdiff_spec.specs.Streams.{Front, shape_in, stream}
 use Rattle.stream_spec.specs.Outcome.{StreamOutcome, told_sound}
 use Rattle.stream_spec.proofs.Lawful.{streams_are_lawful}
-use Rattle.push_decoder.specs.Events.{begun}
-use Rattle.dst_pipes.specs.States.{WorksFor}
 use Rattle.dst_pipes.specs.Steps.{StopsBy, HasCome}
 use Rattle.dst_pipes.specs.Endings.{PipeEnds, LacksRoom}
 use Rattle.dst_pipes.specs.declared.work.Work.{Work}

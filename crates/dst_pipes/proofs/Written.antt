@@ -1,16 +1,15 @@
 -- The bytes of the plain file: its head, the sounds of some frames, and zeros for the others.
-use Rattle.std.proofs.Common.{◌≡◌, ℕ, zero, suc, ◌+◌, ◌-◌, ◌*◌, ◌%◌, ◌<◌, ◌≤◌, ◌==◌, List, [], ◌∷◌, ◌++◌, length, take, replicate, Bool, false, true, refl, sym, ap, ap₂, subst, ◌∙◌, arith, length-append, append-nil, append_assoc}
+use Rattle.std.proofs.Common.{◌≡◌, ℕ, zero, suc, ◌+◌, ◌-◌, ◌*◌, ◌%◌, ◌≤◌, ◌==◌, List, [], ◌∷◌, ◌++◌, length, replicate, refl, sym, ap, ap₂, ◌∙◌, arith, length-append, append-nil, append_assoc}
 use Rattle.std.specs.Prelude.{codes, if◌then◌else◌}
-use Rattle.std.specs.List.{AllByRecursion, concat}
+use Rattle.std.specs.List.{concat}
 use Rattle.std.proofs.lemmas.List.{length-replicate}
 use Rattle.std.proofs.Math.Nat.{mul-mod_right}
 use Rattle.byteorder.specs.Endian.{big_bytes}
 use Rattle.byteorder.specs.Numbers.{length-bytes_high_first}
-use Rattle.dst_spec.specs.Sample.{Shape, sound_bytes}
-use Rattle.dsdiff_spec.specs.Form.{shape_of}
+use Rattle.dst_spec.specs.Sample.{sound_bytes}
 use Rattle.dsdiff_spec.specs.Parts.{channel_count, multiple}
 use Rattle.dsdiff_spec.specs.Written.{chunk, form_of, prop_with, cmpr_plain}
-use Rattle.dsdiff_spec.specs.Streams.{Front, shape_in, piped, piped_before, place_of_piped_sound}
+use Rattle.dsdiff_spec.specs.Streams.{Front, shape_in, piped, place_of_piped_sound}
 use Rattle.dsdiff_spec.proofs.Pieces.{AreWhole, length-sounds}
 use Rattle.stream_spec.specs.Outcome.{told_sound}
 use Rattle.dst_pipes.specs.Heads.{version_bytes, opening_bytes, plain_size, head_of}

@@ -1,4 +1,4 @@
-use Rattle.std.proofs.Common.{◌≡◌, ◌⊎◌, inl, inr, ℕ, Err, sym, subst}
+use Rattle.std.proofs.Common.{subst}
 use Rattle.dst_pipes.proofs.Runs.{ends_decoded, ends_short, ends_lacking}
 use Rattle.dst_pipes.specs.Endings.{PipeEnds}
 use Rattle.dst_pipes.proofs.pipe.decode_pipe.Goals as goal

@@ -1,7 +1,7 @@
-use Rattle.std.proofs.Common.{◌≡◌, ℕ, ◌+◌, ◌-◌, ◌<◌, ◌≤◌, List, [], ◌++◌, length, take, drop, Option, Some, None, Ok, Err, refl, ap, sym, subst, ◌∙◌, arith, append-nil, append_assoc, length-append}
+use Rattle.std.proofs.Common.{◌≡◌, [], ◌++◌, take, drop, Err, refl, ap, sym, subst, ◌∙◌, arith, append-nil, append_assoc, length-append}
 use Rattle.std.proofs.lemmas.List.{length-take}
 use Rattle.dst_spec.specs.Bits.{AreBytes}
-use Rattle.dst_streams.specs.Told.{after_piece, IsZeroAtEnd}
+use Rattle.dst_streams.specs.Told.{IsZeroAtEnd}
 use Rattle.dsdiff_spec.specs.Streams.{stream}
 use Rattle.push_decoder.specs.Events.{nothing_answered, due}
 use Rattle.push_decoder.specs.Laws.{AreOf}
