@@ -1,5 +1,5 @@
 -- What an answer to a stream says of the run.
-use Rattle.std.proofs.Common.{◌≡◌, ◌⊎◌, inl, inr, ℕ, ◌<◌, ◌≤◌, List, [], ◌∷◌, length, take, Option, Some, None, Result, Ok, Err, Bool, true, false, refl, sym, ap, subst, ◌∙◌, arith}
+use Rattle.std.proofs.Common.{◌≡◌, ◌⊎◌, inl, inr, ℕ, ◌<◌, ◌≤◌, List, [], ◌∷◌, length, Option, Some, Result, Ok, Err, Bool, true, false, refl, sym, ap, subst, ◌∙◌, arith}
 use Rattle.std.specs.Prelude.{IfOk}
 use Rattle.dst_spec.specs.declared.faults.FrameFault.{FrameFault}
 use Rattle.dst_streams.specs.Told.{and_then, IsCutShort}
@@ -9,13 +9,12 @@ use Rattle.dsdiff_spec.specs.Lines.{Line, report, words_line, decoded_line}
 use Rattle.dsdiff_spec.specs.Words.{Word, decode}
 use Rattle.dsdiff_spec.specs.Progress.{NotRefused}
 use Rattle.dsdiff_spec.specs.Outcome.{Answer, done, not_understood, frame_refused}
-use Rattle.dsdiff_spec.specs.Streams.{Front, Ending, ended, stopped, cut_off, shape_in, stream}
+use Rattle.dsdiff_spec.specs.Streams.{Front, ended, shape_in, stream}
 use Rattle.stream_spec.specs.Outcome.{StreamOutcome, OfStream, IsStopped, IsThrough, at_ending, stream_refused}
 use Rattle.dst_pipes.specs.Endings.{PipeEnds}
 use Rattle.dst_pipes.specs.declared.faults.Piped.{Piped}
 use Rattle.dst_pipes.specs.declared.faults.PipeFault.{PipeFault}
 use Rattle.dst_pipes.specs.declared.faults.PipeFault.TheVariants.{Read, Write, Memory, File, Frame}
-use Rattle.pipe_tool.specs.Words.{is_pipe}
 use Rattle.pipe_tool.specs.Runs.{status_of, line_of, OfWords, EndsAsOne, EndsByStream, Reports, DidNotRise, NoFrameIsRefused}
 use Rattle.dst_commands.proofs.Writing.{and_then-nothing}
 use Rattle.dst_streams.specs.Causes.{Rose}

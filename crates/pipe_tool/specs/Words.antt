@@ -1,5 +1,5 @@
 -- The words of a pipe: `pipe`, and the name of a file.
-use Rattle.std.specs.Prelude.{Bool, true, false, ◌&&◌, List, [], ◌∷◌}
+use Rattle.std.specs.Prelude.{Bool, false, ◌&&◌, List, [], ◌∷◌}
 use Rattle.dsdiff_spec.specs.Bytes.{◌is◌}
 use Rattle.dsdiff_spec.specs.Words.{Word}
 use Rattle.words_spec.specs.Slots.{is_file_word}

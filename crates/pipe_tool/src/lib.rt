@@ -12,6 +12,8 @@
 #![tactic(auto)]
 
 mod run;
+#[cfg(test)]
+mod tests;
 mod words;
 
 pub use run::dst_pipe;

@@ -1,4 +1,4 @@
-use Rattle.std.proofs.Common.{◌≡◌, ◌⊎◌, inl, inr, ℕ, List, [], ◌∷◌, map, Some, Err, true, false, refl, sym, ap, subst, ◌∙◌, arith}
+use Rattle.std.proofs.Common.{◌≡◌, ◌⊎◌, inr, [], ◌∷◌, sym, ap, subst, ◌∙◌, arith}
 use Rattle.dst_streams.specs.Told.{and_then}
 use Rattle.dsdiff_spec.specs.Lines.{words_line, report}
 use Rattle.stream_spec.specs.Outcome.{stream_refused}
@@ -12,8 +12,12 @@ returns-then-not-is_pipe-clause-headline g c w told flow sink report_quiet =
     let b = sym c.is_pipe.ensures ∙ c.if-not-is_pipe.true in
     let one = not_seven 1 c.report_line.result _ _ c.report_line.ensures.reported c.report_line.ensures.cause report_quiet in
     let ends = refused_words _ w (g.K.Sink.written c.args.sink.now) b in
-    inr (words_line ∷ [], (ends.0, ends.1, ends.2 ∙ sym one, ends.3, ends.4), c.report_line.ensures.whole one
-    ∙ ap (and_then (g.R.Sink.written c.args.report.now)) c.words_not_understood.ensures)
+    inr (
+      words_line ∷ [],
+      (ends.0, ends.1, ends.2 ∙ sym one, ends.3, ends.4),
+      c.report_line.ensures.whole one
+          ∙ ap (and_then (g.R.Sink.written c.args.report.now)) c.words_not_understood.ensures,
+    )
 
 pub returns-then-not-is_pipe-clause-ends : goal.returns-then-not-is_pipe-clause-ends
 returns-then-not-is_pipe-clause-ends g c w told =
