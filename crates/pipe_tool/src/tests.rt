@@ -41,9 +41,16 @@ fn gives(
         let mut sink = MemorySink::new(alloc, 10_000, &[])?;
         let mut report = MemorySink::new(alloc, 200, &[])?;
         let answer = dst_pipe(alloc, &words, &mut flow, &mut sink, &mut report);
-        assert!(rt; report.written() == line.as_bytes(), "{text}: the report of {line}");
+        assert!(rt;
+            report.written() == line.as_bytes(),
+            "{text}: the report of {line}"
+        );
         assert_eq!(rt; answer, status, "{text}: the status of {line}");
-        assert_eq!(rt; sink.written().len(), length, "{text}: the output of {line}");
+        assert_eq!(rt;
+            sink.written().len(),
+            length,
+            "{text}: the output of {line}"
+        );
     }
     Ok(())
 }
@@ -54,10 +61,34 @@ fn a_stream_is_decoded_in_pieces_of_any_size(rt: HostRuntime) -> Result<(), Fail
     let two = two_frames(alloc)?;
     let file = FILE.as_slice();
     let cases: [(&str, &[u8], u8, usize, &str); 6] = [
-        ("pipe out.dff", file, 0, 4_830, "decoded 1 frames into 4704 bytes\n"),
-        ("pipe out.dff", &two, 0, 9_534, "decoded 2 frames into 9408 bytes\n"),
-        ("pipe out.dff", &file[..157], 5, 126, "file refused: 3 Overrun 140\n"),
-        ("pipe out.dff", &file[..15], 5, 0, "file refused: 1 NotForm\n"),
+        (
+            "pipe out.dff",
+            file,
+            0,
+            4_830,
+            "decoded 1 frames into 4704 bytes\n",
+        ),
+        (
+            "pipe out.dff",
+            &two,
+            0,
+            9_534,
+            "decoded 2 frames into 9408 bytes\n",
+        ),
+        (
+            "pipe out.dff",
+            &file[..157],
+            5,
+            126,
+            "file refused: 3 Overrun 140\n",
+        ),
+        (
+            "pipe out.dff",
+            &file[..15],
+            5,
+            0,
+            "file refused: 1 NotForm\n",
+        ),
         ("pipe", file, 1, 0, "words not understood\n"),
         ("pipe in.dff out.dff", file, 1, 0, "words not understood\n"),
     ];
