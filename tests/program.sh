@@ -82,7 +82,7 @@ fits_a_screen() {
   [ "$(wc -l <printed)" -le 50 ] || fail "the help has $(wc -l <printed) lines"
   [ "$(wc -L <printed)" -le 80 ] || fail "the help has lines of $(wc -L <printed) columns"
 }
-for command in encode decode cut frame check show index make; do
+for command in encode decode cut frame check show index pipe make; do
   expect 1 "$command"
   tells "usage: dst_cli $command "
   expect 0 "$command" --help
@@ -136,6 +136,29 @@ expect 6 decode damaged.dff begun.dff
 grep -q '^frame 11 refused: ' printed || fail "printed: $(cat printed)"
 tells "begun.dff: holds the beginning alone, $(wc -c <begun.dff) bytes"
 cmp -n "$(wc -c <begun.dff)" twelve.dff begun.dff
+
+# A pipe: the same sound; a stream that is cut off, refused or closed, and what stands in front of that is written.
+expect 0 pipe piped.dff < <(cat twelve-coded.dff)
+prints 'decoded 12 frames into 56448 bytes'
+cmp piped.dff twelve.dff
+quiet
+expect 5 pipe cut-off.dff < <(head -c 157 "$coded")
+prints 'file refused: 3 Overrun 140'
+[ "$(wc -c <cut-off.dff)" = 126 ] || fail "cut-off.dff has $(wc -c <cut-off.dff) bytes"
+tells 'cut-off.dff: holds the beginning alone, 126 bytes'
+expect 5 pipe other.dff < <(cat plain.dff)
+prints 'file refused: 27 NotCoded'
+absent other.dff
+expect 6 pipe damaged-sound.dff < <(cat damaged.dff)
+grep -q '^frame 11 refused: ' printed || fail "printed: $(cat printed)"
+cmp damaged-sound.dff begun.dff
+expect 5 pipe other.dff </dev/null
+prints 'file refused: 1 NotForm'
+expect 3 pipe there.dff < <(cat twelve-coded.dff)
+tells 'there.dff: exists already'
+expect 1 pipe in.dff out.dff </dev/null
+expect 2 pipe other.dff <&-
+absent other.dff
 
 # A report that can't be printed.
 status=0

@@ -14,7 +14,7 @@ pub(crate) struct CommandHelp {
 }
 
 /// All commands.
-pub(crate) const COMMANDS: [CommandHelp; 8] = [
+pub(crate) const COMMANDS: [CommandHelp; 9] = [
     CommandHelp {
         name: "encode",
         usage: "encode IN OUT [--level L] [--workers W]",
@@ -65,6 +65,13 @@ pub(crate) const COMMANDS: [CommandHelp; 8] = [
         text: INDEX,
     },
     CommandHelp {
+        name: "pipe",
+        usage: "pipe OUT",
+        places: &["OUT"],
+        options: &[],
+        text: PIPE,
+    },
+    CommandHelp {
         name: "make",
         usage: "make START OUT|--run FRAMES CHANNELS [--rate Q]",
         places: &["START", "OUT or --run", "FRAMES", "CHANNELS"],
@@ -89,6 +96,7 @@ Direct Stream Transfer, the lossless coding of Super Audio CD, in DSDIFF files.
   dst_cli show IN                        print what the file is
   dst_cli show IN K                      print the header of frame K
   dst_cli index IN                       print place and size of each frame
+  dst_cli pipe OUT                       decode standard input as it comes
   dst_cli make START OUT FRAMES CHANNELS [--rate Q]
                                          write a plain file of made sound
   dst_cli make START --run FRAMES CHANNELS [--rate Q]
@@ -221,6 +229,20 @@ have them.
 Status: 0, 1, 2, 4, 5 or 7
 
   dst_cli index master.dff
+";
+
+const PIPE: &str = "\
+dst_cli pipe OUT
+
+Decodes a coded file that comes on standard input, frame by frame as each one
+comes, and writes a plain file of its sound. What else the coded file has is
+left out; behind the last frame nothing is read.
+
+Prints: decoded F frames into B bytes
+Status: 0, 1, 2, 3, 4, 5, 6 or 7. Behind 5 and 6 OUT ends behind the last frame
+that came or isn't refused.
+
+  curl -s https://example.org/master.dff | dst_cli pipe plain.dff
 ";
 
 const MAKE: &str = "\

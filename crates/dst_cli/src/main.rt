@@ -3,10 +3,11 @@
 //! ```text
 //! dst_cli encode IN OUT --level 2 --workers 4
 //! dst_cli decode IN OUT --workers 4
+//! dst_cli pipe OUT < IN
 //! dst_cli --help
 //! ```
 //!
-//! It gives words 1 and 2 behind the command to the devices of the top call, and ends with the call's status. Where memory
+//! It gives words 1 and 2 behind the command to the devices of the top call, or standard input and word 1 to those of the call on a pipe, and ends with the call's status. Where memory
 //! for the words is refused it prints nothing and ends with status 4; where the system refuses the words for another cause,
 //! with status 8. `--help` and `--version`, each as the one word, and `--help` behind a command's name are answered here.
 //!
@@ -18,8 +19,9 @@ mod help;
 mod progress;
 mod reasons;
 
-use dst_streams::{FileSink, FileSource, Sink, TextSink};
+use dst_streams::{FileSink, FileSource, PipeFlow, Sink, TextSink};
 use dst_tool::dst_run;
+use pipe_tool::dst_pipe;
 use progress::{Watched, sound_of};
 use reasons::{Behind, command_of, explain};
 use std::env;
@@ -73,6 +75,9 @@ fn status_of<R: Runtime + AllocGlobal + Threads + Sync>(
             Err(_) => REPORT,
         };
     }
+    if word_at(words, 0) == "pipe" {
+        return status_of_pipe(rt, words, &mut report);
+    }
     let (input, output) = (word_at(words, 1), word_at(words, 2));
     let sound = if is_watched {
         Some(sound_of(rt, rt.alloc(), input))
@@ -87,6 +92,27 @@ fn status_of<R: Runtime + AllocGlobal + Threads + Sync>(
         input,
         output,
         read: source.source.reason(),
+        write: sink.reason(),
+        held: sink.held(),
+    };
+    explain(rt, status, words, &behind);
+    status
+}
+
+// Decodes standard input to the file that the words name, and answers the status.
+fn status_of_pipe<R: Runtime + AllocGlobal, K: Sink>(
+    rt: &R,
+    words: &[String],
+    report: &mut K,
+) -> u8 {
+    let output = word_at(words, 1);
+    let mut flow = PipeFlow::new(rt);
+    let mut sink = FileSink::new(rt, output);
+    let status = dst_pipe(rt.alloc(), words, &mut flow, &mut sink, report);
+    let behind = Behind {
+        input: "standard input",
+        output,
+        read: flow.reason(),
         write: sink.reason(),
         held: sink.held(),
     };

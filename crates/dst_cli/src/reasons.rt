@@ -24,7 +24,7 @@ pub(crate) fn explain<R: Eprint>(rt: &R, status: u8, words: &[String], behind: &
         _ => {}
     }
     match (status, behind.held) {
-        (2 | 3 | 6 | 7, Some(held)) if held > 0 => {
+        (2 | 3 | 5 | 6 | 7, Some(held)) if held > 0 => {
             let name = behind.output;
             let _ = eprintln!(rt; "{name}: holds the beginning alone, {held} bytes");
         }

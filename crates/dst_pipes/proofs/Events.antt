@@ -1,12 +1,11 @@
 -- What an event that is due says of what was answered before it, and of the stream.
-use Rattle.std.proofs.Common.{◌≡◌, ℕ, zero, suc, ◌+◌, ◌*◌, ◌<◌, ◌≤◌, List, [], ◌∷◌, ◌++◌, length, take, drop, Option, Some, None, refl, sym, ap, subst, ◌∙◌, arith, length-append, take-append-drop, append-nil}
+use Rattle.std.proofs.Common.{◌≡◌, ℕ, ◌+◌, ◌*◌, ◌<◌, ◌≤◌, List, [], ◌∷◌, ◌++◌, length, drop, Option, Some, None, refl, sym, ap, subst, ◌∙◌, arith, length-append, take-append-drop}
 use Rattle.std.specs.List.{AllByRecursion}
 use Rattle.dst_spec.specs.Sample.{sound_bytes}
-use Rattle.dsdiff_spec.specs.Streams.{Ending, ended, stopped, cut_off, Front, Stream, shape_in, stream}
-use Rattle.dsdiff_spec.specs.declared.faults.FileFault.{FileFault}
+use Rattle.dsdiff_spec.specs.Streams.{Ending, ended, stopped, cut_off, Front, shape_in, stream}
 use Rattle.stream_spec.specs.Lawful.{IsShort}
 use Rattle.stream_spec.proofs.Lawful.{streams_are_lawful}
-use Rattle.push_decoder.specs.Events.{Answered, nothing_answered, begun, Event, front_came, frame_came, has_ended, has_stopped, front_event, frame_event, end_event, due}
+use Rattle.push_decoder.specs.Events.{Answered, nothing_answered, begun, front_came, frame_came, has_ended, front_event, frame_event, due}
 use Rattle.push_decoder.specs.Laws.{AreOf}
 
 -- a front comes first, and frames and the end behind it

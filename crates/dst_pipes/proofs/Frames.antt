@@ -1,5 +1,5 @@
 -- A frame that is due: where it stands, and what it is decoded to.
-use Rattle.std.proofs.Common.{◌≡◌, ℕ, ◌+◌, ◌≤◌, List, ◌++◌, length, Some, Result, Ok, Err, refl, sym, ap, subst, ◌∙◌, Option}
+use Rattle.std.proofs.Common.{◌≡◌, ℕ, ◌≤◌, List, ◌++◌, length, Some, Result, Ok, Err, sym, ap, subst, ◌∙◌, Option}
 use Rattle.std.specs.Prelude.{IfOk, IfErr}
 use Rattle.dst_spec.specs.Sample.{Shape, IsShape}
 use Rattle.dst_spec.specs.Means.{Means, MeansWithTail}

@@ -3,3 +3,7 @@ pub mod Frames
 pub mod Stepping
 pub mod Waiting
 pub mod Moved
+pub mod Written
+pub mod Ending
+pub mod Final
+pub mod Runs

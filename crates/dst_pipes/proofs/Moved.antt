@@ -1,12 +1,10 @@
 -- What a step says of the rest of a piece, of the whole piece.
-use Rattle.std.proofs.Common.{◌≡◌, ℕ, ◌+◌, ◌≤◌, List, [], ◌∷◌, ◌++◌, length, take, drop, Option, refl, sym, ap, subst, ◌∙◌, arith, length-drop}
+use Rattle.std.proofs.Common.{◌≡◌, ℕ, ◌+◌, ◌≤◌, List, [], ◌∷◌, ◌++◌, length, take, drop, Option, sym, ap, subst, ◌∙◌, arith, length-drop}
 use Rattle.std.proofs.lemmas.List.{take_all}
 use Rattle.push_decoder.specs.Events.{due, begun}
-use Rattle.push_decoder.specs.declared.decoder.PushDecoder.{PushDecoder}
 use Rattle.push_decoder.proofs.Short.{and_more}
 use Rattle.dst_pipes.specs.States.{BeginsSo}
-use Rattle.dst_pipes.specs.Steps.{StopsBy, Waits, HasCome}
-use Rattle.dst_pipes.specs.declared.work.Work.{Work}
+use Rattle.dst_pipes.specs.Steps.{StopsBy}
 use Rattle.dst_pipes.specs.declared.faults.PipeFault.{PipeFault}
 use Rattle.dst_pipes.specs.declared.faults.PipeFault.TheVariants.{Read, Write, Memory, File, Frame}
 

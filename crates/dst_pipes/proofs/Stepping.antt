@@ -1,9 +1,9 @@
 -- What a step leaves, by what its event asks for.
-use Rattle.std.proofs.Common.{◌≡◌, ℕ, zero, suc, ◌+◌, ◌-◌, ◌*◌, ◌<◌, ◌≤◌, List, [], ◌∷◌, ◌++◌, length, take, Option, Some, None, Result, Ok, Err, refl, sym, ap, ap₂, subst, ◌∙◌, arith, length-append, append-nil, append_assoc}
-use Rattle.std.specs.List.{AllByRecursion, AllZip, concat}
+use Rattle.std.proofs.Common.{◌≡◌, ℕ, ◌+◌, ◌-◌, ◌<◌, List, [], ◌∷◌, ◌++◌, take, Option, Some, None, Result, Ok, Err, refl, sym, ap, subst, ◌∙◌, arith, length-append, append-nil, append_assoc}
+use Rattle.std.specs.List.{AllZip, concat}
 use Rattle.dst_spec.specs.Means.{Means}
 use Rattle.dst_spec.specs.Offends.{Offends}
-use Rattle.dst_spec.specs.Sample.{IsShape, sound_bytes}
+use Rattle.dst_spec.specs.Sample.{IsShape}
 use Rattle.dst_spec.specs.declared.faults.FrameFault.{FrameFault}
 use Rattle.dst_spec.proofs.Lists.{all_append}
 use Rattle.dsdiff_spec.specs.Form.{shape_of}
@@ -22,7 +22,7 @@ use Rattle.dst_commands.specs.Writing.{Adds, Stops}
 use Rattle.dst_commands.proofs.Writing.{adds_same, adds_then, stops_same, stops_then}
 use Rattle.dst_pipes.specs.Heads.{head_of}
 use Rattle.dst_pipes.specs.States.{WorksFor, Works, AreSounds, HasWritten, Wrote, BeginsSo, events_left}
-use Rattle.dst_pipes.specs.Steps.{IsDecoded, FrontCame, FrameCame, FrontIsTold, HasBegun, SoundEnds, StopsInWriting, StopsAtFrame, StopsBy, GoesOn}
+use Rattle.dst_pipes.specs.Steps.{FrontCame, FrameCame, FrontIsTold, HasBegun, SoundEnds, StopsBy, GoesOn}
 use Rattle.dst_pipes.specs.declared.work.Work.{Work}
 use Rattle.dst_pipes.specs.declared.faults.PipeFault.{PipeFault}
 use Rattle.dst_pipes.specs.declared.faults.PipeFault.TheVariants.{Read, Write, Memory, File, Frame}
@@ -120,14 +120,17 @@ pub sound_works : (answer : Result ℕ FrameFault) (taken : List ℕ) (answered 
     (here new : Option (List ℕ)) (half left : Option ℕ) → SoundEnds answer (Ok tt) t.work_is later here new half left →
     Works (begun t.front (t.frames ++ t.frame ∷ [])) later
 sound_works (Err fault) taken answered d work later t here new half left ends = absurd ends
-sound_works (Ok tail) taken answered d work later t here new half left ends =
-    (WithOneMore t.work_is, ends.0, record {
-      channels = t.works.channels;
-      scratch = t.works.scratch;
-      sound = t.works.sound;
-      told = t.works.told;
-      decoded = (let count = t.works.decoded in omega (arith, count, length-append t.frames (t.frame ∷ [])));
-    })
+sound_works (Ok tail) taken answered d work later t here new half left ends = (
+  WithOneMore t.work_is,
+  ends.0,
+  record {
+    channels = t.works.channels;
+    scratch = t.works.scratch;
+    sound = t.works.sound;
+    told = t.works.told;
+    decoded = (let count = t.works.decoded in omega (arith, count, length-append t.frames (t.frame ∷ [])));
+  },
+)
 
 pub sound_goes_on : (answer : Result ℕ FrameFault) (taken : List ℕ) (answered : Answered) (d : PushDecoder) (work later : Option Work) (t : FrameCame taken answered answer d work)
     (old here new : Option (List ℕ)) (room half left : Option ℕ) → Wrote answered old here room half →

@@ -1,8 +1,7 @@
 -- A stream that waits for more bytes, and one that has ended or stopped in a piece.
-use Rattle.std.proofs.Common.{◌≡◌, ℕ, List, [], ◌∷◌, ◌++◌, length, take, drop, Option, Some, None, Result, Ok, Err, refl, sym, ap, subst, ◌∙◌, append_assoc, take-append-drop}
-use Rattle.dsdiff_spec.specs.Streams.{Ending, ended, stopped, cut_off, Front, stream}
+use Rattle.std.proofs.Common.{◌≡◌, ℕ, List, [], ◌∷◌, ◌++◌, length, drop, Option, Some, None, refl, subst}
+use Rattle.dsdiff_spec.specs.Streams.{ended, Front, stream}
 use Rattle.push_decoder.specs.Events.{Answered, nothing_answered, begun, front_event, frame_event, due}
-use Rattle.push_decoder.specs.Decoder.{StandsFor}
 use Rattle.push_decoder.specs.declared.decoder.PushDecoder.{PushDecoder}
 use Rattle.dst_pipes.specs.Steps.{Waits}
 use Rattle.dst_pipes.specs.declared.work.Work.{Work}

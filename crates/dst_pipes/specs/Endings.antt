@@ -1,5 +1,5 @@
 -- How the decoding of a stream ends.
-use Rattle.std.specs.Prelude.{◌≡◌, ℕ, ◌≤◌, List, [], ◌∷◌, length, Option, Some, Result, Ok, Err}
+use Rattle.std.specs.Prelude.{◌≡◌, ℕ, List, [], ◌∷◌, length, Option, Result, Ok, Err}
 use Rattle.dst_streams.specs.Causes.{Rose}
 use Rattle.dst_streams.specs.Told.{and_then, IsCutShort}
 use Rattle.dsdiff_spec.specs.Lines.{decoded_line}

@@ -1,7 +1,7 @@
 -- How far the decoding of a stream came.
-use Rattle.std.specs.Prelude.{◌≡◌, ℕ, ◌+◌, ◌-◌, List, ◌++◌, length, Option, Some, None}
+use Rattle.std.specs.Prelude.{◌≡◌, ℕ, ◌-◌, List, ◌++◌, length, Option, Some, None}
 use Rattle.std.specs.List.{AllZip, concat}
-use Rattle.dst_spec.specs.Sample.{Shape, sound_bytes}
+use Rattle.dst_spec.specs.Sample.{sound_bytes}
 use Rattle.dst_spec.specs.Means.{Means}
 use Rattle.dsdiff_spec.specs.Words.{decode}
 use Rattle.dsdiff_spec.specs.Progress.{NoneOf}

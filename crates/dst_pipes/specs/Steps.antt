@@ -9,12 +9,12 @@ use Rattle.dsdiff_spec.specs.Form.{shape_of}
 use Rattle.dsdiff_spec.specs.Words.{decode}
 use Rattle.dsdiff_spec.specs.Progress.{NotRefused}
 use Rattle.dsdiff_spec.specs.Streams.{Front, shape_in}
-use Rattle.push_decoder.specs.Events.{Answered, nothing_answered, begun, front_came, frame_came, has_ended, has_stopped, due}
+use Rattle.push_decoder.specs.Events.{Answered, nothing_answered, begun, has_ended, has_stopped, due}
 use Rattle.push_decoder.specs.Decoder.{StandsFor}
 use Rattle.push_decoder.specs.declared.decoder.PushDecoder.{PushDecoder}
 use Rattle.dst_commands.specs.Writing.{Adds, Stops}
 use Rattle.dst_pipes.specs.Heads.{head_of}
-use Rattle.dst_pipes.specs.States.{WorksFor, Works, Wrote, AreSounds, HasWritten, BeginsSo, events_left}
+use Rattle.dst_pipes.specs.States.{WorksFor, Works, Wrote, AreSounds, HasWritten, BeginsSo}
 use Rattle.dst_pipes.specs.declared.work.Work.{Work}
 use Rattle.dst_pipes.specs.declared.steps.Came.{Came}
 use Rattle.dst_pipes.specs.declared.steps.Came.TheVariants.{More, Head, Frame, End}

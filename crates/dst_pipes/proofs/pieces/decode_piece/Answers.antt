@@ -1,8 +1,6 @@
-use Rattle.std.proofs.Common.{◌≡◌, ℕ, ◌+◌, ◌-◌, ◌≤◌, List, ◌++◌, length, take, drop, None, Ok, refl, ap, sym, subst, ◌∙◌, arith}
+use Rattle.std.proofs.Common.{◌+◌, ◌++◌, take, Ok, ap, subst, ◌∙◌, arith}
 use Rattle.push_decoder.proofs.Short.{rest_of, and_more}
-use Rattle.dst_pipes.specs.States.{Works, Wrote}
-use Rattle.dst_pipes.specs.Steps.{StopsBy, Waits, GoesOn, HasCome}
-use Rattle.dst_pipes.specs.declared.steps.Next.TheVariants.{Again}
+use Rattle.dst_pipes.specs.Steps.{Waits, GoesOn, HasCome}
 use Rattle.dst_pipes.proofs.Moved.{stops_moved, whole_piece}
 use Rattle.dst_pipes.proofs.pieces.decode_piece.Goals as goal
 
@@ -48,8 +46,7 @@ pub returns-in-End-clause-ends : goal.returns-in-End-clause-ends
 returns-in-End-clause-ends g c taken answered has works old room wrote =
     let goes = c.loop-taken.invariant.goes taken answered has works old room wrote in
     let m = c.loop-taken.start in
-    let ends = rw c.in-End.is at (c.in-Ok.ensures.ends (taken ++ take m c.args.piece.now) goes.answered goes.stands goes.works old room goes.wrote) in
-    (
+    let ends = rw c.in-End.is at (c.in-Ok.ensures.ends (taken ++ take m c.args.piece.now) goes.answered goes.stands goes.works old room goes.wrote) in (
       m + c.in-Ok.taken.0,
       subst (λ p. HasCome p c.decode_step.new.work old (g.K.Sink.written c.decode_step.new.sink) room (g.K.Sink.room c.decode_step.new.sink))
           (and_more taken c.args.piece.now m c.in-Ok.taken.0) (rw (rest_of c.args.piece.now m) at ends),

@@ -1,4 +1,4 @@
-use Rattle.std.proofs.Common.{◌≡◌, ℕ, ◌+◌, ◌-◌, ◌<◌, ◌≤◌, length, None}
+use Rattle.std.proofs.Common.{◌≡◌, ◌+◌, ◌-◌, ◌≤◌, None}
 use Rattle.std.specs.Prelude.{◌^◌}
 use Rattle.dst_pipes.proofs.Waiting.{IsWaiting}
 use Rattle.dst_pipes.proofs.pipe.run.Given as goal

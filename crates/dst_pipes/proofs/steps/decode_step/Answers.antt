@@ -1,8 +1,7 @@
-use Rattle.std.proofs.Common.{◌≡◌, ℕ, ◌+◌, ◌-◌, ◌<◌, List, [], ◌∷◌, ◌++◌, take, Some, None, Ok, Err, refl, ap, sym, subst, ◌∙◌, arith}
+use Rattle.std.proofs.Common.{◌≡◌, [], ◌∷◌, ◌++◌, take, Some, None, refl, ap, subst, arith}
 use Rattle.push_decoder.specs.Events.{begun, has_ended, due}
 use Rattle.push_decoder.proofs.Pieces.{events_law}
 use Rattle.dst_pipes.specs.States.{Works, Wrote, BeginsSo, events_left}
-use Rattle.dst_pipes.specs.Steps.{HasBegun}
 use Rattle.dst_pipes.proofs.Stepping.{begins_more, told_of, begun_goes_on, begun_stops, begun_no_read, sound_works, sound_goes_on, sound_left, sound_stops, sound_no_device, both_none, sound_some}
 use Rattle.dst_pipes.proofs.steps.decode_step.Goals as goal
 

@@ -1,9 +1,8 @@
-use Rattle.std.proofs.Common.{◌≡◌, ℕ, List, [], ◌∷◌, ◌++◌, ◌+◌, ◌*◌, ◌≤◌, take, length, Some, None, Ok, Err, refl, sym, ap, subst, ◌∙◌, arith}
+use Rattle.std.proofs.Common.{◌++◌, ◌+◌, ◌*◌, ◌≤◌, take, length, Some, refl, sym, ap, subst, ◌∙◌, arith}
 use Rattle.std.proofs.lemmas.List.{with_items_is}
 use Rattle.dst_spec.specs.Sample.{IsShape, sound_bytes}
-use Rattle.push_decoder.specs.Events.{Answered, begun, nothing_answered, front_came, frame_came, answered_with, due}
+use Rattle.push_decoder.specs.Events.{front_came, frame_came, answered_with}
 use Rattle.push_decoder.specs.Reading.{HasRead}
-use Rattle.push_decoder.proofs.Pieces.{events_law}
 use Rattle.dst_pipes.specs.States.{Works}
 use Rattle.dst_pipes.proofs.Events.{front_is_first, frame_is_behind, end_is_behind}
 use Rattle.dst_pipes.proofs.Frames.{is_decoded, decoded_is, frame_room}

@@ -1,4 +1,4 @@
-use Rattle.std.proofs.Common.{◌≡◌, ℕ, ◌<◌, Some, sym, ◌∙◌, subst, arith}
+use Rattle.std.proofs.Common.{◌≡◌, ◌<◌, Some, sym, ◌∙◌, subst, arith}
 use Rattle.dst_pipes.specs.declared.work.Work.{Work}
 use Rattle.dst_pipes.proofs.steps.write_sound.Goals as goal
 

@@ -1,0 +1,92 @@
+use Rattle.std.proofs.Common.{◌≡◌, ◌⊎◌, inr, [], ◌∷◌, sym, ap, subst, ◌∙◌, arith}
+use Rattle.dst_streams.specs.Told.{and_then}
+use Rattle.dsdiff_spec.specs.Lines.{words_line, report}
+use Rattle.stream_spec.specs.Outcome.{stream_refused}
+use Rattle.dsdiff_spec.specs.Outcome.{frame_refused}
+use Rattle.pipe_tool.specs.Runs.{status_of, line_of, OfWords}
+use Rattle.pipe_tool.proofs.Runs.{ends_of, ends_by, file_of, frame_of, reports_of, not_seven, refused_words, headline_of, complete_of, with_words, by_status}
+use Rattle.pipe_tool.proofs.run.dst_pipe.Goals as goal
+
+pub returns-then-not-is_pipe-clause-headline : goal.returns-then-not-is_pipe-clause-headline
+returns-then-not-is_pipe-clause-headline g c w told flow sink report_quiet =
+    let b = sym c.is_pipe.ensures ∙ c.if-not-is_pipe.true in
+    let one = not_seven 1 c.report_line.result _ _ c.report_line.ensures.reported c.report_line.ensures.cause report_quiet in
+    let ends = refused_words _ w (g.K.Sink.written c.args.sink.now) b in
+    inr (
+      words_line ∷ [],
+      (ends.0, ends.1, ends.2 ∙ sym one, ends.3, ends.4),
+      c.report_line.ensures.whole one
+          ∙ ap (and_then (g.R.Sink.written c.args.report.now)) c.words_not_understood.ensures,
+    )
+
+pub returns-then-not-is_pipe-clause-ends : goal.returns-then-not-is_pipe-clause-ends
+returns-then-not-is_pipe-clause-ends g c w told =
+    let b = sym c.is_pipe.ensures ∙ c.if-not-is_pipe.true in (
+      1,
+      words_line ∷ [],
+      inr (inr (inr (refused_words _ w (g.K.Sink.written c.args.sink.now) b))),
+      reports_of 1 c.report_line.result words_line _ _ _ c.report_line.ensures.reported c.report_line.ensures.whole c.report_line.ensures.cut_short c.words_not_understood.ensures,
+    )
+
+pub returns-clause-headline : goal.returns-clause-headline
+returns-clause-headline g c w told flow sink report_quiet =
+    let a = c.decode_pipe-answer in
+    let b = sym c.is_pipe.ensures ∙ c.if-not-is_pipe.false in
+    let ends = ends_of a.result _ _ _ _ a.ensures.decoded a.ensures.file a.ensures.frame a.ensures.cut_short a.ensures.sure
+    (λ e. ap g.K.Sink.written (a.ensures.memory e)) w told in
+    let same = not_seven _ c.report_line-2.result _ _ c.report_line-2.ensures.reported c.report_line-2.ensures.cause report_quiet in
+    headline_of _ a.result w c.report_line-2.result _ _ (g.R.Sink.written c.args.report.now) _ _ b ends (λ e. flow (a.ensures.read e)) (λ e. sink (a.ensures.write e))
+    (same ∙ c.told-status.ensures.status) (c.report_line-2.ensures.whole same ∙ ap (and_then (g.R.Sink.written c.args.report.now)) c.told-status.ensures.line)
+
+pub returns-clause-complete : goal.returns-clause-complete
+returns-clause-complete g c w told none flow sink report_quiet =
+    let a = c.decode_pipe-answer in
+    let ends = ends_of a.result _ _ _ _ a.ensures.decoded a.ensures.file a.ensures.frame a.ensures.cut_short a.ensures.sure
+    (λ e. ap g.K.Sink.written (a.ensures.memory e)) w told in
+    let same = not_seven _ c.report_line-2.result _ _ c.report_line-2.ensures.reported c.report_line-2.ensures.cause report_quiet in
+    complete_of _ a.result w c.report_line-2.result _ _ (g.R.Sink.written c.args.report.now) (g.R.Sink.written c.args.report.now) _ none ends
+    (λ e. flow (a.ensures.read e)) (λ e. sink (a.ensures.write e)) (same ∙ c.told-status.ensures.status)
+
+pub returns-clause-ends : goal.returns-clause-ends
+returns-clause-ends g c w told =
+    let a = c.decode_pipe-answer in
+    let b = sym c.is_pipe.ensures ∙ c.if-not-is_pipe.false in
+    let ends = ends_of a.result _ _ _ _ a.ensures.decoded a.ensures.file a.ensures.frame a.ensures.cut_short a.ensures.sure
+    (λ e. ap g.K.Sink.written (a.ensures.memory e)) w told in
+    let status = c.told-status.ensures.status in (
+      status_of a.result,
+      line_of a.result ∷ [],
+      with_words _ w _ _ _ _ b (ends_by a.result w _ _ _ ends),
+      reports_of _ c.report_line-2.result (line_of a.result) _ _ _
+          (subst (λ s. (c.report_line-2.result ≡ s) ⊎ (c.report_line-2.result ≡ 7)) status c.report_line-2.ensures.reported)
+          (λ e. c.report_line-2.ensures.whole (e ∙ sym status)) c.report_line-2.ensures.cut_short c.told-status.ensures.line,
+    )
+
+pub returns-clause-refused : goal.returns-clause-refused
+returns-clause-refused g c five w told =
+    let a = c.decode_pipe-answer in
+    let b = sym c.is_pipe.ensures ∙ c.if-not-is_pipe.false in
+    let same = by_status _ c.report_line-2.result 5 c.report_line-2.ensures.reported five (omega arith) in
+    let is_file = file_of a.result (sym c.told-status.ensures.status ∙ sym same ∙ five) in
+    let out = a.ensures.file is_file.0 is_file.1 w told in (
+      is_file.0,
+      out.0,
+      subst (λ x. OfWords x w (stream_refused is_file.0 out.0)) (sym b) out.1,
+      out.2,
+      c.report_line-2.ensures.whole same ∙ ap (and_then (g.R.Sink.written c.args.report.now)) (c.told-status.ensures.line ∙ ap (λ r. report (line_of r ∷ [])) is_file.1),
+    )
+
+pub returns-clause-frame : goal.returns-clause-frame
+returns-clause-frame g c six w told =
+    let a = c.decode_pipe-answer in
+    let b = sym c.is_pipe.ensures ∙ c.if-not-is_pipe.false in
+    let same = by_status _ c.report_line-2.result 6 c.report_line-2.ensures.reported six (omega arith) in
+    let is_frame = frame_of a.result (sym c.told-status.ensures.status ∙ sym same ∙ six) in
+    let out = a.ensures.frame is_frame.0 is_frame.1 is_frame.2 w told in (
+      is_frame.0,
+      is_frame.1,
+      out.0,
+      subst (λ x. OfWords x w (frame_refused is_frame.0 is_frame.1 out.0)) (sym b) out.1,
+      out.2,
+      c.report_line-2.ensures.whole same ∙ ap (and_then (g.R.Sink.written c.args.report.now)) (c.told-status.ensures.line ∙ ap (λ r. report (line_of r ∷ [])) is_frame.2),
+    )
