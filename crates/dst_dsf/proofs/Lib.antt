@@ -1,0 +1,10 @@
+pub mod RowPlaces
+pub mod RowBytes
+pub mod Gathering
+pub mod Kept
+pub mod Underway
+pub mod Running
+pub mod OneDsf
+pub mod Outcomes
+pub mod Ending
+pub mod Finishing

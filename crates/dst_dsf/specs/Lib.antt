@@ -1,0 +1,7 @@
+pub mod Rows
+pub mod Gathering
+pub mod Said
+pub mod Draining
+pub mod Frames
+pub mod Decoding
+pub mod Rooms

@@ -21,6 +21,18 @@
 //! when it is full, and once more behind the last sound, filled up with 0.
 #![tactic(auto)]
 
+mod decode;
+mod drain;
 mod encode;
+mod frames;
+mod open_row;
+mod opened;
+mod row;
+mod rows;
+mod said;
+#[cfg(test)]
+mod tests;
+mod workspace;
 
+pub use decode::decode_dsf;
 pub use encode::encode_dsf;

@@ -14,11 +14,13 @@ use frame_index::Entry;
 
 /// The stored frames that an index names, read one after the other.
 #[derive(Drop)]
-pub(crate) struct StoredFrames<'a, S: Source> {
-    pub(crate) source: &'a mut S,
-    pub(crate) walked: &'a WalkedForm,
+pub struct StoredFrames<'a, S: Source> {
+    /// The source of the file.
+    pub source: &'a mut S,
+    /// The form, and where its frames stand.
+    pub walked: &'a WalkedForm,
     /// The number of the next frame.
-    pub(crate) next: u32,
+    pub next: u32,
 }
 
 impl<S: Source> Feed<Job> for StoredFrames<'_, S> {

@@ -1,10 +1,14 @@
 // The frames of a coded file, read, worked and written in order.
-ghost use Rattle.std.specs.Prelude.{◌≡◌, ◌<◌, ◌≤◌, ℕ, List, length, Some, IfOk, IfErr};
+ghost use Rattle.std.specs.Prelude.{◌≡◌, ◌<◌, ◌≤◌, ℕ, List, length, Some, IfOk, IfErr, OnOk};
 ghost use Rattle.dsdiff_spec.specs.Form.{size_of_sound};
 ghost use Rattle.dsdiff_chunks.specs.Forms.{coded_seen};
+ghost use Rattle.frame_crew.specs.Answers.{IfFeedFault, IfDrainFault};
+ghost use Rattle.frame_crew.specs.Runs.{Ran, FailsAtFeed, FailsAtDrain};
+ghost use Rattle.dst_commands.specs.Rooms.{shape_number};
 ghost use Rattle.dst_read.specs.Decoding.{IsOpened, FramesEnd, HasItsCause};
+ghost use Rattle.dst_read.specs.Feeding.{GivesFrame, FailsToRead};
 ghost use Rattle.dst_read.specs.Frames.{HasRoomFor, HasRun};
-ghost use Rattle.dst_read.specs.Jobs.{AreJobsFor, AreTablesFor};
+ghost use Rattle.dst_read.specs.Jobs.{AreJobsFor, AreTablesFor, IsWorked};
 
 use crate::drain::SoundWriter;
 use crate::faults::DecodeFault;
@@ -14,8 +18,8 @@ use crate::work::FrameDecoder;
 use dsdiff_chunks::OpenFault;
 use dst_commands::{WalkedForm, sound_size};
 use dst_num::Channels;
-use dst_streams::{Sink, Source};
-use frame_crew::{Gate, InTurn, RunFault, run_ordered};
+use dst_streams::{Failed, Sink, Source};
+use frame_crew::{Drain, Gate, InTurn, RunFault, run_ordered};
 use std::alloc::{AllocError, Global};
 use std::thread::Threads;
 
@@ -86,6 +90,34 @@ pub(crate) fn write_frames<R: Threads + Sync, S: Source, K: Sink, G: Gate>(
     run_frames(rt, &mut feed, &mut drain, gate, tables, jobs)
 }
 
+/// Decodes the stored frames, and drains what became of each, in order.
+///
+/// There are as many workers as tables. What is drained is what one worker drains.
+pub fn decode_frames<R: Threads + Sync, S: Source, D: Drain<Job>, G: Gate>(
+    rt: &R,
+    feed: &mut StoredFrames<'_, S>,
+    drain: &mut D,
+    gate: &G,
+    tables: &mut [Tables],
+    jobs: &mut [Job],
+) -> Result<u32, RunFault<Failed, D::Fault>>
+    requires size { (n : ℕ) × (S.known feed.old.source.now ≡ Some n) × (feed.old.walked.now.form.end ≤ n) }
+    requires tables { AreTablesFor feed.old.walked.now.form.channels tables.old }
+    requires jobs { AreJobsFor feed.old.walked.now.form.channels jobs.old }
+    requires drain_shape { D.shape drain.old ≡ shape_number feed.old.walked.now.form.channels }
+    ensures ran { IfOk result (λ count. Ran (GivesFrame S.bytes S.known S.faults) D.takes (IsWorked feed.old.walked.now.form.channels) feed.old feed.new drain.old drain.new count) }
+    ensures ended { OnOk result (length feed.new.walked.now.index ≤ feed.new.next) }
+    ensures feed_fault { IfFeedFault result (λ fault. FailsAtFeed (GivesFrame S.bytes S.known S.faults) (FailsToRead S.bytes S.known S.faults) D.takes (IsWorked feed.old.walked.now.form.channels)
+        feed.old feed.new drain.old drain.new fault) }
+    ensures drain_fault { IfDrainFault result (λ fault. FailsAtDrain (GivesFrame S.bytes S.known S.faults) (FailsToRead S.bytes S.known S.faults) D.takes D.failed (IsWorked feed.old.walked.now.form.channels)
+        (length jobs.old) feed.old feed.new drain.old drain.new fault) }
+{
+    let each = FrameDecoder {
+        channels: feed.walked.form.channels,
+    };
+    run_ordered(rt, &InTurn { each }, feed, drain, gate, tables, jobs)
+}
+
 // Has the frames worked.
 fn run_frames<R: Threads + Sync, S: Source, K: Sink, G: Gate>(
     rt: &R,
@@ -105,10 +137,7 @@ fn run_frames<R: Threads + Sync, S: Source, K: Sink, G: Gate>(
     ensures { HasRun S.bytes S.known S.faults K.written K.room K.faults (coded_seen feed.old.walked.now.form)
         feed.old feed.new drain.old drain.new result }
 {
-    let each = FrameDecoder {
-        channels: feed.walked.form.channels,
-    };
-    match run_ordered(rt, &InTurn { each }, feed, drain, gate, tables, jobs) {
+    match decode_frames(rt, feed, drain, gate, tables, jobs) {
         Ok(_) => Ok(()),
         Err(RunFault::Feed(_)) => Err(DecodeFault::Source(OpenFault::Read)),
         Err(RunFault::Drain(fault)) => Err(fault),

@@ -13,14 +13,19 @@ use std::alloc::{AllocError, Global};
 /// A frame that is worked: its number, its stored bytes at the front of `frame`, the sound that it means, and what decoding
 /// it answered: the bytes that aren't read, or why the frame is refused.
 #[derive(Drop)]
-pub(crate) struct Job {
-    pub(crate) number: u32,
+pub struct Job {
+    /// The number of the frame, from 0.
+    pub number: u32,
     /// Bytes of the stored frame.
-    pub(crate) size: u32,
-    pub(crate) channels: Channels,
-    pub(crate) frame: Vec<u8>,
-    pub(crate) sound: Vec<u8>,
-    pub(crate) answer: Result<u32, FrameFault>,
+    pub size: u32,
+    /// The channels of the form.
+    pub channels: Channels,
+    /// The stored frame at the front, in room for the longest one.
+    pub frame: Vec<u8>,
+    /// The bytes of the frame's sound.
+    pub sound: Vec<u8>,
+    /// The bytes that decoding didn't read, or why the frame is refused.
+    pub answer: Result<u32, FrameFault>,
 }
 
 impl Slot for Job {
@@ -29,7 +34,7 @@ impl Slot for Job {
 
 /// What one worker decodes with.
 #[derive(Drop)]
-pub(crate) struct Tables {
+pub struct Tables {
     pub(crate) scratch: Scratch,
 }
 
@@ -67,7 +72,7 @@ impl Tables {
 }
 
 /// The jobs of so many workers, no more than there are frames.
-pub(crate) fn jobs_for(
+pub fn jobs_for(
     alloc: Global,
     channels: Channels,
     frames: u32,
@@ -84,7 +89,7 @@ pub(crate) fn jobs_for(
 }
 
 /// What so many workers decode with.
-pub(crate) fn tables_for(
+pub fn tables_for(
     alloc: Global,
     channels: Channels,
     workers: u32,

@@ -12,6 +12,9 @@
 //!     Err(DecodeFault::Frame { frame, fault }) => .. // the first frame that is refused
 //! }
 //! ```
+//!
+//! A crate that does something else with the sounds lends its own drain to [`decode_frames`], which decodes the frames of an opened
+//! file in order. Jobs and tables are those of [`jobs_for`] and [`tables_for`].
 #![tactic(auto)]
 
 mod check;
@@ -33,6 +36,9 @@ pub use decode::decode_file;
 pub use faults::{
     CheckFault, Checked, DecodeFault, Decoded, FrameWritten, ListFault, Reported, ShowFault,
 };
+pub use feed::StoredFrames;
+pub use frames::decode_frames;
+pub use jobs::{Job, Tables, jobs_for, tables_for};
 pub use listing::index_file;
 pub use one_frame::frame_out;
 pub use show::show_file;

@@ -1,12 +1,8 @@
 -- The run is that of one frame after another.
 use Rattle.dsdiff_chunks.specs.Forms.{coded_seen}
-use Rattle.dst_read.proofs.Feeding.{ready_shape}
 use Rattle.frame_crew.specs.Laws.{fault_of_feed, fault_of_drain}
 use Rattle.dst_read.proofs.Running.{run_ended, run_at_read, run_at_job}
 use Rattle.dst_read.proofs.frames.run_frames.Goals as goal
-
-pub run_ordered-requires-clause-feed_shape : goal.run_ordered-requires-clause-feed_shape
-run_ordered-requires-clause-feed_shape g c κs within = ready_shape _ c.args.feed.now.walked.now c.requires.size c.requires.jobs.lawful
 
 pub returns-in-Ok : goal.returns-in-Ok
 returns-in-Ok g c =
@@ -22,7 +18,7 @@ returns-in-Ok g c =
       opened =
           c.requires.opened;
     })
-    c.run_ordered.new.feed c.run_ordered.new.drain c.in-Ok.field-0 c.in-Ok.ensures.ran c.in-Ok.ensures.ended
+    c.decode_frames.new.feed c.decode_frames.new.drain c.in-Ok.field-0 c.in-Ok.ensures.ran c.in-Ok.ensures.ended
 
 pub returns-in-Err-Feed : goal.returns-in-Err-Feed
 returns-in-Err-Feed g c =
@@ -38,8 +34,8 @@ returns-in-Err-Feed g c =
       opened =
           c.requires.opened;
     })
-    c.run_ordered.new.feed c.run_ordered.new.drain c.in-Err-Feed.field-0-0
-    (fault_of_feed c.run_ordered.result _ _ _ c.in-Err-Feed.is c.in-Err-Feed.field-0-is c.run_ordered.ensures.feed_fault)
+    c.decode_frames.new.feed c.decode_frames.new.drain c.in-Err-Feed.field-0-0
+    (fault_of_feed c.decode_frames.result _ _ _ c.in-Err-Feed.is c.in-Err-Feed.field-0-is c.decode_frames.ensures.feed_fault)
 
 pub returns-in-Err-Drain : goal.returns-in-Err-Drain
 returns-in-Err-Drain g c =
@@ -55,5 +51,5 @@ returns-in-Err-Drain g c =
       opened =
           c.requires.opened;
     })
-    c.run_ordered.new.feed c.run_ordered.new.drain _ c.in-Err-Drain.fault
-    (fault_of_drain c.run_ordered.result _ _ _ c.in-Err-Drain.is c.in-Err-Drain.field-0-is c.run_ordered.ensures.drain_fault)
+    c.decode_frames.new.feed c.decode_frames.new.drain _ c.in-Err-Drain.fault
+    (fault_of_drain c.decode_frames.result _ _ _ c.in-Err-Drain.is c.in-Err-Drain.field-0-is c.decode_frames.ensures.drain_fault)

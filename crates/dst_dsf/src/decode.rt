@@ -1,0 +1,120 @@
+// Decoding a coded file to a DSF file.
+ghost use Rattle.std.specs.Prelude.{◌≡◌, ◌⊎◌, ◌≤◌, ◌<◌, ℕ, true, List, length, Some, IfOk, IfErr, OnOk, Err, ◌∷◌, []};
+ghost use Rattle.dst_spec.specs.declared.faults.FrameFault.{FrameFault};
+ghost use Rattle.dst_streams.specs.Causes.{Rose};
+ghost use Rattle.dst_streams.specs.Told.{IsCutShort, and_then};
+ghost use Rattle.dsdiff_spec.specs.declared.faults.FileFault.{FileFault};
+ghost use Rattle.dsdiff_spec.specs.Form.{size_of_sound};
+ghost use Rattle.dsdiff_spec.specs.Rules.{accepted};
+ghost use Rattle.dsdiff_spec.specs.Lines.{decoded_line};
+ghost use Rattle.dsdiff_spec.specs.Words as words;
+ghost use Rattle.dsdiff_spec.specs.Refusal.{refusal};
+ghost use Rattle.dsdiff_spec.specs.Outcome.{Answer, done, frame_refused};
+ghost use Rattle.dsdiff_chunks.specs.Forms.{coded_seen};
+ghost use Rattle.dst_commands.specs.Commands.{OutcomeOf};
+ghost use Rattle.dst_read.specs.Decoding.{IsOpened, HasItsCause};
+ghost use Rattle.dsf_files.specs.Forms.{dsf_seen};
+ghost use Rattle.dst_dsf.specs.Decoding.{IsOpenedAs, DecodingEnds};
+ghost use Rattle.dst_dsf.specs.Rooms.{HasRoomFor};
+
+use crate::frames::write_rows;
+use crate::opened::{DsfFrames, DsfWalked};
+use crate::workspace::Workspace;
+use dsdiff_chunks::OpenFault;
+use dsf_files::write_dsf_head;
+use dst_commands::{open_file, sound_size};
+use dst_read::{DecodeFault, Decoded};
+use dst_streams::{Sink, Source};
+use frame_crew::Gate;
+use std::alloc::Global;
+use std::thread::Threads;
+
+/// Decodes a coded file to a DSF file: writes the one whose sound its frames mean.
+///
+/// Batches of frames are read, decoded by so many workers, 1 to 16, and their sounds gathered in order into rows of blocks. What is
+/// answered and written is what one worker answers and writes. A file or a frame that is refused is told by its first fault; in front of a
+/// refused frame there are the rows that the sounds before it fill whole.
+pub fn decode_dsf<R: Threads + Sync, S: Source, K: Sink, G: Gate>(
+    rt: &R,
+    alloc: Global,
+    source: &mut S,
+    sink: &mut K,
+    workers: u32,
+    gate: &G,
+) -> Result<Decoded, DecodeFault>
+    requires least { 0 < workers }
+    requires most { workers ≤ 16 }
+    ensures bytes { S.bytes source.new ≡ S.bytes source.old }
+    ensures later { (S.faults source.old ≤ S.faults source.new) × (K.faults sink.old ≤ K.faults sink.new) }
+    // the DSF file is written whole
+    ensures decoded { IfOk result (λ s. (file : List ℕ) → S.bytes source.old ≡ Some file →
+        (out : List ℕ) × OutcomeOf words.decode_dsf file (done out (decoded_line s.frames s.bytes ∷ [])) × (K.written sink.new ≡ and_then (K.written sink.old) out)) }
+    ensures frames { IfOk result (λ s. (file : List ℕ) → S.bytes source.old ≡ Some file → s.frames ≡ (accepted file).frames) }
+    ensures size { IfOk result (λ s. (file : List ℕ) → S.bytes source.old ≡ Some file → s.bytes ≡ size_of_sound (accepted file)) }
+    ensures settled { IfOk result (λ _. K.settled sink.new ≡ true) }
+    // a refused file, before anything is written
+    ensures file { (fault : FileFault) → result ≡ Err (DecodeFault.Source (OpenFault.File fault)) → (file : List ℕ) → S.bytes source.old ≡ Some file → refusal words.decode_dsf file ≡ Some fault }
+    ensures untouched { (fault : FileFault) → result ≡ Err (DecodeFault.Source (OpenFault.File fault)) → sink.new ≡ sink.old }
+    // a refused frame, behind the rows that the sounds of all earlier ones fill
+    ensures frame { (k : ℕ) (fault : FrameFault) → result ≡ Err (DecodeFault.Frame k fault) → (file : List ℕ) → S.bytes source.old ≡ Some file →
+        (out : List ℕ) × OutcomeOf words.decode_dsf file (frame_refused k fault out) × (K.written sink.new ≡ and_then (K.written sink.old) out) }
+    // failed devices, each by its cause; what is written then is a prefix of the defined output
+    ensures read { result ≡ Err (DecodeFault.Source OpenFault.Read) → Rose (S.faults source.old) (S.faults source.new) }
+    ensures write { result ≡ Err DecodeFault.Write → Rose (K.faults sink.old) (K.faults sink.new) }
+    ensures cut_short { (result ≡ Err (DecodeFault.Source OpenFault.Read)) ⊎ (result ≡ Err DecodeFault.Write) → (file : List ℕ) → S.bytes source.old ≡ Some file →
+        (o : Answer) × OutcomeOf words.decode_dsf file o × IsCutShort (K.written sink.old) o.out (K.written sink.new) }
+    ensures sure { result ≡ Err DecodeFault.Write → (file : List ℕ) → S.bytes source.old ≡ Some file → (o : Answer) → OutcomeOf words.decode_dsf file o →
+        (room : ℕ) → K.room sink.old ≡ Some room → length o.out ≤ room → ⊥ }
+    // want of memory, before anything is written
+    ensures memory { result ≡ Err (DecodeFault.Source OpenFault.Memory) → sink.new ≡ sink.old }
+{
+    let opened = match open_file(alloc, source, &DsfFrames) {
+        Ok(opened) => opened,
+        Err(fault) => return Err(DecodeFault::Source(fault)),
+    };
+    let DsfWalked { walked, .. } = &opened;
+    let Ok(mut workspace) = Workspace::new(alloc, walked.form.channels, walked.form.frames, workers)
+    else {
+        return Err(DecodeFault::Source(OpenFault::Memory));
+    };
+    write_decoded(rt, source, sink, &opened, gate, &mut workspace)
+}
+
+// Writes the DSF file of an opened coded one, and has it settled.
+fn write_decoded<R: Threads + Sync, S: Source, K: Sink, G: Gate>(
+    rt: &R,
+    source: &mut S,
+    sink: &mut K,
+    opened: &DsfWalked,
+    gate: &G,
+    workspace: &mut Workspace,
+) -> Result<Decoded, DecodeFault>
+    requires size { (n : ℕ) × (S.known source.old ≡ Some n) × (opened.now.walked.form.end ≤ n) }
+    requires room { HasRoomFor opened.now.walked.form.channels workspace.old }
+    requires walked { (file : List ℕ) → S.bytes source.old ≡ Some file → IsOpened file (coded_seen opened.now.walked.form) opened.now.walked.index }
+    requires opened { (file : List ℕ) → S.bytes source.old ≡ Some file → IsOpenedAs file (coded_seen opened.now.walked.form) (dsf_seen opened.now.said) }
+    ensures bytes { S.bytes source.new ≡ S.bytes source.old }
+    ensures source_later { S.faults source.old ≤ S.faults source.new }
+    ensures sink_later { K.faults sink.old ≤ K.faults sink.new }
+    ensures cause { IfErr result (λ fault. HasItsCause fault (S.faults source.old) (S.faults source.new) (K.faults sink.old) (K.faults sink.new)) }
+    ensures done { IfOk result (λ d. d ≡ record { frames = opened.now.walked.form.frames; bytes = size_of_sound (coded_seen opened.now.walked.form) }) }
+    ensures settled { IfOk result (λ _. K.settled sink.new ≡ true) }
+    ensures written { (file : List ℕ) → S.bytes source.old ≡ Some file →
+        DecodingEnds result file (K.written sink.old) (K.written sink.new) (K.room sink.old) }
+{
+    let Ok(()) = write_dsf_head(sink, &opened.said) else {
+        return Err(DecodeFault::Write);
+    };
+    let tables = &mut workspace.tables;
+    let jobs = &mut workspace.jobs;
+    if let Err(fault) = write_rows(rt, source, sink, opened, gate, tables, jobs) {
+        return Err(fault);
+    }
+    let Ok(()) = sink.finish() else {
+        return Err(DecodeFault::Write);
+    };
+    Ok(Decoded {
+        frames: opened.walked.form.frames,
+        bytes: sound_size(&opened.walked.form),
+    })
+}
