@@ -72,7 +72,7 @@ moved-by_answer kept coefs (Some d) =
 pub IsTable-moved_by : (r0 : ℤ) (kept : List State) (sp pp : ℤ) (g : ℕ → ℤ) (coefs : List ℤ) → IfThere (IsTable filter_kind) (moved_by r0 kept sp pp g coefs)
 unfolding moved_by
 IsTable-moved_by r0 kept sp pp g coefs =
-    let answer = solved kept (map (λ j. pull r0 sp pp (g j) (get_or coefs j (pos 0))) (range_with_len 0 (length kept))) in
+    let answer = solved kept (map (λ j. pull r0 sp pp (g j) (get_or coefs j (pos 0))) (range_with_len 0 128)) in
     elim (int_le (sp *ℤ pos (2 ^ 13)) pp) as (λ b. IfThere (IsTable filter_kind) (cond b None
     (elim answer as (λ _. Option (List ℤ)) [ None ↦ None | Some d ↦ Some (fitted kept (target coefs d)) ]))) [
       | true ↦ tt

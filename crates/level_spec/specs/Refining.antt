@@ -43,17 +43,18 @@ gradient f sound weights first (c ∷ channels) j = weighted_agreement f sound w
 
 -- what the step is solved for
 unfoldable pub pull : ℤ → ℤ → ℤ → ℤ → ℤ → ℤ
-pull r0 sp pp g q = int_div_euclid (g *ℤ pp *ℤ pos (2 ^ 17)) sp -ℤ pos 64 *ℤ r0 *ℤ q
+pull r0 sp pp g q = int_div_euclid (g *ℤ pp *ℤ pos (2 ^ 17)) sp -ℤ pos 64 *ℤ (r0 *ℤ q)
 
 -- where a filter is moved, by what solving answers
 abbrev pub target : List ℤ → List ℤ → List ℤ
 target coefs d = map (λ j. get_or coefs j (pos 0) *ℤ pos (2 ^ 24) +ℤ get_or d j (pos 0)) (range_with_len 0 128)
 
--- from a filter to the next one; refining ends where the guesses agree too little, or solving has no answer
+-- From a filter to the next one: solving takes as many of the 128 as there are rows. Refining ends where the guesses agree too
+-- little, or solving has no answer.
 unfoldable pub moved_by : ℤ → List State → ℤ → ℤ → (ℕ → ℤ) → List ℤ → Option (List ℤ)
 moved_by r0 kept sp pp g coefs =
     if int_le (sp *ℤ pos (2 ^ 13)) pp then None
-    else (elim (solved kept (map (λ j. pull r0 sp pp (g j) (get_or coefs j (pos 0))) (range_with_len 0 (length kept)))) [
+    else (elim (solved kept (map (λ j. pull r0 sp pp (g j) (get_or coefs j (pos 0))) (range_with_len 0 128))) [
       | None ↦ None
       | Some d ↦ Some (fitted kept (target coefs d))
     ])

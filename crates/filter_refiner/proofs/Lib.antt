@@ -1,0 +1,11 @@
+pub mod Numbers
+pub mod Keeping
+pub mod Growing
+pub mod Solved
+pub mod Fitted
+pub mod Lengths
+pub mod Celled
+pub mod Agreeing
+pub mod Logarithms
+pub mod Pulling
+pub mod Entries

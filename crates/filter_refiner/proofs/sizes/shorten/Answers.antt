@@ -1,0 +1,77 @@
+use Rattle.std.proofs.Common.{◌≡◌, ◌+◌, ◌-◌, ◌≢◌, ◌≤◌, ℕ, max, not, cond, ◌==◌, Bool, true, false, pos, List, length, map, get_or, take, length-take}
+use Rattle.std.proofs.Common.{ap, sym, ◌∙◌, subst, arith}
+use Rattle.std.proofs.lemmas.Bool.Decides.{nat_tests}
+use Rattle.dst_spec.specs.Table.{prob_kind, IsTable}
+use Rattle.level_spec.specs.Scale.{last_place}
+use Rattle.level_spec.specs.Size.{shortened}
+use Rattle.level_spec.proofs.Tables.{last_place-most}
+use Rattle.level_spec.proofs.Refined.{IsTable-shortened}
+use Rattle.filter_refiner.proofs.Lengths.{last-next}
+use Rattle.filter_refiner.proofs.sizes.shorten.Goals as goal
+use Rattle.filter_refiner.proofs.sizes.shorten.Goals.{then-entries-place, else-entries-place}
+
+abbrev changes : List ℕ → ℕ → Bool
+changes entries p = not (get_or entries p 0 == get_or entries (p - 1) 0)
+
+at-two : (test : ℕ → Bool) → max 2 (last_place test 2) ≡ 2
+at-two test = let most = last_place-most test 2 in omega arith
+
+pub loop-place-init : goal.loop-place-init
+loop-place-init c = sym (at-two (changes c.entries-entries.result.now))
+
+differ : (a b : ℕ) → a ≢ b → not (a == b) ≡ true
+differ a b h = grind (arith, nat_tests)
+
+equal : (a b : ℕ) → a ≡ b → not (a == b) ≡ false
+equal a b h = grind (arith, nat_tests)
+
+pub loop-place-preserved : goal.loop-place-preserved
+loop-place-preserved c =
+    let entries = c.entries-entries.result.now in
+    let place = c.loop-place.place in
+    let next = last-next (changes entries) place in
+    let least = c.loop-place.auto.place in
+    elim c.if-entries-place.branch [
+      | then-entries-place w ↦
+          let is : last_place (changes entries) (place + 1) ≡ place + 1 =
+          next ∙ ap (λ b. cond b (place + 1) (last_place (changes entries) place)) (differ (get_or entries place 0) (get_or entries (place - 1) 0) w.if-entries-place.true) in
+          w.length-is ∙ omega arith
+      | else-entries-place w ↦
+          let is : last_place (changes entries) (place + 1) ≡ last_place (changes entries) place =
+          next ∙ ap (λ b. cond b (place + 1) (last_place (changes entries) place)) (equal (get_or entries place 0) (get_or entries (place - 1) 0) w.if-entries-place.false) in
+          w.length-is ∙ c.loop-place.invariant ∙ ap (max 2) (sym is)
+    ]
+
+-- as many entries as the shortened table has
+front : (entries table : List ℕ) (n place : ℕ) → entries ≡ table → 2 ≤ length table → length entries ≤ place → place ≤ length entries → n ≡ max 2 (last_place (changes entries) place) →
+    (n ≤ length entries) × (take n entries ≡ shortened table)
+unfolding shortened
+front entries table n place e some past within is =
+    let all : place ≡ length entries = omega arith in
+    let most = last_place-most (changes entries) place in
+    let long : length entries ≡ length table = ap length e in (
+      omega arith,
+      ap (λ k. take k entries) (is ∙ ap (λ p. max 2 (last_place (changes entries) p)) all)
+          ∙ ap (λ t. take (max 2 (last_place (changes t) (length t))) t) e,
+    )
+
+pub slice_bounds-new-end : goal.slice_bounds-new-end
+slice_bounds-new-end c =
+    let entries = c.entries-entries.result.now in
+    let is = front entries c.args.table.now c.loop-place.length c.loop-place.place c.entries-entries.ensures.entries c.requires (omega arith)
+    (c.loop-place.auto.place-end (omega (arith, ap length c.entries-entries.ensures.entries, c.requires))) c.loop-place.invariant in
+    omega (arith, is.0, length-take c.loop-place.length entries)
+
+pub unreachable-requires : goal.unreachable-requires
+unreachable-requires c =
+    let entries = c.entries-entries.result.now in
+    let is = front entries c.args.table.now c.loop-place.length c.loop-place.place c.entries-entries.ensures.entries c.requires (omega arith)
+    (c.loop-place.auto.place-end (omega (arith, ap length c.entries-entries.ensures.entries, c.requires))) c.loop-place.invariant in
+    c.in-None.ensures.none (subst (λ t. IsTable prob_kind (map pos t)) (sym is.1) (IsTable-shortened c.args.table.now c.requires c.entries-entries.ensures.table))
+
+pub returns : goal.returns
+returns c =
+    let entries = c.entries-entries.result.now in
+    let is = front entries c.args.table.now c.loop-place.length c.loop-place.place c.entries-entries.ensures.entries c.requires (omega arith)
+    (c.loop-place.auto.place-end (omega (arith, ap length c.entries-entries.ensures.entries, c.requires))) c.loop-place.invariant in
+    c.in-Some.ensures.entries ∙ is.1
