@@ -41,7 +41,7 @@ pub record Has (s : ArithLanes) (n first place range kept high middle low : ℕ)
 pub begins : (s : ArithLanes) (n : ℕ) (bytes : List ℕ) (first offset next : ℕ) → length bytes ≤ 2 ^ 50 → first < 2 ^ 61 →
     offset ≡ number_from (bits bytes) (first + 1) 12 → (offset ≡ 4095 → ⊥) → next ≡ number_from (bits bytes) (first + 13) 32 →
     Has s n first (first + 45) 4095 offset (next / 65536) (next % 65536) 32768 → Begins s n bytes first
-unfolding range_at offset_at used_at first_at
+unfolding range_at offset_at used_at first_at ahead_at
 begins s n bytes first offset next short early offset_is other next_is h =
     let b = begun bytes first offset next short early offset_is other next_is in
     let twelve = number_from-below (bits bytes) (first + 1) 12 (AreBits-bits bytes) in
@@ -55,6 +55,7 @@ begins s n bytes first offset next short early offset_is other next_is h =
       lane = record { registers = rw (h.first_is, h.place_is, h.range_is, value) b.registers };
       first_is = h.first_is;
       used_is = rw (h.first_is, h.place_is, value) b.used_is;
+      ahead = rw value (omega (arith, b.used_is));
       stands = rw (h.first_is, h.place_is, h.range_is, value) b.stands;
     }
 

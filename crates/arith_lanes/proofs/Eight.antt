@@ -1,6 +1,5 @@
 -- One lane of eight, written and read.
-use Rattle.std.proofs.Common.{◌≡◌, ◌≢◌, ℕ, ◌<◌, ◌≤◌, Bool, true, false, nat_eq, List, length, get_or, set, get_or-set_same, get_or-set_other, length-set, refl, ap, arith}
-use Rattle.std.proofs.lemmas.Bool.{eqb-true, eqb-false}
+use Rattle.std.proofs.Common.{◌≡◌, ◌≢◌, ℕ, ◌<◌, List, length, get_or, set, get_or-set_same, get_or-set_other, length-set, refl, ap, arith}
 use Rattle.arith_lanes.specs.Lanes.{registers_at, range_at, offset_at, used_at, first_at, ahead_at, IsKept}
 use Rattle.arith_lanes.specs.declared.lane.Registers.{Registers}
 use Rattle.arith_lanes.specs.declared.lanes.ArithLanes.{ArithLanes}
@@ -56,16 +55,6 @@ registers_other s n m r h =
       get_or-set_other s.middle n m r.middle 0 h,
       get_or-set_other s.low n m r.low 0 h,
     ) refl
-
--- what is true of the numbers of a list is true of it with another one
-pub all_below : (xs : List ℕ) (i x most : ℕ) → x ≤ most → ((k : ℕ) → get_or xs k 0 ≤ most) → i < length xs → (m : ℕ) → get_or (set xs i x) m 0 ≤ most
-all_below xs i x most h all room m = go (nat_eq m i) refl
-  where
-    go : (e : Bool) → nat_eq m i ≡ e → get_or (set xs i x) m 0 ≤ most
-    go true e =
-        let same = eqb-true m i e in
-        rw (same, get_or-set_same xs i x 0 room) h
-    go false e = rw (get_or-set_other xs i m x 0 (eqb-false m i e)) (all m)
 
 -- a lane whose registers and places are the same
 pub kept_same : (old new : ArithLanes) (n : ℕ) → registers_at new n ≡ registers_at old n → get_or new.first n 0 ≡ get_or old.first n 0 →

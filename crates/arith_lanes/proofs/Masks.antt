@@ -1,5 +1,5 @@
 -- Choices by masks of sixteen bits.
-use Rattle.std.proofs.Common.{◌≡◌, ℕ, ◌-◌, ◌^◌, ◌<◌, Bool, true, false, bit_and, if◌then◌else◌, nat_eq, refl, ◌∙◌, arith, mod-eq_of_lt}
+use Rattle.std.proofs.Common.{◌≡◌, ℕ, ◌-◌, ◌^◌, ◌<◌, Bool, true, false, bit_and, if◌then◌else◌, ◌∙◌, arith, mod-eq_of_lt}
 use Rattle.std.specs.Int.Bits.{bit_xor, xor_self, xor_zero_l, xor_zero_r, xor_assoc}
 use Rattle.std.proofs.lemmas.Nat.{and_mask, xor_lt}
 
@@ -14,8 +14,3 @@ chosen_by_mask false x y mask h k e =
     let is : mask ≡ 2 ^ 0 - 1 = e in
     let low : bit_and (bit_xor y x) (2 ^ 0 - 1) ≡ 0 = and_mask (bit_xor y x) 0 ∙ omega arith in
     rw (is, low) (xor_zero_r y)
-
--- the lowest bit of a mask
-pub lowest : (test : Bool) (mask : ℕ) → mask ≡ (if test then 65535 else 0) → nat_eq (bit_and mask 1) 1 ≡ test
-lowest true mask e = rw e refl
-lowest false mask e = rw e refl

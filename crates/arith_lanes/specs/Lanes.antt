@@ -1,5 +1,5 @@
 -- What the arrays of eight decoders hold.
-use Rattle.std.specs.Prelude.{◌≡◌, ℕ, ◌+◌, ◌-◌, ◌*◌, ◌/◌, ◌^◌, ◌<◌, ◌≤◌, nat_eq, Bool, List, [], ◌∷◌, ◌++◌, get_or}
+use Rattle.std.specs.Prelude.{◌≡◌, ℕ, ◌+◌, ◌-◌, ◌*◌, ◌/◌, ◌%◌, ◌^◌, ◌<◌, ◌≤◌, Bool, if◌then◌else◌, List, [], ◌∷◌, ◌++◌, get_or}
 use Rattle.std.specs.Int.{trailing_zeros, w64}
 use Rattle.arith_core.specs.Range.{IsRange}
 use Rattle.arith_decoder.specs.Decoding.{Decoding, StandsFor}
@@ -12,10 +12,14 @@ use Rattle.arith_lanes.specs.declared.lanes.ArithLanes.{ArithLanes}
 abbrev pub value_of : Registers → ℕ
 value_of r = r.kept * 2 ^ 52 + r.high * 2 ^ 36 + r.middle * 2 ^ 20 + r.low * 2 ^ 4
 
--- A symbol of the word's probability makes these registers of those, as in a single decoder.
+-- what a step gives for a symbol: that itself where bit 7 of the word is 1, else the other
+abbrev pub given_of : ℕ → Bool → ℕ
+given_of word symbol = if symbol then (word / 128 % 2) else (1 - word / 128 % 2)
+
+-- A symbol of the word's probability makes these registers of those, as in a single decoder, and this is given for it.
 abbrev pub StepsBy : Registers → ℕ → Registers → ℕ → Type 0
-StepsBy before word after symbol = (p : ℕ) → IsWord p word → IsRange before.range → value_of before < before.range * 2 ^ 52 →
-    IsStep p (value_of before) before.range (nat_eq symbol 1) (value_of after) after.range
+StepsBy before word after given = (p : ℕ) → IsWord p word → IsRange before.range → value_of before < before.range * 2 ^ 52 →
+    (symbol : Bool) × (given ≡ given_of word symbol) × IsStep p (value_of before) before.range symbol (value_of after) after.range
 
 -- the registers of a lane
 abbrev pub registers_at : ArithLanes → ℕ → Registers
@@ -63,6 +67,7 @@ pub record Begins (s : ArithLanes) (n : ℕ) (bytes : List ℕ) (first : ℕ) : 
   pub lane : IsLane s n bytes
   pub first_is : first_at s n ≡ first
   pub used_is : used_at s n ≡ 13
+  pub ahead : ahead_at s n ≡ 32
   pub stands : StandsFor (decoding_at s n bytes) []
 
 -- a lane is what it was, with 47 bits ahead

@@ -1,5 +1,5 @@
 // One symbol of one lane, without a branch and in sixteen bits.
-ghost use Rattle.std.specs.Prelude.{◌≡◌, ℕ, ◌+◌, ◌*◌, ◌/◌, ◌%◌, ◌<◌, ◌≤◌, Bool, if◌then◌else◌, nat_lt};
+ghost use Rattle.std.specs.Prelude.{◌≡◌, ℕ, ◌+◌, ◌*◌, ◌/◌, ◌%◌, ◌<◌, Bool, if◌then◌else◌, nat_lt};
 ghost use Rattle.dst_spec.specs.Interval.{scale as scale_of};
 ghost use Rattle.arith_lanes.specs.Lanes.{StepsBy};
 
@@ -48,11 +48,11 @@ fn times(upper: u16, lower: u16, factor: u16) -> u16
     upper.wrapping_mul(factor).wrapping_add(carried as u16)
 }
 
-/// The registers after a symbol whose probability is in a word, and the symbol. All doublings are one multiplication.
+/// The registers after a symbol whose probability is in a word, and the symbol, turned round where bit 7 of the word is 0. All
+/// doublings are one multiplication.
 #[inline(always)]
 pub(crate) fn lane(r: Registers, word: u16) -> (Registers, u16)
-    ensures step { StepsBy r word result.0 result.1 }
-    ensures bit { result.1 ≤ 1 }
+    ensures { StepsBy r word result.0 result.1 }
 {
     let factor = word >> 8;
     let part = scale(r.range).wrapping_mul(word % 128 + 1);
@@ -70,5 +70,6 @@ pub(crate) fn lane(r: Registers, word: u16) -> (Registers, u16)
         middle: times(r.middle, r.low, by),
         low: r.low.wrapping_mul(by),
     };
-    (after, one & 1)
+    let mark = word / 128 % 2;
+    (after, chosen(one, mark, 1 - mark))
 }

@@ -1,9 +1,9 @@
 // Eight decoders in arrays.
-ghost use Rattle.std.specs.Prelude.{◌≡◌, ◌≢◌, ℕ, ◌+◌, ◌/◌, ◌<◌, ◌≤◌, ◌^◌, false, true, nat_eq, List, [], length, get_or, IfOk, IfErr};
+ghost use Rattle.std.specs.Prelude.{◌≡◌, ◌≢◌, ℕ, ◌+◌, ◌/◌, ◌<◌, ◌≤◌, ◌^◌, Bool, false, true, List, [], length, get_or, IfOk, IfErr};
 ghost use Rattle.dst_spec.specs.Bits.{bits, number_from};
 ghost use Rattle.arith_decoder.specs.Decoding.{IsCodeFault};
 ghost use Rattle.arith_lanes.specs.Words.{IsWord};
-ghost use Rattle.arith_lanes.specs.Lanes.{IsLane, IsKept, Begins, Refills, TakesSymbol, registers_at, value_of, used_at, ahead_at};
+ghost use Rattle.arith_lanes.specs.Lanes.{IsLane, IsKept, Begins, Refills, TakesSymbol, given_of, registers_at, value_of, first_at, used_at, ahead_at};
 
 use crate::lane::{Registers, lane};
 use arith_decoder::ArithDecoder;
@@ -121,24 +121,24 @@ impl ArithLanes {
         kept + high + middle + low
     }
 
-    /// How many bits of the code of lane `n` are used: the first code bit, twelve, and one for each doubling.
-    pub fn used(&self, n: usize) -> u64
+    /// The place in its bytes of the first bit that lane `n` hasn't used: behind the first code bit, twelve, and one for each doubling.
+    pub fn end(&self, n: usize) -> u64
         requires lane { n < 8 }
         requires code { (bytes : List ℕ) × IsLane self.now n bytes }
-        ensures used { result ≡ used_at self.now n }
+        ensures { result ≡ first_at self.now n + used_at self.now n }
     {
         let behind = u64::from(self.value(n).trailing_zeros());
-        self.place[n] + behind - 51 - self.first[n]
+        self.place[n] + behind - 51
     }
 
-    /// The next symbol of each lane, 0 or 1. A lane's probability is in its word. At least eight bits ahead have to be there, and at
-    /// most `2^40` of the code may be used before.
+    /// The next symbol of each lane, 0 or 1, turned round where bit 7 of the lane's word is 0. Its probability is in the word too. At
+    /// least eight bits ahead have to be there, and at most `2^40` of the code may be used before.
     #[inline(always)]
     pub fn decode(&mut self, words: &[u16; 8]) -> [u16; 8]
-        ensures symbols { (n p : ℕ) (bytes : List ℕ) → n < 8 → IsLane self.old n bytes → IsWord p (get_or words.now n 0)
+        ensures { (n p : ℕ) (bytes : List ℕ) → n < 8 → IsLane self.old n bytes → IsWord p (get_or words.now n 0)
             → 8 ≤ ahead_at self.old n → used_at self.old n ≤ 2 ^ 40
-            → TakesSymbol self.old self.new n bytes p (nat_eq (get_or result n 0) 1) }
-        ensures bits { (n : ℕ) → get_or result n 0 ≤ 1 }
+            → (symbol : Bool) × (get_or result n 0 ≡ given_of (get_or words.now n 0) symbol)
+            × TakesSymbol self.old self.new n bytes p symbol }
     {
         let mut symbols = [0; 8];
         for n in 0..8usize {

@@ -9,7 +9,7 @@
 //!     lanes.refill(3, bytes);                  // and so each lane: 47 bits ahead again
 //! }
 //! let symbols = lanes.decode(&words);          // a word has a lane's probability, as `word` gives it
-//! lanes.used(3);                               // bits of the code that are used so far
+//! lanes.end(3);                                // the place behind the bits of its code that are used so far
 //! ```
 //!
 //! A step takes at most eight bits of a lane, and lanes that aren't short hold sixteen: two steps can follow one test.

@@ -8,3 +8,6 @@ pub mod Bytes
 pub mod Whole
 pub mod Frames
 pub mod Further
+pub mod Lanes
+pub mod Running
+pub mod LaneRows

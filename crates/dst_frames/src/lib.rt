@@ -12,10 +12,13 @@
 mod channel;
 mod code;
 mod frame;
+mod octets;
 mod reserved;
 mod samples;
 mod scratch;
+mod slots;
 mod state;
+mod stored;
 mod tables;
 #[cfg(test)]
 mod tests;

@@ -1,12 +1,10 @@
 use Rattle.std.proofs.Common.{◌≡◌, ◌+◌, ◌-◌, ◌*◌, ◌/◌, ◌%◌, nat_lt, if◌then◌else◌, refl, ◌∙◌, arith}
-use Rattle.std.proofs.lemmas.Nat.{and_mask}
 use Rattle.dst_spec.specs.Interval.{scale}
-use Rattle.arith_lanes.proofs.Masks.{lowest}
 use Rattle.arith_lanes.proofs.Parting.{IsParted, lane_steps, bounds, kept_below, left_small, by_below, kept_less, twice}
 use Rattle.arith_lanes.proofs.lane.lane.Goals as goal
 
-pub returns-clause-step : goal.returns-clause-step
-returns-clause-step c = λ p w r below.
+pub returns : goal.returns
+returns c = λ p w r below.
     let range = c.args.r.range in
     let kept = c.args.r.kept in
     let part = scale range * p in
@@ -41,9 +39,6 @@ returns-clause-step c = λ p w r below.
       by_is = by_is;
       kept_is = kept_is;
     } in
-    rw (lowest symbol c.less-one.result one_is, c.times.ensures, c.times-2.ensures, c.times-3.ensures)
-    (lane_steps p range kept c.args.r.high c.args.r.middle c.args.r.low c.args.word symbol part high_end range_left by kept_left c.chosen-by-2.result
-    c.chosen-2.result w r below (omega arith) (omega arith) (omega arith) refl parted by_all_is range_after)
-
-pub returns-clause-bit : goal.returns-clause-bit
-returns-clause-bit c = rw (and_mask c.less-one.result 1) (omega arith)
+    let steps = lane_steps p range kept c.args.r.high c.args.r.middle c.args.r.low c.args.word symbol part high_end range_left by kept_left c.chosen-by-2.result
+    c.chosen-2.result w r below (omega arith) (omega arith) (omega arith) refl parted by_all_is range_after in
+    (symbol, c.chosen-3.ensures symbol one_is, rw (c.times.ensures, c.times-2.ensures, c.times-3.ensures) steps)

@@ -1,6 +1,6 @@
 use Rattle.std.proofs.Common.{◌≢◌, ℕ, ◌<◌, length, get_or, set, get_or-set_same, get_or-set_other, length-set, below_more, sym, ◌∙◌, subst, subst₂, arith}
 use Rattle.arith_lanes.specs.Lanes.{StepsBy, registers_at, range_at}
-use Rattle.arith_lanes.proofs.Eight.{with_registers, eight_with, registers_same, registers_other, all_below}
+use Rattle.arith_lanes.proofs.Eight.{with_registers, eight_with, registers_same, registers_other}
 use Rattle.arith_lanes.proofs.Taking.{takes}
 use Rattle.arith_lanes.proofs.lanes.ArithLanes.decode.Goals as goal
 
@@ -23,7 +23,7 @@ loop-n-preserved c =
     subst₂ (λ a b. StepsBy (registers_at old m) (get_or words m 0) a b) (sym (registers_other s i m r ne))
     (sym (get_or-set_other c.loop-n.symbols i m symbol 0 ne)) (inv.stepped m h) in
     let now : StepsBy (registers_at old i) (get_or words i 0) r symbol =
-    subst (λ a. StepsBy a (get_or words i 0) r symbol) (inv.left i (omega arith)) c.lane-symbol.ensures.step in
+    subst (λ a. StepsBy a (get_or words i 0) r symbol) (inv.left i (omega arith)) c.lane-symbol.ensures in
     let here : P i =
     subst₂ (λ a b. StepsBy (registers_at old i) (get_or words i 0) a b) (sym (registers_same s i r inv.eight few))
     (sym (get_or-set_same c.loop-n.symbols i symbol 0 room)) now in
@@ -36,13 +36,12 @@ loop-n-preserved c =
           registers_other s i m r ne ∙ inv.left m (omega arith);
       first = inv.first;
       place = inv.place;
-      bits = all_below c.loop-n.symbols i symbol 1 c.lane-symbol.ensures.bit inv.bits room;
     }
 
-pub returns-clause-symbols : goal.returns-clause-symbols
+pub returns : goal.returns
 unfolding range_at
-returns-clause-symbols c = λ n p bytes lt lane word enough few.
+returns c = λ n p bytes lt lane word enough few.
     let inv = c.loop-n.invariant in
     let r = lane.registers in
-    takes c.args.self.now c.loop-n.self n bytes p _ inv.first inv.place lane enough few
-    (inv.stepped n (omega arith) p word r.in_range r.below)
+    let s = inv.stepped n (omega arith) p word r.in_range r.below in
+    (s.0, s.1, takes c.args.self.now c.loop-n.self n bytes p s.0 inv.first inv.place lane enough few s.2)

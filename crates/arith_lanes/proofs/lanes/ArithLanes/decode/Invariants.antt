@@ -11,5 +11,4 @@ invariant-loop-n l = record {
   left : (m : ℕ) → l.n ≤ m → registers_at l.self m ≡ registers_at l.initial.self m;
   first : l.self.first ≡ l.initial.self.first;
   place : l.self.place ≡ l.initial.self.place;
-  bits : (m : ℕ) → get_or l.symbols m 0 ≤ 1;
 }

@@ -1,8 +1,8 @@
-use Rattle.std.proofs.Common.{◌≡◌, refl, ap, ◌∙◌, arith}
+use Rattle.std.proofs.Common.{◌≡◌, ap, ◌∙◌, arith}
 use Rattle.std.specs.Int.{trailing_zeros, w64}
-use Rattle.arith_lanes.specs.Lanes.{used_at, first_at, registers_at, value_of}
+use Rattle.arith_lanes.specs.Lanes.{registers_at, value_of}
 use Rattle.arith_lanes.proofs.Beginning.{reaches}
-use Rattle.arith_lanes.proofs.lanes.ArithLanes.used.Goals as goal
+use Rattle.arith_lanes.proofs.lanes.ArithLanes.end.Goals as goal
 
 pub overflow_sub-result : goal.overflow_sub-result
 overflow_sub-result c =
@@ -11,17 +11,9 @@ overflow_sub-result c =
     c.from-behind.ensures ∙ ap (trailing_zeros w64) c.value.ensures.value in
     omega arith
 
-pub overflow_sub-result-2 : goal.overflow_sub-result-2
-unfolding first_at
-overflow_sub-result-2 c =
+pub returns : goal.returns
+returns c =
     let r = reaches c.args.self.now c.args.n c.requires.code.0 c.requires.code.1 in
     let b : c.from-behind.result ≡ trailing_zeros w64 (value_of (registers_at c.args.self.now c.args.n)) =
     c.from-behind.ensures ∙ ap (trailing_zeros w64) c.value.ensures.value in
     omega arith
-
-pub returns : goal.returns
-unfolding used_at
-returns c =
-    let b : c.from-behind.result ≡ trailing_zeros w64 (value_of (registers_at c.args.self.now c.args.n)) =
-    c.from-behind.ensures ∙ ap (trailing_zeros w64) c.value.ensures.value in
-    record { used = rw b refl }
