@@ -6,11 +6,13 @@ use Rattle.arith_decoder.specs.Decoding.{Decoding}
 use Rattle.arith_lanes.specs.Words.{IsWord}
 use Rattle.arith_lanes.specs.Lanes.{IsLane, IsKept, decoding_at, used_at, ahead_at}
 use Rattle.arith_lanes.specs.declared.lanes.ArithLanes.{ArithLanes}
+use Rattle.dst_frames.specs.Tables.{AreBuilt}
 use Rattle.dst_frames.specs.Batch.{IsWordOf, SlotSteps, HasEnough, IsLaneFurther, AreLanes, stored_in, code_at}
-use Rattle.dst_frames.specs.Running.{AreWide, AreWords}
+use Rattle.dst_frames.specs.Running.{AreWide, AreWords, FinishesByte, LaneDecoded}
 use Rattle.dst_frames.specs.declared.state.ChannelState.{ChannelState}
 use Rattle.dst_frames.specs.declared.slots.Slot.{Slot}
 use Rattle.dst_frames.specs.declared.stored.StoredFrame.{StoredFrame}
+use Rattle.dst_frames.specs.declared.stored.DecodedFrame.{DecodedFrame}
 use Rattle.dst_frames.proofs.Lanes.{one_of}
 
 -- ---- the bytes of a lane
@@ -135,3 +137,42 @@ words_on c channels slots new words row w are same long inside m idle = record {
         let ne = eqb-false d c e in
         let move = m n slot h in
         rw (row_other d ne, move.states, get_or-set_other (get_or slots n slot).states.items c d move.state state ne) (are.next n d slot state h k)
+
+-- ---- behind a byte
+abbrev pub AllFinish : ℕ → ℕ → List Slot → List Slot → List DecodedFrame → List DecodedFrame → Type 0
+AllFinish byte channels slots new sounds heard = (n : ℕ) (other : Slot) (frame : DecodedFrame) → n < length slots →
+    FinishesByte byte channels (get_or slots n other) (get_or new n other) (get_or sounds n frame).sound.items (get_or heard n frame).sound.items
+
+pub wide_behind : (byte channels : ℕ) (slots new : List Slot) (sounds heard : List DecodedFrame) → AreWide slots channels → length new ≡ length slots →
+    length sounds ≡ length slots → AllFinish byte channels slots new sounds heard → AreWide new channels
+wide_behind byte channels slots new sounds heard w same many all = record {
+  few = rw same w.few;
+  tables = λ n other h.
+      let lt : n < length slots = omega arith in
+      let lt_sounds : n < length sounds = omega arith in
+      let f = all n other (one_of sounds n lt_sounds) lt in
+      rw f.tables (w.tables n other lt);
+  states = λ n other h.
+      let lt : n < length slots = omega arith in
+      let lt_sounds : n < length sounds = omega arith in
+      let f = all n other (one_of sounds n lt_sounds) lt in
+      f.finishes.wide ∙ w.states n other lt;
+}
+
+pub words_behind : (byte channels : ℕ) (slots new : List Slot) (sounds heard : List DecodedFrame) (words : List (List ℕ)) → AreWords slots words channels →
+    length new ≡ length slots → length sounds ≡ length slots → AllFinish byte channels slots new sounds heard → AreWords new words channels
+words_behind byte channels slots new sounds heard words are same many all = record {
+  some = are.some;
+  next = λ n c slot state h k.
+      let lt : n < length slots = omega arith in
+      let lt_sounds : n < length sounds = omega arith in
+      let f = all n slot (one_of sounds n lt_sounds) lt in
+      rw (f.finishes.next c state) (are.next n c slot state lt k);
+}
+
+-- one byte of each channel more
+pub lane_decoded_on : (n m : ℕ) (bytes : List ℕ) (old mid new : ArithLanes) (before between after : Slot) (sound half heard : List ℕ) →
+    LaneDecoded n 0 m bytes old mid before between sound half → LaneDecoded n m (m + 1) bytes mid new between after half heard →
+    between.tables ≡ before.tables → LaneDecoded n 0 (m + 1) bytes old new before after sound heard
+lane_decoded_on n m bytes old mid new before between after sound half heard a b same = λ f P reserved count built start.
+    b f P reserved (count ∙ ap (λ ts. length ts.items) (sym same)) (subst (λ ts. AreBuilt f P ts.items) (sym same) built) (a f P reserved count built start)

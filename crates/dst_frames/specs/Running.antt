@@ -2,12 +2,14 @@
 use Rattle.std.specs.Prelude.{◌≡◌, ℕ, ◌+◌, ◌*◌, ◌<◌, ◌≤◌, Bool, List, [], length, drop, get_or}
 use Rattle.dst_spec.specs.Sample.{Shape}
 use Rattle.dst_spec.specs.Header.{Params}
+use Rattle.arith_decoder.specs.Decoding.{Decoding}
 use Rattle.arith_lanes.specs.Words.{IsWord}
 use Rattle.arith_lanes.specs.Lanes.{decoding_at}
 use Rattle.arith_lanes.specs.declared.lanes.ArithLanes.{ArithLanes}
 use Rattle.dst_frames.specs.Tables.{AreBuilt}
-use Rattle.dst_frames.specs.Underway.{IsUnderway}
+use Rattle.dst_frames.specs.Underway.{earlier, IsUnderway, IsDecodedTo, AreDecoded}
 use Rattle.dst_frames.specs.Batch.{IsWordOf, AreLanes, code_at}
+use Rattle.dst_frames.specs.declared.tables.ChannelTables.{ChannelTables}
 use Rattle.dst_frames.specs.declared.state.ChannelState.{ChannelState}
 use Rattle.dst_frames.specs.declared.slots.Slot.{Slot}
 use Rattle.dst_frames.specs.declared.stored.StoredFrame.{StoredFrame}
@@ -34,3 +36,21 @@ RowsDecoded f P reserved t place n bytes old new before after = (samples : ℕ �
     IsUnderway f P reserved t place samples (decoding_at old n bytes) before.states.items →
     (later : ℕ → List ℕ) × ((c : ℕ) → c < f.channels → drop 1 (later c) ≡ samples c)
     × IsUnderway f P reserved (t + 1) (place + 1) later (decoding_at new n bytes) after.states.items
+
+-- The eight newest samples of each channel become the next bytes of a frame's sound.
+pub record FinishesSound (byte channels : ℕ) (tables : List ChannelTables) (before after : List ChannelState) (sound heard : List ℕ) : Type 0 where
+  pub wide : length after ≡ length before
+  pub next : (c : ℕ) (other : ChannelState) → (get_or after c other).next ≡ (get_or before c other).next
+  pub long : length heard ≡ length sound
+  pub decoded : (f : Shape) (P : Params) (reserved : Bool) (later : ℕ → List ℕ) (decoder : Decoding) → f.channels ≡ channels →
+      AreBuilt f P tables → IsUnderway f P reserved (8 * byte + 8) 8 later decoder before →
+      ((c : ℕ) → c < f.channels → drop 8 (later c) ≡ earlier f sound c (8 * byte)) → IsDecodedTo f P reserved (byte + 1) heard decoder after
+
+pub record FinishesByte (byte channels : ℕ) (before after : Slot) (sound heard : List ℕ) : Type 0 where
+  pub tables : after.tables ≡ before.tables
+  pub finishes : FinishesSound byte channels before.tables.items before.states.items after.states.items sound heard
+
+-- The bytes of each channel of a frame from one on up to another are decoded in a lane.
+abbrev pub LaneDecoded : ℕ → ℕ → ℕ → List ℕ → ArithLanes → ArithLanes → Slot → Slot → List ℕ → List ℕ → Type 0
+LaneDecoded n from to bytes old new before after sound heard =
+    AreDecoded before.tables.items from to sound heard (decoding_at old n bytes) (decoding_at new n bytes) before.states.items after.states.items
