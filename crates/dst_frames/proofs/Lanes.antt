@@ -96,3 +96,16 @@ some_word slots words now c t start n p live idle word = go (nat_lt n (length sl
         let table : ChannelTables = record { filter = []; entries = []; early = 0 } in
         (_, live n p other table lt word)
     go false e = (p, subst (IsWord p) (sym (idle n (ltb-false n (length slots) e))) word)
+
+-- each first word has some probability
+pub some_first : (slots : List Slot) (row : List ℕ) (c n : ℕ) → n < 8 →
+    ((n : ℕ) (other : Slot) (state : ChannelState) → n < length slots → IsWordOf (get_or (get_or slots n other).states.items c state).next (get_or row n 0)) →
+    ((n : ℕ) → length slots ≤ n → n < 8 → IsWord 1 (get_or row n 0)) → (p : ℕ) × IsWord p (get_or row n 0)
+some_first slots row c n h live idle = go (nat_lt n (length slots)) refl
+  where
+    go : (b : Bool) → nat_lt n (length slots) ≡ b → (p : ℕ) × IsWord p (get_or row n 0)
+    go true e =
+        let lt = ltb-true n (length slots) e in
+        let none : ChannelState = record { ahead = record { lanes = []; newest = 0 }; next = 0 } in
+        (_, (live n (one_of slots n lt) none lt).prob)
+    go false e = (1, idle n (ltb-false n (length slots) e) h)

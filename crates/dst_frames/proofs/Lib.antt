@@ -11,3 +11,4 @@ pub mod Further
 pub mod Lanes
 pub mod Running
 pub mod LaneRows
+pub mod Begun

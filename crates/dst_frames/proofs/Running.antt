@@ -1,7 +1,9 @@
 -- A batch on its way: its lanes, its slots and its words.
-use Rattle.std.proofs.Common.{◌≡◌, ◌≢◌, ℕ, zero, suc, ◌+◌, ◌*◌, ◌/◌, ◌%◌, ◌<◌, ◌≤◌, nat_eq, nat_lt, Bool, true, false, List, [], ◌∷◌, length, get_or, set}
+use Rattle.std.proofs.Common.{◌≡◌, ◌≢◌, ℕ, zero, suc, ◌+◌, ◌*◌, ◌/◌, ◌%◌, ◌<◌, ◌≤◌, nat_eq, nat_lt, Bool, true, false, ◌-◌, List, [], ◌∷◌, ◌++◌, length, take, drop, get_or, set, length-append, length-drop}
 use Rattle.std.proofs.Common.{get_or-set_same, get_or-set_other, length-set, refl, ap, sym, ◌∙◌, subst, subst₂, arith, ltb-true, ltb-false}
 use Rattle.std.proofs.lemmas.Bool.{eqb-true, eqb-false}
+use Rattle.std.proofs.lemmas.List.{get_or_append_left, get_or-take, length-take-le, get_or-drop, get_or-append-add}
+use borrow.Rule.Slice.PartMut.{put_mid}
 use Rattle.arith_decoder.specs.Decoding.{Decoding}
 use Rattle.arith_lanes.specs.Words.{IsWord}
 use Rattle.arith_lanes.specs.Lanes.{IsLane, IsKept, decoding_at, used_at, ahead_at}
@@ -176,3 +178,63 @@ pub lane_decoded_on : (n m : ℕ) (bytes : List ℕ) (old mid new : ArithLanes) 
     between.tables ≡ before.tables → LaneDecoded n 0 (m + 1) bytes old new before after sound heard
 lane_decoded_on n m bytes old mid new before between after sound half heard a b same = λ f P reserved count built start.
     b f P reserved (count ∙ ap (λ ts. length ts.items) (sym same)) (subst (λ ts. AreBuilt f P ts.items) (sym same) built) (a f P reserved count built start)
+
+-- a slot of the same width in the place of another
+pub wide_set : (channels i : ℕ) (slots : List Slot) (new : Slot) → AreWide slots channels → i < length slots → length new.tables.items ≡ channels →
+    length new.states.items ≡ channels → AreWide (set slots i new) channels
+wide_set channels i slots new w lt t s = record {
+  few = rw length-set w.few;
+  tables = λ n other h. tables_at n other (omega (arith, length-set slots i new)) (nat_eq n i) refl;
+  states = λ n other h. states_at n other (omega (arith, length-set slots i new)) (nat_eq n i) refl;
+}
+  where
+    tables_at : (n : ℕ) (other : Slot) → n < length slots → (b : Bool) → nat_eq n i ≡ b → length (get_or (set slots i new) n other).tables.items ≡ channels
+    tables_at n other h true e = let is = eqb-true n i e in rw (is, get_or-set_same slots i new other lt) t
+    tables_at n other h false e = rw (get_or-set_other slots i n new other (eqb-false n i e)) (w.tables n other h)
+
+    states_at : (n : ℕ) (other : Slot) → n < length slots → (b : Bool) → nat_eq n i ≡ b → length (get_or (set slots i new) n other).states.items ≡ channels
+    states_at n other h true e = let is = eqb-true n i e in rw (is, get_or-set_same slots i new other lt) s
+    states_at n other h false e = rw (get_or-set_other slots i n new other (eqb-false n i e)) (w.states n other h)
+
+-- slots in front of others
+pub wide_take : (channels count : ℕ) (slots : List Slot) → AreWide slots channels → count ≤ length slots → AreWide (take count slots) channels
+wide_take channels count slots w le =
+    let long = length-take-le count slots le in
+    record {
+      few = omega (arith, w.few, long);
+      tables = λ n other h. rw (get_or-take count slots n other (omega (arith, long))) (w.tables n other (omega (arith, long)));
+      states = λ n other h. rw (get_or-take count slots n other (omega (arith, long))) (w.states n other (omega (arith, long)));
+    }
+
+pub wide_front : (channels count : ℕ) (slots front : List Slot) → AreWide slots channels → AreWide front channels → length front ≡ count → count ≤ length slots →
+    AreWide (put_mid 0 count slots front) channels
+wide_front channels count slots front w v same le =
+    let rest = drop count slots in
+    let left = length-drop count slots in
+    let all = length-append front rest in
+    record {
+      few = omega (arith, w.few, left, all);
+      tables = λ n other h. tables_at n other (omega (arith, left, all)) (nat_lt n (length front)) refl;
+      states = λ n other h. states_at n other (omega (arith, left, all)) (nat_lt n (length front)) refl;
+    }
+  where
+    behind : (n : ℕ) (other : Slot) → length front ≤ n → get_or (front ++ drop count slots) n other ≡ get_or slots n other
+    behind n other h =
+        let at : length front + (n - length front) ≡ n = omega arith in
+        let place : count + (n - length front) ≡ n = omega arith in
+        ap (λ k. get_or (front ++ drop count slots) k other) (sym at) ∙ get_or-append-add front (drop count slots) (n - length front) other
+        ∙ get_or-drop count slots (n - length front) other ∙ ap (λ k. get_or slots k other) place
+
+    tables_at : (n : ℕ) (other : Slot) → n < length slots → (b : Bool) → nat_lt n (length front) ≡ b →
+        length (get_or (front ++ drop count slots) n other).tables.items ≡ channels
+    tables_at n other h true e =
+        let lt = ltb-true n (length front) e in
+        rw (get_or_append_left front (drop count slots) other n lt) (v.tables n other lt)
+    tables_at n other h false e = rw (behind n other (ltb-false n (length front) e)) (w.tables n other h)
+
+    states_at : (n : ℕ) (other : Slot) → n < length slots → (b : Bool) → nat_lt n (length front) ≡ b →
+        length (get_or (front ++ drop count slots) n other).states.items ≡ channels
+    states_at n other h true e =
+        let lt = ltb-true n (length front) e in
+        rw (get_or_append_left front (drop count slots) other n lt) (v.states n other lt)
+    states_at n other h false e = rw (behind n other (ltb-false n (length front) e)) (w.states n other h)

@@ -1,11 +1,19 @@
 -- Frames that are decoded side by side.
-use Rattle.std.specs.Prelude.{◌≡◌, ℕ, ◌+◌, ◌*◌, ◌/◌, ◌%◌, ◌<◌, ◌≤◌, ◌&&◌, nat_eq, nat_lt, ℤ, Bool, List, [], ◌∷◌, length, map, take, get_or, set}
-use Rattle.dst_spec.specs.Header.{bit_of}
+use Rattle.std.specs.Prelude.{◌≡◌, ℕ, ◌+◌, ◌*◌, ◌/◌, ◌%◌, ◌<◌, ◌≤◌, ◌&&◌, nat_eq, nat_lt, ℤ, Bool, List, [], ◌∷◌, length, map, take, replicate, get_or, set, Result, IfOk, IfErr}
+use Rattle.dst_spec.specs.Bits.{bits}
+use Rattle.dst_spec.specs.Sample.{Shape}
+use Rattle.dst_spec.specs.Header.{Params, HasHeader, bit_of}
+use Rattle.dst_spec.specs.Guess.{filter_of, probs_of}
+use Rattle.dst_spec.specs.Symbols.{reserved_probability}
+use Rattle.dst_spec.specs.Means.{Means, MeansWithTail}
+use Rattle.dst_spec.specs.Offends.{Offends}
+use Rattle.dst_spec.specs.declared.faults.FrameFault.{FrameFault}
+use Rattle.byte_predictor.specs.Samples.{samples_of}
 use Rattle.arith_decoder.specs.Decoding.{Decoding}
 use Rattle.arith_lanes.specs.Words.{IsWord}
-use Rattle.arith_lanes.specs.Lanes.{IsLane, decoding_at, first_at, used_at, ahead_at}
+use Rattle.arith_lanes.specs.Lanes.{IsLane, Begins, decoding_at, first_at, used_at, ahead_at}
 use Rattle.arith_lanes.specs.declared.lanes.ArithLanes.{ArithLanes}
-use Rattle.dst_frames.specs.Tables.{IsBuilt, prob_in}
+use Rattle.dst_frames.specs.Tables.{IsBuilt, AreBuilt, prob_in}
 use Rattle.dst_frames.specs.Ready.{IsReady}
 use Rattle.dst_frames.specs.Underway.{IsNext}
 use Rattle.dst_frames.specs.declared.tables.ChannelTables.{ChannelTables}
@@ -67,3 +75,23 @@ pub record HasEnough (old new : ArithLanes) (n : ℕ) (bytes : List ℕ) : Type 
 pub record AreLanes (lanes : ArithLanes) (codes : ℕ → List ℕ) (most : ℕ) : Type 0 where
   pub lane : (n : ℕ) → n < 8 → IsLane lanes n (codes n)
   pub used : (n : ℕ) → n < 8 → used_at lanes n ≤ most
+
+-- a frame is decoded: it means this sound with so many unread bytes behind it, or else it is refused for this
+pub record IsDecoded (f : Shape) (frame sound : List ℕ) (answer : Result ℕ FrameFault) : Type 0 where
+  pub sound_is : IfOk answer (MeansWithTail f frame sound)
+  pub whole : IfOk answer (λ _. (fault : FrameFault) → Offends f frame fault → ⊥)
+  pub fault : IfErr answer (Offends f frame)
+  pub no_sound : IfErr answer (λ _. (other : List ℕ) → Means f frame other → ⊥)
+
+-- what is known of a lane whose code begins: the parameters of its frame, and the word of the reserved symbol
+pub record HasBegun (f : Shape) (lanes : ArithLanes) (n : ℕ) (bytes : List ℕ) (slot : Slot) (word : ℕ) : Type 0 where
+  pub params : Params
+  pub place : ℕ
+  pub begins : Begins lanes n bytes place
+  pub inside : place ≤ 8 * length bytes
+  pub header : HasHeader f.channels params (take place (bits bytes))
+  pub first_bit : get_or (bits bytes) place 0 ≡ 0
+  pub reserved : IsWord (reserved_probability params) word
+  pub built : AreBuilt f params slot.tables.items
+  pub fresh : (c : ℕ) (other : ChannelState) → c < f.channels →
+      IsReady (filter_of params c) (probs_of params c) 0 (samples_of (replicate 16 170)) (get_or slot.states.items c other)

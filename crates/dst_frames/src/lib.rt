@@ -9,6 +9,8 @@
 //! reserved symbol.
 #![tactic(auto)]
 
+mod batch;
+mod batch_scratch;
 mod channel;
 mod code;
 mod frame;
@@ -23,8 +25,11 @@ mod tables;
 #[cfg(test)]
 mod tests;
 
+pub use batch::decode_batch;
+pub use batch_scratch::BatchScratch;
 pub use channel::{channel_filter, channel_half_prob, channel_probs};
 pub use frame::decode_frame;
 pub use reserved::reserved_probability;
 pub use scratch::Scratch;
+pub use stored::{DecodedFrame, StoredFrame};
 pub use tables::prob_within;

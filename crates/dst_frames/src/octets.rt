@@ -194,6 +194,7 @@ pub(crate) fn decode_octets(
     requires inside { (n : ℕ) (other : DecodedFrame) → n < length heard.old
         → octets * length words.old ≤ length (get_or heard.old n other).sound.items }
     ensures lanes { (n : ℕ) → n < 8 → IsLaneFurther lanes.old lanes.new n (code_at frames.now n) (384 * octets) }
+    ensures wide { AreWide slots.new (length words.old) }
     ensures long { (n : ℕ) (other : DecodedFrame) → n < length heard.old
         → length (get_or heard.new n other).sound.items ≡ length (get_or heard.old n other).sound.items }
     ensures sound { (n : ℕ) (other : Slot) (frame : DecodedFrame) → n < length slots.old

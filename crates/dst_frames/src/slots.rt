@@ -1,5 +1,5 @@
 // What the frames of a batch are decoded with, sample after sample.
-ghost use Rattle.std.specs.Prelude.{◌≡◌, ◌<◌, ◌≤◌, ◌+◌, ◌*◌, ◌/◌, ◌%◌, ◌^◌, ℕ, Bool, List, ◌&&◌, nat_eq, nat_lt, length, get_or, if◌then◌else◌};
+ghost use Rattle.std.specs.Prelude.{◌≡◌, ◌<◌, ◌≤◌, ◌+◌, ◌*◌, ◌/◌, ◌%◌, ◌^◌, ℕ, Bool, List, ◌&&◌, nat_eq, nat_lt, length, get_or, if◌then◌else◌, IfOk};
 ghost use Rattle.arith_lanes.specs.Words.{IsWord};
 ghost use Rattle.arith_lanes.specs.Lanes.{IsLane, decoding_at, used_at, ahead_at};
 ghost use Rattle.dst_frames.specs.Batch.{TakesSample, SlotTakes, SlotSteps, IsWordOf, IsLaneFurther};
@@ -9,12 +9,32 @@ ghost use Rattle.dst_frames.specs.declared.tables.ChannelTables.{ChannelTables};
 use crate::state::ChannelState;
 use crate::tables::ChannelTables;
 use arith_lanes::{ArithLanes, word};
+use std::alloc::{AllocError, Global};
 
 /// What one frame of a batch is decoded with.
 #[derive(Drop)]
 pub(crate) struct Slot {
     pub(crate) tables: Vec<ChannelTables>,
     pub(crate) states: Vec<ChannelState>,
+}
+
+impl Slot {
+    /// Tables and states of so many channels.
+    pub(crate) fn new(alloc: Global, count: usize) -> Result<Slot, AllocError>
+        requires { count ≤ 6 }
+        ensures tables { IfOk result (λ s. length s.tables.items ≡ count) }
+        ensures states { IfOk result (λ s. length s.states.items ≡ count) }
+    {
+        let mut tables = Vec::with_capacity(alloc, count)?;
+        // Room for one state more than there are, as in the scratch for one frame.
+        let mut states = Vec::with_capacity(alloc, count + 1)?;
+        for _ in 0..count {
+            let one = ChannelTables::new();
+            states.push(ChannelState::fresh(&one))?;
+            tables.push(one)?;
+        }
+        Ok(Slot { tables, states })
+    }
 }
 
 // Takes the next sample of a channel, 1 where 1 is given. Gives the word of the sample after it.

@@ -1,5 +1,5 @@
 // A frame as it is stored, and what decoding makes of it.
-ghost use Rattle.std.specs.Prelude.{◌≡◌, ◌≤◌, length};
+ghost use Rattle.std.specs.Prelude.{◌≡◌, ◌^◌, ◌<◌, ◌≤◌, length};
 ghost use Rattle.dst_frames.specs.Batch.{stored_in};
 
 use dst_num::FrameFault;
@@ -22,7 +22,8 @@ impl StoredFrame {
     /// The stored bytes.
     pub fn stored(&self) -> &[u8]
         requires { self.now.size ≤ length self.now.bytes.items }
-        ensures { result.now ≡ stored_in self.now }
+        ensures bytes { result.now ≡ stored_in self.now }
+        ensures short { length result.now < 2 ^ 32 }
     {
         &self.bytes[..self.size as usize]
     }

@@ -6,7 +6,7 @@ use Rattle.dst_frames.proofs.octets.code_bytes.Goals as goal
 
 pub returns-then-n-frames : goal.returns-then-n-frames
 returns-then-n-frames c =
-    c.stored.ensures ∙ ap (λ (f : StoredFrame). stored_in f) c.index-frames-n.is
+    c.stored.ensures.bytes ∙ ap (λ (f : StoredFrame). stored_in f) c.index-frames-n.is
     ∙ code_of c.args.frames.now c.args.n c.index-frames-n.result (omega arith)
 
 pub returns-else-n-frames : goal.returns-else-n-frames
