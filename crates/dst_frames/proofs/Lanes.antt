@@ -47,8 +47,11 @@ pub slot_steps : (c place t : ℕ) (start : Bool) (before after : Slot) (old new
     SlotTakes c place given before after next → c < length before.states.items →
     IsWordOf (get_or before.states.items c state).next word → now / 128 % 2 ≡ word / 128 % 2 →
     ((table : ChannelTables) → (s : Bool) × (given ≡ given_of now s)
-    × ((pairs : List (Bool × ℕ)) → StandsFor old pairs → StandsFor new (pairs ++ (s, (if (start && nat_lt t (get_or before.tables.items c table).early)
-    then 128 else prob_in ((get_or before.states.items c state).next % 128))) ∷ []))) →
+    × ((pairs : List (Bool × ℕ)) → StandsFor old pairs → StandsFor new (pairs ++ (
+      s,
+      (if (start && nat_lt t (get_or before.tables.items c table).early)
+          then 128 else prob_in ((get_or before.states.items c state).next % 128)),
+    ) ∷ []))) →
     SlotSteps c place t start before after old new next
 slot_steps c place t start before after old new given next word now state taken inside is same decoded = record {
   tables = taken.tables;

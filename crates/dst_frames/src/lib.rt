@@ -5,6 +5,13 @@
 //! let unread = decode_frame(&frame, channels, &mut scratch, &mut sound)?; // the sound of the frame
 //! ```
 //!
+//! Up to eight frames of one shape are decoded side by side on one processor, which takes about half the time:
+//!
+//! ```text
+//! let mut scratch = BatchScratch::new(alloc, channels)?;
+//! decode_batch(&frames, channels, &mut scratch, &mut heard); // a sound and an answer for each
+//! ```
+//!
 //! What an encoder reads of parameters in the same way is public too: what they give a channel, and the probability of the
 //! reserved symbol.
 #![tactic(auto)]

@@ -45,7 +45,11 @@ fn code_bytes(frames: &[StoredFrame], n: usize) -> &[u8]
     requires stored { AreStored frames.now }
     ensures { result.now ≡ code_at frames.now n }
 {
-    if n < frames.len() { frames[n].stored() } else { &[] }
+    if n < frames.len() {
+        frames[n].stored()
+    } else {
+        &[]
+    }
 }
 
 /// Decodes the sample at a place of a byte, of each channel of each frame.
@@ -79,7 +83,15 @@ fn decode_place(
     samples_before();
     for c in 0..words.len() {
         refill_where_short(lanes, frames);
-        decode_next(lanes, slots, c, place, 8 * byte + place, start, &mut words[c]);
+        decode_next(
+            lanes,
+            slots,
+            c,
+            place,
+            8 * byte + place,
+            start,
+            &mut words[c],
+        );
     }
 }
 
@@ -100,7 +112,12 @@ fn finish_sound(
     ensures { FinishesSound byte channels tables.now states.old states.new sound.old sound.new }
 {
     let first = byte * channels;
-    finish_byte(tables, states, channels, &mut sound[first..first + channels]);
+    finish_byte(
+        tables,
+        states,
+        channels,
+        &mut sound[first..first + channels],
+    );
 }
 
 #[inline(always)]
@@ -128,7 +145,7 @@ fn finish_all(slots: &mut [Slot], channels: usize, heard: &mut [DecodedFrame], b
     requires inside { (n : ℕ) (other : DecodedFrame) → n < length heard.old → (byte + 1) * channels ≤ length (get_or heard.old n other).sound.items }
     ensures { (n : ℕ) (other : Slot) (frame : DecodedFrame) → n < length slots.old
         → FinishesByte byte channels (get_or slots.old n other) (get_or slots.new n other) (get_or heard.old n frame).sound.items
-            (get_or heard.new n frame).sound.items }
+        (get_or heard.new n frame).sound.items }
 {
     for n in 0..slots.len() {
         finish_in_slot(&mut slots[n], channels, &mut heard[n], byte);
@@ -165,7 +182,7 @@ fn decode_octet(
         → length (get_or heard.new n other).sound.items ≡ length (get_or heard.old n other).sound.items }
     ensures sound { (n : ℕ) (other : Slot) (frame : DecodedFrame) → n < length slots.old
         → LaneDecoded n byte (byte + 1) (code_at frames.now n) lanes.old lanes.new (get_or slots.old n other) (get_or slots.new n other)
-            (get_or heard.old n frame).sound.items (get_or heard.new n frame).sound.items }
+        (get_or heard.old n frame).sound.items (get_or heard.new n frame).sound.items }
 {
     for place in 0..8 {
         decode_place(lanes, frames, slots, words, byte, place, start);
@@ -199,7 +216,7 @@ pub(crate) fn decode_octets(
         → length (get_or heard.new n other).sound.items ≡ length (get_or heard.old n other).sound.items }
     ensures sound { (n : ℕ) (other : Slot) (frame : DecodedFrame) → n < length slots.old
         → LaneDecoded n 0 octets (code_at frames.now n) lanes.old lanes.new (get_or slots.old n other) (get_or slots.new n other)
-            (get_or heard.old n frame).sound.items (get_or heard.new n frame).sound.items }
+        (get_or heard.old n frame).sound.items (get_or heard.new n frame).sound.items }
 {
     for byte in 0..16 {
         decode_octet(lanes, frames, slots, words, heard, byte, true);

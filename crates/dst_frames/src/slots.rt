@@ -105,7 +105,11 @@ fn early_word(early: bool, own: u16) -> u16
     ensures prob { (p : ℕ) → IsWord p own → IsWord (if early then 128 else p) result }
     ensures mark { result / 128 % 2 ≡ own / 128 % 2 }
 {
-    if early { word((own % 256 / 128 * 128) as u8) } else { own }
+    if early {
+        word((own % 256 / 128 * 128) as u8)
+    } else {
+        own
+    }
 }
 
 // The words of the samples before sample `t`. Only at the start there are early ones.
@@ -118,7 +122,11 @@ fn words_at(slots: &[Slot], c: usize, t: usize, start: bool, words: &[u16; 8]) -
     ensures mark { (n : ℕ) → get_or result n 0 / 128 % 2 ≡ get_or words.now n 0 / 128 % 2 }
     ensures others { (n : ℕ) → length slots.now ≤ n → get_or result n 0 ≡ get_or words.now n 0 }
 {
-    if start { early_words(slots, c, t, words) } else { *words }
+    if start {
+        early_words(slots, c, t, words)
+    } else {
+        *words
+    }
 }
 
 /// Decodes the next sample of channel `c` of each frame, sample `t` of the channel.
@@ -140,7 +148,7 @@ pub(crate) fn decode_next(
         → 8 ≤ ahead_at lanes.old n → used_at lanes.old n ≤ 2 ^ 40
         → IsWordOf (get_or (get_or slots.old n other).states.items c state).next (get_or words.old n 0)
         → SlotSteps c place t start (get_or slots.old n other) (get_or slots.new n other) (decoding_at lanes.old n bytes)
-            (decoding_at lanes.new n bytes) (get_or words.new n 0) }
+        (decoding_at lanes.new n bytes) (get_or words.new n 0) }
     ensures further { (n p : ℕ) (bytes : List ℕ) → n < 8 → IsLane lanes.old n bytes → 8 ≤ ahead_at lanes.old n
         → used_at lanes.old n ≤ 2 ^ 40 → IsWord p (get_or words.old n 0) → IsLaneFurther lanes.old lanes.new n bytes 8 }
     ensures others { (n : ℕ) → length slots.old ≤ n → get_or words.new n 0 ≡ get_or words.old n 0 }

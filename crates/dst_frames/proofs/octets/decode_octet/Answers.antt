@@ -16,9 +16,12 @@ loop-place-init c = record {
   words = c.requires.words;
   tables = λ n other h. refl;
   samples = λ n other f P reserved samples h count built u.
-      let none : 8 * c.args.byte ≡ 8 * c.args.byte + 0 = omega arith in
-      (samples, λ j h. refl, subst (λ t. IsUnderway f P reserved t 0 samples (decoding_at c.args.lanes.now n (code_at c.args.frames.now n))
-      (get_or c.args.slots.now n other).states.items) none u);
+      let none : 8 * c.args.byte ≡ 8 * c.args.byte + 0 = omega arith in (
+        samples,
+        λ j h. refl,
+        subst (λ t. IsUnderway f P reserved t 0 samples (decoding_at c.args.lanes.now n (code_at c.args.frames.now n))
+            (get_or c.args.slots.now n other).states.items) none u,
+      );
 }
 
 pub decode_place-requires-clause-lanes : goal.decode_place-requires-clause-lanes
@@ -48,7 +51,7 @@ loop-place-preserved c =
             e.0,
             λ j h. one_more_dropped place (e.0 j) (at.0 j) (samples j) (e.1 j h) (at.1 j h),
             subst (λ m. IsUnderway f P reserved m (place + 1) e.0 (decoding_at t n (code_at c.args.frames.now n))
-            (get_or c.decode_place.new.slots n other).states.items) more e.2,
+                (get_or c.decode_place.new.slots n other).states.items) more e.2,
           );
     }
 
