@@ -8,3 +8,7 @@ pub mod Bytes
 pub mod Whole
 pub mod Frames
 pub mod Further
+pub mod Lanes
+pub mod Running
+pub mod LaneRows
+pub mod Begun

@@ -11,7 +11,7 @@ use Rattle.byte_predictor.specs.Upward.{upward_sum}
 use Rattle.dst_frames.specs.Tables.{prob_at, prob_in, IsEntry, IsBuilt, symbol_after}
 use Rattle.dst_frames.specs.declared.tables.ChannelTables.{ChannelTables}
 
-high_is : (e : ℕ) → leb 128 e ≡ not (nat_lt e 128)
+pub high_is : (e : ℕ) → leb 128 e ≡ not (nat_lt e 128)
 high_is e = grind (arith, nat_tests)
 
 turned_back : (s negative : Bool) → s ≡ (if negative then not (beq s (not negative)) else beq s (not negative))

@@ -4,3 +4,5 @@ pub mod Tables
 pub mod Ready
 pub mod Underway
 pub mod Coded
+pub mod Batch
+pub mod Running

@@ -57,7 +57,7 @@ pub(crate) fn decode_code(
 }
 
 // The tables of each channel, and no samples yet.
-fn build_all(tables: &mut [ChannelTables], states: &mut [ChannelState], params: &Params)
+pub(crate) fn build_all(tables: &mut [ChannelTables], states: &mut [ChannelState], params: &Params)
     requires channels { length params.now.half_prob ≡ length tables.old }
     requires states { length states.old ≡ length tables.old }
     ensures built { (f : Shape) → f.channels ≡ length tables.old → AreBuilt f params.now tables.new }

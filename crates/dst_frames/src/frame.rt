@@ -7,6 +7,8 @@ ghost use Rattle.dst_spec.specs.declared.faults.FrameFault.{FrameFault};
 
 use crate::code::decode_code;
 use crate::scratch::Scratch;
+use crate::state::ChannelState;
+use crate::tables::ChannelTables;
 use dst_num::{Channels, FrameFault};
 use frame_header::{FrameView, view_frame};
 
@@ -27,6 +29,28 @@ pub fn decode_frame(
     ensures no_sound { IfErr result (λ _. (sound : List ℕ) → Means channels frame.now sound → ⊥) }
     ensures channels { scratch.new.channels ≡ scratch.old.channels }
 {
+    let tables = scratch.tables.as_mut_slice();
+    let states = scratch.states.as_mut_slice();
+    decode_with(frame, channels, tables, states, out)
+}
+
+/// The same with the tables and states of as many channels.
+pub(crate) fn decode_with(
+    frame: &[u8],
+    channels: Channels,
+    tables: &mut [ChannelTables],
+    states: &mut [ChannelState],
+    out: &mut [u8],
+) -> Result<u32, FrameFault>
+    requires tables { length tables.old ≡ channels.channels }
+    requires states { length states.old ≡ channels.channels }
+    requires out { length out.old ≡ sound_bytes channels }
+    requires frame { length frame.now ≤ 2 * (sound_bytes channels + 1) }
+    ensures sound { IfOk result (MeansWithTail channels frame.now out.new) }
+    ensures whole { IfOk result (λ _. (fault : FrameFault) → Offends channels frame.now fault → ⊥) }
+    ensures fault { IfErr result (Offends channels frame.now) }
+    ensures no_sound { IfErr result (λ _. (sound : List ℕ) → Means channels frame.now sound → ⊥) }
+{
     let octets = 4704 * channels.multiple();
     match view_frame(frame, channels) {
         Err(fault) => Err(fault),
@@ -35,8 +59,6 @@ pub fn decode_frame(
             Ok((frame.len() - 1 - sound.len()) as u32)
         }
         Ok(FrameView::Coded(params, code)) => {
-            let tables = scratch.tables.as_mut_slice();
-            let states = scratch.states.as_mut_slice();
             match decode_code(code, &params, tables, states, octets, out) {
                 Err(fault) => Err(fault),
                 Ok(used) => Ok(unread(frame.len(), code.first + used)),
@@ -45,8 +67,8 @@ pub fn decode_frame(
     }
 }
 
-// The bytes behind the last one that has some of the first bits.
-fn unread(bytes: usize, bits: u64) -> u32
+/// The bytes behind the last one that has some of the first bits.
+pub(crate) fn unread(bytes: usize, bits: u64) -> u32
     requires bytes { bytes < 2 ^ 32 }
     requires bits { bits < 2 ^ 63 }
     ensures { result ≡ bytes - (bits + 7) / 8 }

@@ -5,23 +5,38 @@
 //! let unread = decode_frame(&frame, channels, &mut scratch, &mut sound)?; // the sound of the frame
 //! ```
 //!
+//! Up to eight frames of one shape are decoded side by side on one processor, which takes about half the time:
+//!
+//! ```text
+//! let mut scratch = BatchScratch::new(alloc, channels)?;
+//! decode_batch(&frames, channels, &mut scratch, &mut heard); // a sound and an answer for each
+//! ```
+//!
 //! What an encoder reads of parameters in the same way is public too: what they give a channel, and the probability of the
 //! reserved symbol.
 #![tactic(auto)]
 
+mod batch;
+mod batch_scratch;
 mod channel;
 mod code;
 mod frame;
+mod octets;
 mod reserved;
 mod samples;
 mod scratch;
+mod slots;
 mod state;
+mod stored;
 mod tables;
 #[cfg(test)]
 mod tests;
 
+pub use batch::decode_batch;
+pub use batch_scratch::BatchScratch;
 pub use channel::{channel_filter, channel_half_prob, channel_probs};
 pub use frame::decode_frame;
 pub use reserved::reserved_probability;
 pub use scratch::Scratch;
+pub use stored::{DecodedFrame, StoredFrame};
 pub use tables::prob_within;

@@ -100,9 +100,9 @@ fn decode_sample(
     sample
 }
 
-// Gives out the eight samples of each channel, and adds them to the sums ahead.
+/// Gives out the eight samples of each channel, and adds them to the sums ahead.
 #[inline(always)]
-fn finish_byte(
+pub(crate) fn finish_byte(
     tables: &[ChannelTables],
     states: &mut [ChannelState],
     channels: usize,
@@ -117,6 +117,7 @@ fn finish_byte(
     ensures added { (c : ℕ) (table : ChannelTables) (other : ChannelState) (probs samples : List ℕ) → c < length tables.now
         → IsReady (get_or tables.now c table).filter probs 8 samples (get_or states.old c other)
         → IsReady (get_or tables.now c table).filter probs 0 samples (get_or states.new c other) }
+    ensures next { (c : ℕ) (other : ChannelState) → (get_or states.new c other).next ≡ (get_or states.old c other).next }
 {
     for c in 0..channels {
         let ahead = &mut states[c].ahead;

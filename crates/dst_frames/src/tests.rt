@@ -1,4 +1,10 @@
-// Frames worked out by hand, each decoded behind another one, and the faults of others.
+// Frames worked out by hand, each decoded behind another one or beside others, and the faults of others.
+ghost use Rattle.std.specs.Prelude.{◌≡◌, ◌<◌, ◌≤◌, ◌+◌, ◌*◌, ℕ, true, length, get_or};
+ghost use Rattle.dst_spec.specs.Sample.{sound_bytes};
+ghost use Rattle.dst_frames.specs.Running.{AreStored};
+ghost use Rattle.dst_frames.specs.declared.stored.StoredFrame.{StoredFrame};
+ghost use Rattle.dst_frames.specs.declared.stored.DecodedFrame.{DecodedFrame};
+
 use super::*;
 use dst_num::{Channels, FrameFault, Reason};
 use std::alloc::Global;
@@ -140,6 +146,93 @@ fn frames_are_refused_at_their_first_fault(rt: HostRuntime) -> Result<(), Fail> 
         let channels = Channels::new(count).ok_or("channels")?;
         let (_, tail) = decoded(rt.alloc(), channels, &ONES, frame)?;
         assert_eq!(rt; tail, Err(FrameFault { reason, bit }), "{frame:?}");
+    }
+    Ok(())
+}
+
+// Whether frames may be decoded side by side into these sounds.
+fn are_fit(frames: &[StoredFrame], channels: Channels, heard: &[DecodedFrame]) -> bool
+    ensures few { result ≡ true → length frames.now ≤ 8 }
+    ensures same { result ≡ true → length heard.now ≡ length frames.now }
+    ensures stored { result ≡ true → AreStored frames.now }
+    ensures frames { result ≡ true → (n : ℕ) (other : StoredFrame) → n < length frames.now
+        → (get_or frames.now n other).size ≤ 2 * (sound_bytes channels + 1) }
+    ensures sounds { result ≡ true → (n : ℕ) (other : DecodedFrame) → n < length frames.now
+        → length (get_or heard.now n other).sound.items ≡ sound_bytes channels }
+{
+    if frames.len() > 8 || heard.len() != frames.len() {
+        return false;
+    }
+    let bytes = channels.sound_bytes();
+    for n in 0..frames.len() {
+        let size = frames[n].size as usize;
+        if size > frames[n].bytes.len() || size > 2 * (bytes + 1) {
+            return false;
+        }
+        if heard[n].sound.len() != bytes {
+            return false;
+        }
+    }
+    true
+}
+
+#[test]
+fn frames_side_by_side_are_decoded_as_alone(rt: HostRuntime) -> Result<(), Fail> {
+    let mono = Channels::new(1).ok_or("one channel")?;
+    let mut plain = [0x69; 4705];
+    plain[0] = 0x00;
+    // Coefficients 0, 1 and -1, two maps, two half bits, three coefficients by method 2, and a code that is no encoder's; then a
+    // plain frame, and one whose first code bit is 1. Each with the first byte of its sound, or its fault.
+    let frames: [(&[u8], Option<u8>); 8] = [
+        (&ONES, Some(0xff)),
+        (&[0xfc, 0x00, 0x01, 0x05, 0xff, 0xf8], Some(0x00)),
+        (&[0xfc, 0x01, 0xff, 0x05, 0xff, 0xf8], Some(0xaa)),
+        (&[0xbf, 0x00, 0x00, 0x01, 0x7f, 0xfe], Some(0xff)),
+        (&[0x94, 0x00, 0x00, 0x00, 0xbf, 0xff], Some(0xff)),
+        (
+            &[0xfc, 0x0b, 0x00, 0x00, 0x00, 0x00, 0x0b, 0xff, 0xf0],
+            Some(0xff),
+        ),
+        (&plain, Some(0x69)),
+        (&[0xfc, 0x00, 0x00, 0x05, 0xff, 0xfc], None),
+    ];
+    let mut scratch = BatchScratch::new(rt.alloc(), mono)?;
+    for count in 1..9usize {
+        // from the front, so that up to six all are coded, and turned round
+        for turned in [false, true] {
+            let mut stored = Vec::with_capacity(rt.alloc(), count)?;
+            let mut heard = Vec::with_capacity(rt.alloc(), count)?;
+            for n in 0..count {
+                let at = if turned { 7 - n } else { n };
+                let (frame, _) = frames[at % 8];
+                let mut bytes = vec![in rt.alloc(); 0u8; 4705]?;
+                let size = frame.len().min(4705);
+                bytes[..size].copy_from_slice(&frame[..size]);
+                stored.push(StoredFrame {
+                    bytes,
+                    size: size as u32,
+                })?;
+                heard.push(DecodedFrame {
+                    sound: vec![in rt.alloc(); 0u8; 4704]?,
+                    answer: Ok(9),
+                })?;
+            }
+            assert!(rt; are_fit(&stored, mono, &heard));
+            decode_batch(&stored, mono, &mut scratch, &mut heard);
+            for n in 0..count {
+                let at = if turned { 7 - n } else { n };
+                let (frame, first) = frames[at % 8];
+                let (sound, tail) = decoded(rt.alloc(), mono, &ONES, frame)?;
+                assert_eq!(rt; heard.as_slice()[n].answer, tail, "{count}, frame {at}");
+                match first {
+                    Some(byte) => {
+                        assert_eq!(rt; heard.as_slice()[n].sound.as_slice()[0], byte);
+                        assert!(rt; heard.as_slice()[n].sound.as_slice() == sound.as_slice());
+                    }
+                    None => assert!(rt; tail.is_err()),
+                }
+            }
+        }
     }
     Ok(())
 }

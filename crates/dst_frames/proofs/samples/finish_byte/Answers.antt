@@ -1,4 +1,5 @@
-use Rattle.std.proofs.Common.{◌≡◌, ◌≢◌, ℕ, ◌/◌, ◌%◌, ◌^◌, ◌<◌, ℤ, List, [], length, get_or, set, ap, sym, subst, subst₂, ◌∙◌, arith, below_more}
+use Rattle.std.proofs.lemmas.Bool.{eqb-true, eqb-false}
+use Rattle.std.proofs.Common.{◌≡◌, ◌≢◌, ℕ, ◌/◌, ◌%◌, ◌^◌, ◌<◌, Bool, true, false, nat_eq, ℤ, List, [], length, get_or, set, refl, ap, sym, subst, subst₂, ◌∙◌, arith, below_more}
 use Rattle.std.proofs.Common.{get_or-set_same, get_or-set_other}
 use Rattle.dst_frames.specs.Ready.{IsReady}
 use Rattle.dst_frames.specs.declared.state.ChannelState.{ChannelState}
@@ -8,6 +9,18 @@ use Rattle.dst_frames.proofs.samples.finish_byte.Goals as goal
 
 abbrev none : ChannelState
 none = record { ahead = record { lanes = []; newest = 0 }; next = 0 }
+
+-- what a state with the same next entry keeps
+next_kept : (states : List ChannelState) (i j : ℕ) (new other : ChannelState) → i < length states → new.next ≡ (get_or states i none).next →
+    (get_or (set states i new) j other).next ≡ (get_or states j other).next
+next_kept states i j new other lt same = go (nat_eq j i) refl
+  where
+    go : (e : Bool) → nat_eq j i ≡ e → (get_or (set states i new) j other).next ≡ (get_or states j other).next
+    go true e =
+        let is = eqb-true j i e in
+        let at : get_or states i none ≡ get_or states i other = get_or_default states i none other lt in
+        rw (is, get_or-set_same states i new other lt) (same ∙ ap (λ (x : ChannelState). x.next) at)
+    go false e = rw (get_or-set_other states i j new other (eqb-false j i e)) refl
 
 pub loop-c-preserved : goal.loop-c-preserved
 loop-c-preserved c =
@@ -48,6 +61,7 @@ loop-c-preserved c =
     record {
       newest = λ j other filter probs samples place h. below_more N i n_below n_here j h other filter probs samples place;
       added = λ j table other probs samples h. below_more A i a_below a_here j h table other probs samples;
+      next = λ j other. next_kept states i j new other lt_states refl ∙ inv.next j other;
       left = λ j other h.
           let ne : j ≢ i = omega arith in
           get_or-set_other states i j new other ne ∙ inv.left j other (omega arith);

@@ -12,5 +12,6 @@ invariant-loop-c l = record {
   added : (c : ℕ) (table : ChannelTables) (other : ChannelState) (probs samples : List ℕ) → c < l.c
       → IsReady (get_or l.tables c table).filter probs 8 samples (get_or l.initial.states c other) →
       IsReady (get_or l.tables c table).filter probs 0 samples (get_or l.states c other);
+  next : (c : ℕ) (other : ChannelState) → (get_or l.states c other).next ≡ (get_or l.initial.states c other).next;
   left : (c : ℕ) (other : ChannelState) → l.c ≤ c → get_or l.states c other ≡ get_or l.initial.states c other;
 }

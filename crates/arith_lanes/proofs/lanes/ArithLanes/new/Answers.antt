@@ -1,0 +1,5 @@
+use Rattle.arith_lanes.proofs.Beginning.{begins_none}
+use Rattle.arith_lanes.proofs.lanes.ArithLanes.new.Goals as goal
+
+pub returns : goal.returns
+returns c = begins_none

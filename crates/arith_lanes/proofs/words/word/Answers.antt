@@ -1,0 +1,16 @@
+use Rattle.std.proofs.Common.{◌≡◌}
+use lib.Count.{count_leading_zeros}
+use Rattle.arith_lanes.proofs.Tables.{all_words, is_word, mark_is}
+use Rattle.arith_lanes.proofs.words.word.Goals as goal
+
+pub returns-clause-prob : goal.returns-clause-prob
+unfolding count_leading_zeros
+returns-clause-prob c =
+    let value : c.as_flattened.result.now ≡ all_words = c.as_flattened.ensures.value in
+    is_word c.args.byte c.as_flattened.result.now c.ranges.byte.fits value
+
+pub returns-clause-mark : goal.returns-clause-mark
+unfolding count_leading_zeros
+returns-clause-mark c =
+    let value : c.as_flattened.result.now ≡ all_words = c.as_flattened.ensures.value in
+    mark_is c.args.byte c.as_flattened.result.now c.ranges.byte.fits value

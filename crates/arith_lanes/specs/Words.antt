@@ -1,0 +1,14 @@
+-- What a lane needs of a probability, in sixteen bits.
+use Rattle.std.specs.Prelude.{◌≡◌, ℕ, ◌+◌, ◌/◌, ◌%◌, ◌≤◌, ◌==◌, if◌then◌else◌}
+use Rattle.arith_decoder.specs.Registers.{IsFactor}
+
+-- the probability in seven bits, where 128 is 0
+abbrev pub prob_in : ℕ → ℕ
+prob_in low = if low == 0 then 128 else low
+
+-- A word has the probability less 1 in its low seven bits, and in its high eight the power of 2 with which it has eight bits.
+pub record IsWord (p word : ℕ) : Type 0 where
+  pub least : 1 ≤ p
+  pub most : p ≤ 128
+  pub prob : word % 128 + 1 ≡ p
+  pub factor : IsFactor p (word / 256)

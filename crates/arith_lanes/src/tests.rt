@@ -1,0 +1,81 @@
+// Words, codes side by side, and codes refused.
+use super::*;
+use bit_io::BitSlice;
+use dst_num::{FrameFault, Reason};
+
+#[test]
+fn words_have_a_probability_and_its_factor(rt: HostRuntime) {
+    // 128 is eight bits long, 1 by a factor of 128, 3 by one of 64, 100 by one of 2
+    let cases = [
+        (0u8, 0x017fu16),
+        (1, 0x8000),
+        (3, 0x4002),
+        (100, 0x0263),
+        (128, 0x01ff),
+        (0x83, 0x4082),
+    ];
+    for (byte, expected) in cases {
+        assert_eq!(rt; word(byte), expected, "{byte}");
+    }
+}
+
+#[test]
+fn codes_give_their_symbols_side_by_side(rt: HostRuntime) {
+    let carry: [u8; 3] = [0x40, 0x18, 0x00];
+    let behind: [u8; 4] = [0xfa, 0x00, 0xc0, 0x07];
+    let mut lanes = ArithLanes::new();
+    let first = lanes.begin(
+        2,
+        BitSlice {
+            bytes: &carry,
+            first: 0,
+        },
+    );
+    assert_eq!(rt; first, Ok(()));
+    // the same code behind five other bits
+    let second = lanes.begin(
+        5,
+        BitSlice {
+            bytes: &behind,
+            first: 5,
+        },
+    );
+    assert_eq!(rt; second, Ok(()));
+    lanes.refill(5, &behind);
+    assert!(rt; !lanes.are_short());
+    // Lane 3 has a code of no bytes, with the probabilities 1 and 128 in turn: each of its symbols is 1.
+    // Its words turn symbols round.
+    let half = word(128);
+    let least = word(129);
+    let turned = word(0);
+    let turned_least = word(1);
+    let steps = [
+        (half, turned_least, 1),
+        (half, turned, 0),
+        (least, turned_least, 1),
+        (half, turned, 0),
+        (half, turned_least, 0),
+        (half, turned, 0),
+    ];
+    for (p, other, symbol) in steps {
+        let symbols = lanes.decode(&[half, half, p, other, half, p, half, half]);
+        assert_eq!(rt; symbols[2], symbol);
+        assert_eq!(rt; symbols[5], symbol);
+        assert_eq!(rt; symbols[3], 0);
+    }
+}
+
+#[test]
+fn codes_with_a_fault_are_refused_at_its_bit(rt: HostRuntime) {
+    let cases: [(&[u8], u64, Reason, u64); 4] = [
+        (&[0x80], 0, Reason::FirstCodeBit, 0),
+        (&[0xff, 0xff], 3, Reason::FirstCodeBit, 3),
+        (&[0x7f, 0xf8], 0, Reason::CodeRange, 1),
+        (&[0xfb, 0xff, 0xc0], 5, Reason::CodeRange, 6),
+    ];
+    for (bytes, first, reason, bit) in cases {
+        let mut lanes = ArithLanes::new();
+        let refused = lanes.begin(7, BitSlice { bytes, first });
+        assert_eq!(rt; refused, Err(FrameFault { reason, bit }));
+    }
+}

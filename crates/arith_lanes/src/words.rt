@@ -1,0 +1,37 @@
+// The words of probabilities.
+ghost use Rattle.std.specs.Prelude.{◌≡◌, ◌/◌, ◌%◌};
+ghost use Rattle.arith_lanes.specs.Words.{IsWord, prob_in};
+
+// The words of all probabilities, that of 128 in front of the others: each less 1, a mark, and the power of 2 with which it has
+// eight bits.
+macro_rules! words {
+    ($mark:literal) => {
+        words!(
+            $mark;
+            1: 128;
+            128: 1;
+            64: 2 3;
+            32: 4 5 6 7;
+            16: 8 9 10 11 12 13 14 15;
+            8: 16 17 18 19 20 21 22 23 24 25 26 27 28 29 30 31;
+            4: 32 33 34 35 36 37 38 39 40 41 42 43 44 45 46 47 48 49 50 51 52 53 54 55 56 57 58 59 60 61 62 63;
+            2: 64 65 66 67 68 69 70 71 72 73 74 75 76 77 78 79 80 81 82 83 84 85 86 87 88 89 90 91 92 93 94 95
+                96 97 98 99 100 101 102 103 104 105 106 107 108 109 110 111 112 113 114 115 116 117 118 119
+                120 121 122 123 124 125 126 127;
+        )
+    };
+    ($mark:literal; $($factor:literal: $($p:literal)*;)*) => {
+        [$($($p - 1 + $mark + 256 * $factor),*),*]
+    };
+}
+
+static WORDS: [[u16; 128]; 2] = [words!(0), words!(128)];
+
+/// The word of the probability in the low seven bits of a byte, where 128 is 0. Bit 7 of the word is that of the byte.
+#[inline(always)]
+pub fn word(byte: u8) -> u16
+    ensures prob { IsWord (prob_in (byte % 128)) result }
+    ensures mark { result / 128 % 2 ≡ byte / 128 }
+{
+    WORDS.as_flattened()[byte as usize]
+}

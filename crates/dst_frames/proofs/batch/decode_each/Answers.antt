@@ -1,0 +1,48 @@
+use Rattle.std.proofs.Common.{◌≡◌, ◌≢◌, ℕ, ◌+◌, ◌<◌, ◌≤◌, length, get_or, set, get_or-set_same, get_or-set_other, below_more, ap, sym, subst, ◌∙◌, arith}
+use Rattle.std.proofs.lemmas.List.{get_or_default}
+use Rattle.dst_frames.specs.Batch.{IsDecoded, stored_in}
+use Rattle.dst_frames.specs.declared.stored.StoredFrame.{StoredFrame}
+use Rattle.dst_frames.specs.declared.stored.DecodedFrame.{DecodedFrame}
+use Rattle.dst_frames.proofs.Running.{wide_set}
+use Rattle.dst_frames.proofs.batch.decode_each.Goals as goal
+
+pub decode_one-requires-clause-tables : goal.decode_one-requires-clause-tables
+decode_one-requires-clause-tables c = c.loop-n.invariant.wide.tables 0 c.index-slots-0.result (omega arith)
+
+pub decode_one-requires-clause-states : goal.decode_one-requires-clause-states
+decode_one-requires-clause-states c = c.loop-n.invariant.wide.states 0 c.index-slots-0.result (omega arith)
+
+pub decode_one-requires-clause-sound : goal.decode_one-requires-clause-sound
+decode_one-requires-clause-sound c =
+    rw (c.loop-n.invariant.left c.loop-n.n c.index-heard-n.result (omega arith)) (c.requires.sounds c.loop-n.n c.index-heard-n.result (omega arith))
+
+pub loop-n-preserved : goal.loop-n-preserved
+loop-n-preserved c =
+    let f = c.args.channels in
+    let i = c.loop-n.n in
+    let inv = c.loop-n.invariant in
+    let frames = c.args.frames.now in
+    let heard = c.loop-n.heard in
+    let x = c.decode_one.new.heard in
+    let lt : i < length frames = omega arith in
+    let lt_heard : i < length heard = omega (arith, c.requires.same) in
+    let lt_slots : 0 < length c.loop-n.slots = omega (arith, c.requires.slots) in
+    let P : ℕ → Type 0 = λ m. (frame : StoredFrame) (other : DecodedFrame) → IsDecoded f (stored_in (get_or frames m frame))
+    (get_or (set heard i x) m other).sound.items (get_or (set heard i x) m other).answer in
+    let below : (m : ℕ) → m < i → P m = λ m h frame other.
+    let ne : m ≢ i = omega arith in
+    rw (get_or-set_other heard i m x other ne) (inv.done m frame other h) in
+    let left : (m : ℕ) (other : DecodedFrame) → i + 1 ≤ m → get_or (set heard i x) m other ≡ get_or c.args.heard.now m other = λ m other h.
+    let ne : m ≢ i = omega arith in
+    get_or-set_other heard i m x other ne ∙ inv.left m other (omega arith) in
+    let here : P i = λ frame other.
+    let same : c.index-frames-n.result ≡ get_or frames i frame = c.index-frames-n.is ∙ get_or_default frames i c.index-frames-n.result frame lt in
+    rw (get_or-set_same heard i x other lt_heard)
+    (subst (λ (q : StoredFrame). IsDecoded f (stored_in q) x.sound.items x.answer) same c.decode_one.ensures.decoded) in
+    record {
+      done = λ m frame other h. below_more P i below here m h frame other;
+      left = left;
+      wide = wide_set f.channels 0 c.loop-n.slots c.decode_one.new.slot inv.wide lt_slots
+          (c.decode_one.ensures.tables ∙ inv.wide.tables 0 c.index-slots-0.result lt_slots)
+          (c.decode_one.ensures.states ∙ inv.wide.states 0 c.index-slots-0.result lt_slots);
+    }
