@@ -1,5 +1,6 @@
 -- From cells to how the samples of a channel agree with those so many places before.
-use Rattle.std.proofs.Common.{◌≡◌, ◌≢◌, ℕ, zero, suc, ◌+◌, ◌-◌, ◌*◌, ◌/◌, ◌%◌, ◌^◌, ◌<◌, ◌≤◌, ◌==◌, cond, ℤ, pos, negsuc, neg_ℤ, ◌+ℤ◌, ◌-ℤ◌, ◌*ℤ◌, nat_abs, Bool, true, false}
+use Rattle.std.proofs.Common.{◌≡◌, ◌≢◌, ℕ, zero, suc, ◌+◌, ◌-◌, ◌*◌, ◌/◌, ◌%◌, ◌^◌, ◌<◌, ◌≤◌}
+use Rattle.std.proofs.Common.{◌==◌, cond, ℤ, pos, negsuc, neg_ℤ, ◌+ℤ◌, ◌-ℤ◌, ◌*ℤ◌, nat_abs, Bool, true, false}
 use Rattle.std.proofs.Common.{List, get_or, inl, inr, refl, ap, sym, ◌∙◌, arith}
 use Rattle.std.proofs.lemmas.Int.{ints}
 use Rattle.std.proofs.lemmas.Bool.{cases_lt}
@@ -91,7 +92,8 @@ agreeing-is cells bytes W n k bit lane back near known =
 shift : (F : ℕ → ℤ) (a n : ℕ) → sum_over (λ t. F (a + t)) 0 n ≡ sum_over F a n
 unfolding sum_over
 shift F a zero = refl
-shift F a (suc n) = let rest = shift F a n in let z : 0 + n ≡ n = omega arith in let e : F (a + (0 + n)) ≡ F (a + n) = ap (λ k. F (a + k)) z in omega (arith, ints)
+shift F a (suc n) = let rest = shift F a n in let z : 0 + n ≡ n = omega arith in let e : F (a + (0 + n)) ≡ F (a + n) =
+    ap (λ k. F (a + k)) z in omega (arith, ints)
 
 pub joined : (F : ℕ → ℤ) (first a b : ℕ) → sum_over F first (a + b) ≡ sum_over F first a +ℤ sum_over F (first + a) b
 unfolding sum_over
@@ -162,7 +164,8 @@ apart : (lane lag : ℕ) → lane < 8 → 1 ≤ lag → lag ≤ 128 →
     (place_before lane lag < 8) × (8 * bytes_before lane lag + lane ≡ lag + place_before lane lag) × (bytes_before lane lag ≤ 16)
 apart lane lag near least most = (omega arith, omega arith, omega arith)
 
-half-earlier : (f : Shape) (sound : List ℕ) (c : ℕ) (bytes : List ℕ) (m lane lag : ℕ) → HasHistory f sound c bytes → m < f.octets → lane < 8 → 1 ≤ lag → lag ≤ 128 →
+half-earlier : (f : Shape) (sound : List ℕ) (c : ℕ) (bytes : List ℕ) (m lane lag : ℕ) → HasHistory f sound c bytes → m < f.octets → lane < 8 →
+    1 ≤ lag → lag ≤ 128 →
     half bytes m (2 * bytes_before lane lag + place_before lane lag / 4) / 2 ^ (3 - place_before lane lag % 4) % 2
     ≡ sample f sound c (pos (8 * m + lane) -ℤ pos lag)
 half-earlier f sound c bytes m lane lag has inside near least most =
@@ -192,7 +195,8 @@ signs a b w = elim (a == 1) as (λ x. signed b (cond x (pos w) (neg_ℤ (pos w))
 ]
 
 -- the sums of cells of a channel's bytes are how its samples agree with those before them
-pub lag-is : (f : Shape) (sound codes weights : List ℕ) (c first j : ℕ) (cells : List (List ℤ)) (bytes : List ℕ) → HasHistory f sound c bytes → first ≤ samples f → j < 128 →
+pub lag-is : (f : Shape) (sound codes weights : List ℕ) (c first j : ℕ) (cells : List (List ℤ)) (bytes : List ℕ) → HasHistory f sound c bytes →
+    first ≤ samples f → j < 128 →
     ((cell lane : ℕ) → cell < 544 → lane < 8 →
     in_cell cells cell lane ≡ sum_over (λ m. taken bytes m cell (weighted bytes codes weights first (8 * m + lane))) 0 f.octets) →
     sum_over (λ lane. agreeing cells (2 * bytes_before lane (j + 1) + place_before lane (j + 1) / 4) (3 - place_before lane (j + 1) % 4) lane) 0 8
@@ -208,7 +212,8 @@ lag-is f sound codes weights c first j cells bytes has few near known =
     (λ lane. sum_over (λ m. F (8 * m + lane)) 0 n) 0 8 (λ lane least most.
     agreeing-is cells bytes W n (2 * bytes_before lane lag + place_before lane lag / 4) (3 - place_before lane lag % 4) lane
     (let far = apart lane lag (omega arith) (omega arith) (omega arith) in omega arith) (omega arith) known
-    ∙ sum_over-same (λ m. signed (half bytes m (2 * bytes_before lane lag + place_before lane lag / 4) / 2 ^ (3 - place_before lane lag % 4) % 2) (W (8 * m + lane)))
+    ∙ sum_over-same (λ m. signed (half bytes m (2
+    * bytes_before lane lag + place_before lane lag / 4) / 2 ^ (3 - place_before lane lag % 4) % 2) (W (8 * m + lane)))
     (λ m. F (8 * m + lane)) 0 n (λ m from below.
     ap (λ b. signed b (W (8 * m + lane))) (half-earlier f sound c bytes m lane lag has (omega arith) (omega arith) (omega arith) (omega arith))))
     ∙ interleaved F n
@@ -228,8 +233,16 @@ lag-is f sound codes weights c first j cells bytes has few near known =
 
 term-most : (a b w : ℕ) → w ≤ 255 → nat_abs (pos w *ℤ (signed a (pos 1) *ℤ signed b (pos 1))) ≤ 255
 term-most a b w h = elim (a == 1) as (λ x. nat_abs (pos w *ℤ (cond x (pos 1) (neg_ℤ (pos 1)) *ℤ signed b (pos 1))) ≤ 255) [
-  | true ↦ elim (b == 1) as (λ y. nat_abs (pos w *ℤ (pos 1 *ℤ cond y (pos 1) (neg_ℤ (pos 1)))) ≤ 255) [ true ↦ omega (arith, ints) | false ↦ omega (arith, ints) ]
-  | false ↦ elim (b == 1) as (λ y. nat_abs (pos w *ℤ (neg_ℤ (pos 1) *ℤ cond y (pos 1) (neg_ℤ (pos 1)))) ≤ 255) [ true ↦ omega (arith, ints) | false ↦ omega (arith, ints) ]
+  | true ↦ elim (b == 1) as (λ y. nat_abs (pos w *ℤ (pos 1 *ℤ cond y (pos 1) (neg_ℤ (pos 1)))) ≤ 255) [
+    | true ↦ omega (arith, ints)
+    | false ↦ omega
+        (arith, ints)
+  ]
+  | false ↦ elim (b == 1) as (λ y. nat_abs (pos w *ℤ (neg_ℤ (pos 1) *ℤ cond y (pos 1) (neg_ℤ (pos 1)))) ≤ 255) [
+    | true ↦ omega (arith, ints)
+    | false ↦
+        omega (arith, ints)
+  ]
 ]
 
 pub agreement-most : (f : Shape) (sound codes weights : List ℕ) (c first j : ℕ) → ((i : ℕ) → get_or weights i 0 < 256) → samples f ≤ 150528 →

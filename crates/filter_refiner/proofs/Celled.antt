@@ -19,7 +19,8 @@ pub same-cell : (cells : List (List ℤ)) (at lane : ℕ) (new : List ℤ) → a
 same-cell cells at lane new inside = rw get_or-set_same refl
 
 -- the cell of a half byte's value takes the samples, and its other cells nothing
-pub after-add : (cells : List (List ℤ)) (bytes : List ℕ) (m k h cell lane : ℕ) (new samples : List ℤ) → h < 16 → h ≡ half bytes m k → 16 * k + h < length cells →
+pub after-add : (cells : List (List ℤ)) (bytes : List ℕ) (m k h cell lane : ℕ) (new samples : List ℤ) → h < 16 → h ≡ half bytes m k →
+    16 * k + h < length cells →
     cell < 16 * (k + 1) → 16 * k ≤ cell → ((lane : ℕ) → get_or new lane (pos 0) ≡ in_cell cells (16 * k + h) lane +ℤ get_or samples lane (pos 0)) →
     in_cell (set cells (16 * k + h) new) cell lane ≡ in_cell cells cell lane +ℤ taken bytes m cell (get_or samples lane (pos 0))
 after-add cells bytes m k h cell lane new samples small is inside most least added =

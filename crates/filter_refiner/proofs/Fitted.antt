@@ -46,7 +46,8 @@ fed_back-same rows v w i h =
     (λ j l. ap (λ z. z -ℤ whole (rounding (get_or v i (pos 0)) *ℤ row_value rows i j)) (h j (omega arith))
     ∙ ap (λ z. get_or w j (pos 0) -ℤ whole (rounding z *ℤ row_value rows i j)) (h i (omega arith)))
 
-pub fit_down-same : (rows : List State) (v w : List ℤ) (n : ℕ) → ((k : ℕ) → k < n → get_or v k (pos 0) ≡ get_or w k (pos 0)) → fit_down rows v n ≡ fit_down rows w n
+pub fit_down-same : (rows : List State) (v w : List ℤ) (n : ℕ) → ((k : ℕ) → k < n → get_or v k (pos 0) ≡ get_or w k (pos 0)) →
+    fit_down rows v n ≡ fit_down rows w n
 unfolding fit_down
 fit_down-same rows v w zero h = refl
 fit_down-same rows v w (suc i) h =

@@ -49,7 +49,8 @@ AreKept-push rows s h last = record {
         | inr more ↦
             let is : k ≡ length rows = omega arith in
             subst (λ j. IsKept j (get_or (rows ++ s ∷ []) j no_row)) (sym is) (subst (IsKept (length rows))
-            (sym (get_or-append_right rows (s ∷ []) (length rows) (length rows) no_row refl (omega arith) ∙ (let z : length rows - length rows ≡ 0 = omega arith in
+            (sym (get_or-append_right rows (s ∷ []) (length rows) (length rows) no_row refl (omega arith)
+            ∙ (let z : length rows - length rows ≡ 0 = omega arith in
             ap (λ j. get_or (s ∷ []) j no_row) z))) last)
       ];
 }

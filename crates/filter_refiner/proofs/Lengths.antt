@@ -1,5 +1,6 @@
 -- The last place that passes a test, and tests of coefficients.
-use Rattle.std.proofs.Common.{◌≡◌, ℕ, zero, suc, ◌+◌, ◌<◌, ◌≤◌, ℤ, pos, negsuc, nat_abs, of_z, Bool, true, false, not, cond, ◌==◌, nat_lt, refl, ap, sym, ◌∙◌, arith}
+use Rattle.std.proofs.Common.{◌≡◌, ℕ, zero, suc, ◌+◌, ◌<◌, ◌≤◌, ℤ, pos, negsuc, nat_abs, of_z}
+use Rattle.std.proofs.Common.{Bool, true, false, not, cond, ◌==◌, nat_lt, refl, ap, sym, ◌∙◌, arith}
 use mir.Syntax.{w16}
 use mir.Val.{SFits}
 use Rattle.std.proofs.lemmas.Bool.Decides.{nat_tests}

@@ -1,5 +1,6 @@
 -- How great products, parts and sums are, and that they fit their words.
-use Rattle.std.proofs.Common.{◌≡◌, ℕ, zero, suc, ◌+◌, ◌*◌, ◌^◌, ◌≤◌, ℤ, pos, negsuc, ◌+ℤ◌, ◌*ℤ◌, nat_abs, to_z, of_z, List, [], ◌∷◌, get_or, replicate, refl, arith}
+use Rattle.std.proofs.Common.{◌≡◌, ℕ, zero, suc, ◌+◌, ◌*◌, ◌^◌, ◌≤◌, ℤ, pos, negsuc}
+use Rattle.std.proofs.Common.{◌+ℤ◌, ◌*ℤ◌, nat_abs, to_z, of_z, List, [], ◌∷◌, get_or, replicate, refl, arith}
 use mir.Syntax.{w16, w32, w64, w128}
 use lib.Signed.{shr_z}
 use Rattle.std.proofs.lemmas.Int.{ints, unsigned_abs-mul}

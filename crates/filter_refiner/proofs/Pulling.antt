@@ -27,7 +27,8 @@ part-bounds g pp (negsuc sp) h positive most agree = absurd (omega (arith, ints,
 
 pub part-is : (g pp sp a b d q : ℤ) → nat_abs g ≤ 2 ^ 28 → pos 0 ≤ℤ pp → nat_abs pp ≤ 2 ^ 45 → pp <ℤ (sp *ℤ pos (2 ^ 13)) → a ≡ to_z w64 (of_z w64 g) →
     b ≡ to_z w64 (of_z w64 pp) → d ≡ to_z w64 (of_z w64 sp) →
-    q ≡ int_div_euclid (to_z w128 (of_z w128 (to_z w128 (of_z w128 (to_z w128 (of_z w128 a) *ℤ to_z w128 (of_z w128 b))) *ℤ pos 131072))) (to_z w128 (of_z w128 d)) →
+    q ≡ int_div_euclid (to_z w128 (of_z w128 (to_z w128 (of_z w128 (to_z w128 (of_z w128 a) *ℤ to_z w128 (of_z w128 b))) *ℤ pos 131072))) (to_z w128
+    (of_z w128 d)) →
     nat_abs sp ≤ 2 ^ 62 → q ≡ int_div_euclid (g *ℤ pp *ℤ pos (2 ^ 17)) sp
 part-is g pp sp a b d q h positive most agree e f k is small =
     let bounds = part-bounds g pp sp h positive most agree in
@@ -47,13 +48,15 @@ pub pull-is : (r0 q part : ℤ) → nat_abs r0 ≤ 2 ^ 20 → nat_abs q ≤ 256 
     × SFits w64 (to_z w64 (of_z w64 part) -ℤ to_z w64 (of_z w64 (pos 64 *ℤ to_z w64 (of_z w64 (to_z w64 (of_z w64 r0) *ℤ to_z w64 (of_z w64 q))))))
     × (to_z w64 (of_z w64 (to_z w64 (of_z w64 part) -ℤ to_z w64 (of_z w64 (pos 64 *ℤ to_z w64 (of_z w64 (to_z w64 (of_z w64 r0) *ℤ to_z w64 (of_z w64 q)))))))
     ≡ part -ℤ pos 64 *ℤ (r0 *ℤ q))
-    × (nat_abs (to_z w64 (of_z w64 (to_z w64 (of_z w64 part) -ℤ to_z w64 (of_z w64 (pos 64 *ℤ to_z w64 (of_z w64 (to_z w64 (of_z w64 r0) *ℤ to_z w64 (of_z w64 q))))))))
+    × (nat_abs (to_z w64 (of_z w64 (to_z w64 (of_z w64 part) -ℤ to_z w64 (of_z w64 (pos 64 *ℤ to_z w64 (of_z w64 (to_z w64 (of_z w64 r0) *ℤ to_z w64
+    (of_z w64 q))))))))
     ≤ 2 ^ 59)
 pull-is r0 q part h k most =
     let product : to_z w64 (of_z w64 r0) *ℤ to_z w64 (of_z w64 q) ≡ r0 *ℤ q = ap (λ z. z *ℤ to_z w64 (of_z w64 q)) (same_64 r0 (omega arith))
     ∙ ap (λ z. r0 *ℤ z) (same_64 q (omega arith)) in
     let size = product-most r0 q (2 ^ 20) 256 h k in
-    let held : to_z w64 (of_z w64 (to_z w64 (of_z w64 r0) *ℤ to_z w64 (of_z w64 q))) ≡ r0 *ℤ q = ap (λ z. to_z w64 (of_z w64 z)) product ∙ same_64 (r0 *ℤ q) (omega arith) in
+    let held : to_z w64 (of_z w64 (to_z w64 (of_z w64 r0) *ℤ to_z w64 (of_z w64 q))) ≡ r0 *ℤ q = ap (λ z. to_z w64 (of_z w64 z)) product
+    ∙ same_64 (r0 *ℤ q) (omega arith) in
     let X = to_z w64 (of_z w64 (to_z w64 (of_z w64 r0) *ℤ to_z w64 (of_z w64 q))) in
     let few : nat_abs X ≤ 2 ^ 28 = rw held (omega arith) in
     let is : to_z w64 (of_z w64 (to_z w64 (of_z w64 part) -ℤ to_z w64 (of_z w64 (pos 64 *ℤ X)))) ≡ part -ℤ pos 64 *ℤ X = omega (arith, ints) in

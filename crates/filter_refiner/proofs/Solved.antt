@@ -38,7 +38,11 @@ grown_by-own rows y count =
     rw none (omega (arith, ints))
 
 not_first : (test : ℕ → Bool) (a k : ℕ) → a ≤ k → test k ≡ true → test a ≡ false → a + 1 ≤ k
-not_first test a k least h e = elim (cases_lt a k) [ inl less ↦ omega arith | inr more ↦ let same : a ≡ k = omega arith in absurd (false≢true (sym e ∙ ap test same ∙ h)) ]
+not_first test a k least h e = elim (cases_lt a k) [
+  | inl less ↦ omega arith
+  | inr more ↦ let same : a ≡ k =
+      omega arith in absurd (false≢true (sym e ∙ ap test same ∙ h))
+]
 
 any-at : (test : ℕ → Bool) (a n k : ℕ) → a ≤ k → k < a + n → test k ≡ true → list_any test (range_with_len a n) ≡ true
 any-at test a zero k least most h = absurd (omega arith)

@@ -1,5 +1,6 @@
 -- Refined filters, worked out: rows, solving, fitting, sizes, steps.
-use Rattle.std.proofs.Common.{◌≡◌, ℕ, ◌+◌, ◌-◌, ◌*◌, ◌^◌, nat_lt, ◌==◌, ℤ, pos, negsuc, neg_ℤ, true, false, ◌+ℤ◌, nat_abs, List, [], ◌∷◌, ◌++◌, if◌then◌else◌, map, get_or, Option, Some, None, refl}
+use Rattle.std.proofs.Common.{◌≡◌, ℕ, ◌+◌, ◌-◌, ◌*◌, ◌^◌, nat_lt, ◌==◌, ℤ, pos, negsuc, neg_ℤ, true}
+use Rattle.std.proofs.Common.{false, ◌+ℤ◌, nat_abs, List, [], ◌∷◌, ◌++◌, if◌then◌else◌, map, get_or, Option, Some, None, refl}
 use Rattle.std.specs.Prelude.{⊤}
 use Rattle.dst_spec.specs.Sample.{Shape}
 use Rattle.dst_spec.specs.Table.{filter_kind, prob_kind}

@@ -15,7 +15,8 @@ use Rattle.level_spec.proofs.Refined.{AreTables, AreTables-refined_from, IsTable
 
 pub AreTables-together : (f : Shape) (sound : List ℕ) → AreTables (refined_together f sound)
 unfolding refined_together
-AreTables-together f sound = AreTables-refined_from f sound (channels_of f) 10 (first_filter f sound (channels_of f)) (IsTable-first_filter f sound (channels_of f))
+AreTables-together f sound = AreTables-refined_from f sound (channels_of f) 10 (first_filter f sound (channels_of f)) (IsTable-first_filter f sound
+    (channels_of f))
 
 pub IsTable-alone : (f : Shape) (sound : List ℕ) (c : ℕ) → IsTable filter_kind (refined_alone f sound c)
 unfolding refined_alone

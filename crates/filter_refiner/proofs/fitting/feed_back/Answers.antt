@@ -54,7 +54,8 @@ pub returns-clause-most : goal.returns-clause-most
 returns-clause-most c = λ k.
     let old = get_or c.args.values.now k (pos 0) in
     elim (cases_lt k (length c.args.row.now)) [
-      | inl less ↦ rw (c.loop-j.invariant.before k (omega arith)) (shares-most old (to_z w64 (of_z w64 c.args.error)) (value c.args.row.now (length c.args.row.now - k))
+      | inl less ↦ rw (c.loop-j.invariant.before k (omega arith)) (shares-most old (to_z w64 (of_z w64 c.args.error)) (value c.args.row.now (length
+          c.args.row.now - k))
           (let g = c.requires.error in let e = same_64 c.args.error (omega (arith, g)) in rw e g) (c.requires.row (length c.args.row.now - k - 1)))
       | inr more ↦ rw (c.loop-j.invariant.behind k (omega arith)) (omega arith)
     ]

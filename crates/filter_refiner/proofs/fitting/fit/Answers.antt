@@ -33,7 +33,10 @@ unreachable-requires c =
     let x = c.args.target.now in
     let is = front c.args.rows.now x c.at_255-values.result c.round_all-coefs.result c.greatest-most.result c.length_without_zeros-length.result c.told-target
     c.greatest-most.ensures.greatest (omega arith) c.at_255-values.ensures.values c.round_all-coefs.ensures c.length_without_zeros-length.ensures.without in
-    c.in-None.ensures.none (subst (IsTable filter_kind) (sym is) (IsTable-fitted c.args.rows.now x (omega (arith, c.told-target)) (omega (arith, c.told-target))))
+    c.in-None.ensures.none (subst (IsTable filter_kind) (sym is) (IsTable-fitted c.args.rows.now x (omega (arith, c.told-target)) (omega (
+      arith,
+      c.told-target,
+    ))))
 
 pub returns : goal.returns
 returns c =

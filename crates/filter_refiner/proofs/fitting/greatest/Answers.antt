@@ -27,5 +27,8 @@ pub returns-clause-most : goal.returns-clause-most
 unfolding greatest
 returns-clause-most c =
     let is : c.loop-value.most ≡ greatest c.args.target.now =
-    c.loop-value.invariant ∙ ap (fold (λ most a. max most (nat_abs a)) 0) (take_all c.loop-value.value-index c.args.target.now (omega (arith, c.told-target))) in
+    c.loop-value.invariant ∙ ap (fold (λ most a. max most (nat_abs a)) 0) (take_all c.loop-value.value-index c.args.target.now (omega (
+      arith,
+      c.told-target,
+    ))) in
     rw is (greatest-most c.args.target.now (2 ^ 56) c.requires)

@@ -25,9 +25,11 @@ clamped v q n lesser greater h k e a b =
 pub returns-clause-rounding : goal.returns-clause-rounding
 returns-clause-rounding c =
     let is : c.nearest.result ≡ nearest c.args.value = c.nearest.ensures.nearest ∙ ap nearest (same_64 c.args.value (omega (arith, c.requires))) in
-    (clamped c.args.value (nearest c.args.value) c.nearest.result c.min.result c.max.result c.requires c.nearest.ensures.small is c.min.ensures.value c.max.ensures.value).0
+    (clamped c.args.value (nearest c.args.value) c.nearest.result c.min.result c.max.result c.requires c.nearest.ensures.small is c.min.ensures.value
+    c.max.ensures.value).0
 
 pub returns-clause-small : goal.returns-clause-small
 returns-clause-small c =
     let is : c.nearest.result ≡ nearest c.args.value = c.nearest.ensures.nearest ∙ ap nearest (same_64 c.args.value (omega (arith, c.requires))) in
-    (clamped c.args.value (nearest c.args.value) c.nearest.result c.min.result c.max.result c.requires c.nearest.ensures.small is c.min.ensures.value c.max.ensures.value).1
+    (clamped c.args.value (nearest c.args.value) c.nearest.result c.min.result c.max.result c.requires c.nearest.ensures.small is c.min.ensures.value
+    c.max.ensures.value).1

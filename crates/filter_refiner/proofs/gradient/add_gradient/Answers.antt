@@ -41,7 +41,8 @@ loop-lag-preserved c =
     let is : c.lag_sum-sum.result ≡ weighted_agreement f c.args.sound.now (λ c t. get_or weights (get_or codes t 0) 0) c.args.first c.args.channel j =
     c.lag_sum-sum.ensures.sum
     ∙ lag-is f c.args.sound.now codes weights c.args.channel c.args.first j c.add_bytes.new.cells bytes c.fill_history-octets.ensures.history
-    (omega (arith, c.requires.first, c.fill_history-octets.ensures.count, c.fill_history-octets.ensures.least)) c.loop-lag-test.true (λ cell lane inside near. c.add_bytes.ensures.cells cell lane inside near
+    (omega (arith, c.requires.first, c.fill_history-octets.ensures.count, c.fill_history-octets.ensures.least)) c.loop-lag-test.true (λ cell lane
+    inside near. c.add_bytes.ensures.cells cell lane inside near
     ∙ ap (sum_over (λ m. taken bytes m cell (weighted bytes codes weights c.args.first (8 * m + lane))) 0) c.fill_history-octets.ensures.count) in
     let inside : j < length c.loop-lag.gradient = omega (arith, c.loop-lag.invariant.long) in
     record {

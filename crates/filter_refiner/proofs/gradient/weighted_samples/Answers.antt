@@ -29,7 +29,8 @@ loop-lane-preserved c =
     let is : c.weighted_sample-sample.result ≡ weighted bytes codes weights c.args.first t = c.weighted_sample-sample.ensures.sample
     ∙ ap (λ q. cond (nat_lt t c.args.first) (pos 0) (signed (get_or bytes (c.args.place + 16) 0 / 2 ^ (7 - j) % 2) (pos (get_or weights q 0)))) c.from.ensures
     ∙ ap (λ m. cond (nat_lt t c.args.first) (pos 0) (signed (get_or bytes (m + 16) 0 / 2 ^ (7 - j) % 2) (pos (get_or weights (get_or codes t 0) 0)))) byte
-    ∙ ap (λ i. cond (nat_lt t c.args.first) (pos 0) (signed (get_or bytes (t / 8 + 16) 0 / 2 ^ (7 - i) % 2) (pos (get_or weights (get_or codes t 0) 0)))) lane in
+    ∙ ap (λ i. cond (nat_lt t c.args.first) (pos 0) (signed (get_or bytes (t / 8 + 16) 0 / 2 ^ (7 - i) % 2) (pos (get_or weights (get_or codes t 0)
+    0)))) lane in
     let inside : j < length c.loop-lane.samples = omega (arith, c.loop-lane.invariant.long) in
     record {
       long = omega (arith, length-set {A = ℤ}, c.loop-lane.invariant.long);

@@ -34,16 +34,19 @@ loop-place-preserved c =
     elim c.if-entries-place.branch [
       | then-entries-place w ↦
           let is : last_place (changes entries) (place + 1) ≡ place + 1 =
-          next ∙ ap (λ b. cond b (place + 1) (last_place (changes entries) place)) (differ (get_or entries place 0) (get_or entries (place - 1) 0) w.if-entries-place.true) in
+          next ∙ ap (λ b. cond b (place + 1) (last_place (changes entries) place)) (differ (get_or entries place 0) (get_or entries (place - 1) 0)
+          w.if-entries-place.true) in
           w.length-is ∙ omega arith
       | else-entries-place w ↦
           let is : last_place (changes entries) (place + 1) ≡ last_place (changes entries) place =
-          next ∙ ap (λ b. cond b (place + 1) (last_place (changes entries) place)) (equal (get_or entries place 0) (get_or entries (place - 1) 0) w.if-entries-place.false) in
+          next ∙ ap (λ b. cond b (place + 1) (last_place (changes entries) place)) (equal (get_or entries place 0) (get_or entries (place - 1) 0)
+          w.if-entries-place.false) in
           w.length-is ∙ c.loop-place.invariant ∙ ap (max 2) (sym is)
     ]
 
 -- as many entries as the shortened table has
-front : (entries table : List ℕ) (n place : ℕ) → entries ≡ table → 2 ≤ length table → length entries ≤ place → place ≤ length entries → n ≡ max 2 (last_place (changes entries) place) →
+front : (entries table : List ℕ) (n place : ℕ) → entries ≡ table → 2 ≤ length table → length entries ≤ place → place ≤ length entries →
+    n ≡ max 2 (last_place (changes entries) place) →
     (n ≤ length entries) × (take n entries ≡ shortened table)
 unfolding shortened
 front entries table n place e some past within is =
@@ -67,7 +70,8 @@ unreachable-requires c =
     let entries = c.entries-entries.result.now in
     let is = front entries c.args.table.now c.loop-place.length c.loop-place.place c.entries-entries.ensures.entries c.requires (omega arith)
     (c.loop-place.auto.place-end (omega (arith, ap length c.entries-entries.ensures.entries, c.requires))) c.loop-place.invariant in
-    c.in-None.ensures.none (subst (λ t. IsTable prob_kind (map pos t)) (sym is.1) (IsTable-shortened c.args.table.now c.requires c.entries-entries.ensures.table))
+    c.in-None.ensures.none (subst (λ t. IsTable prob_kind (map pos t)) (sym is.1) (IsTable-shortened c.args.table.now c.requires
+    c.entries-entries.ensures.table))
 
 pub returns : goal.returns
 returns c =

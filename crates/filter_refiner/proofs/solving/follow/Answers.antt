@@ -54,7 +54,8 @@ overflow_add-grown c =
     omega (arith, ints)
 
 -- the value that grows
-here : (grown old : List ℤ) (n : ℕ) (growth from : ℤ) → n < length grown → get_or grown n (pos 0) ≡ get_or old n (pos 0) → nat_abs (get_or old n (pos 0)) ≤ 2 ^ 77 →
+here : (grown old : List ℤ) (n : ℕ) (growth from : ℤ) → n < length grown → get_or grown n (pos 0) ≡ get_or old n (pos 0) →
+    nat_abs (get_or old n (pos 0)) ≤ 2 ^ 77 →
     nat_abs growth ≤ 2 ^ 62 → from ≡ to_z w64 (of_z w64 growth) →
     get_or (set grown n (to_z w128 (of_z w128 (to_z w128 (of_z w128 (get_or grown n (pos 0))) +ℤ to_z w128 (of_z w128 from))))) n (pos 0)
     ≡ get_or old n (pos 0) +ℤ growth

@@ -24,7 +24,8 @@ overflow_sub-rest c =
     let b = get_or c.args.wanted.now j (pos 0) in
     let small_a = c.requires.values (n - j - 1) in
     let small_b = c.requires.wanted j in
-    let is : c.product-rest-in-loop-j.result ≡ a *ℤ b = product-is a b c.product-rest-in-loop-j.result (omega arith) (omega arith) c.product-rest-in-loop-j.ensures in
+    let is : c.product-rest-in-loop-j.result ≡ a *ℤ b =
+    product-is a b c.product-rest-in-loop-j.result (omega arith) (omega arith) c.product-rest-in-loop-j.ensures in
     let product = product-most a b (2 ^ 32) (2 ^ 59) small_a small_b in
     let before = left-most values c.args.wanted.now n j c.requires.values c.requires.wanted (omega arith) in
     let rest : nat_abs (to_z w128 c.loop-j.rest-bits) ≤ 2 ^ 99 = rw c.loop-j.invariant before in
@@ -42,7 +43,8 @@ loop-j-preserved c =
     let small_b = c.requires.wanted j in
     let F = λ (j : ℕ). value values (n - j) *ℤ get_or c.args.wanted.now j (pos 0) in
     let y = get_or c.args.wanted.now n (pos 0) *ℤ pos (2 ^ 24) in
-    let is : c.product-rest-in-loop-j.result ≡ a *ℤ b = product-is a b c.product-rest-in-loop-j.result (omega arith) (omega arith) c.product-rest-in-loop-j.ensures in
+    let is : c.product-rest-in-loop-j.result ≡ a *ℤ b =
+    product-is a b c.product-rest-in-loop-j.result (omega arith) (omega arith) c.product-rest-in-loop-j.ensures in
     let product = product-most a b (2 ^ 32) (2 ^ 59) small_a small_b in
     let before = left-most values c.args.wanted.now n j c.requires.values c.requires.wanted (omega arith) in
     let rest : nat_abs (to_z w128 c.loop-j.rest-bits) ≤ 2 ^ 99 = rw c.loop-j.invariant before in
@@ -63,4 +65,5 @@ returns-clause-left c =
 
 pub returns-clause-most : goal.returns-clause-most
 returns-clause-most c =
-    rw c.loop-j.invariant (left-most c.args.values.now c.args.wanted.now (length c.args.values.now) c.loop-j.j c.requires.values c.requires.wanted (omega arith))
+    rw c.loop-j.invariant (left-most c.args.values.now c.args.wanted.now (length c.args.values.now) c.loop-j.j c.requires.values c.requires.wanted
+    (omega arith))

@@ -38,7 +38,8 @@ loop-j-preserved c =
           (rw get_or-set_same is.1);
     }
 
-all : (wholes numbers : List ℤ) (k : ℕ) → length wholes ≡ 128 → length numbers ≡ 128 → ((k : ℕ) → k < 128 → get_or wholes k (pos 0) ≡ whole (get_or numbers k (pos 0))) →
+all : (wholes numbers : List ℤ) (k : ℕ) → length wholes ≡ 128 → length numbers ≡ 128 → ((k : ℕ) → k < 128 →
+    get_or wholes k (pos 0) ≡ whole (get_or numbers k (pos 0))) →
     get_or wholes k (pos 0) ≡ whole (get_or numbers k (pos 0))
 all wholes numbers k long many h = elim (cases_lt k 128) [
   | inl less ↦ h k less

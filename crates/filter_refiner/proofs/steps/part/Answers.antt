@@ -16,7 +16,8 @@ pub overflow_cast-result : goal.overflow_cast-result
 overflow_cast-result c =
     let b = part-bounds c.args.gradient c.args.sums.power c.args.sums.agreement c.requires.gradient c.requires.power c.requires.most c.requires.agree in
     let is = part-is c.args.gradient c.args.sums.power c.args.sums.agreement c.from.result c.from-2.result c.from-3.result c.div_euclid.result
-    c.requires.gradient c.requires.power c.requires.most c.requires.agree c.from.ensures c.from-2.ensures c.from-3.ensures c.div_euclid.ensures (omega (arith, c.requires.few)) in
+    c.requires.gradient c.requires.power c.requires.most c.requires.agree c.from.ensures c.from-2.ensures c.from-3.ensures c.div_euclid.ensures
+    (omega (arith, c.requires.few)) in
     let most : nat_abs c.div_euclid.result ≤ 2 ^ 58 = rw is b.2 in
     omega (arith, ints)
 
@@ -24,7 +25,8 @@ pub returns-clause-part : goal.returns-clause-part
 returns-clause-part c =
     let b = part-bounds c.args.gradient c.args.sums.power c.args.sums.agreement c.requires.gradient c.requires.power c.requires.most c.requires.agree in
     let is = part-is c.args.gradient c.args.sums.power c.args.sums.agreement c.from.result c.from-2.result c.from-3.result c.div_euclid.result
-    c.requires.gradient c.requires.power c.requires.most c.requires.agree c.from.ensures c.from-2.ensures c.from-3.ensures c.div_euclid.ensures (omega (arith, c.requires.few)) in
+    c.requires.gradient c.requires.power c.requires.most c.requires.agree c.from.ensures c.from-2.ensures c.from-3.ensures c.div_euclid.ensures
+    (omega (arith, c.requires.few)) in
     let most : nat_abs c.div_euclid.result ≤ 2 ^ 58 = rw is b.2 in
     (let e : to_z w64 (of_z w64 (to_z w128 (of_z w128 c.div_euclid.result))) ≡ c.div_euclid.result = omega (arith, ints) in e) ∙ is
 
@@ -32,7 +34,8 @@ pub returns-clause-most : goal.returns-clause-most
 returns-clause-most c =
     let b = part-bounds c.args.gradient c.args.sums.power c.args.sums.agreement c.requires.gradient c.requires.power c.requires.most c.requires.agree in
     let is = part-is c.args.gradient c.args.sums.power c.args.sums.agreement c.from.result c.from-2.result c.from-3.result c.div_euclid.result
-    c.requires.gradient c.requires.power c.requires.most c.requires.agree c.from.ensures c.from-2.ensures c.from-3.ensures c.div_euclid.ensures (omega (arith, c.requires.few)) in
+    c.requires.gradient c.requires.power c.requires.most c.requires.agree c.from.ensures c.from-2.ensures c.from-3.ensures c.div_euclid.ensures
+    (omega (arith, c.requires.few)) in
     let most : nat_abs c.div_euclid.result ≤ 2 ^ 58 = rw is b.2 in
     let e : to_z w64 (of_z w64 (to_z w128 (of_z w128 c.div_euclid.result))) ≡ c.div_euclid.result = omega (arith, ints) in
     rw e most

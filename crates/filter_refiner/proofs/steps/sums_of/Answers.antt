@@ -36,9 +36,11 @@ loop-place-preserved c =
     let new : to_z w64 (of_z w64 (to_z w64 c.loop-place.agreement-bits +ℤ to_z w64 (of_z w64 c.agreement_at-agreement.result)))
     ≡ to_z w64 c.loop-place.agreement-bits +ℤ c.agreement_at-agreement.result = omega (arith, ints) in
     record {
-      agreement = new ∙ ap (λ z. z +ℤ c.agreement_at-agreement.result) c.loop-place.invariant.agreement ∙ ap (λ z. sum_over A 0 p +ℤ z) c.agreement_at-agreement.ensures.agreement ∙ sym next;
+      agreement = new ∙ ap (λ z. z +ℤ c.agreement_at-agreement.result) c.loop-place.invariant.agreement
+          ∙ ap (λ z. sum_over A 0 p +ℤ z) c.agreement_at-agreement.ensures.agreement ∙ sym next;
       power = (let e : pos (c.loop-place.power + c.power_at-power.result) ≡ pos c.loop-place.power +ℤ pos c.power_at-power.result = omega (arith, ints) in e)
-          ∙ ap (λ z. z +ℤ pos c.power_at-power.result) c.loop-place.invariant.power ∙ ap (λ n. sum_over P 0 p +ℤ pos n) c.power_at-power.ensures.power ∙ sym more;
+          ∙ ap (λ z. z +ℤ pos c.power_at-power.result) c.loop-place.invariant.power
+          ∙ ap (λ n. sum_over P 0 p +ℤ pos n) c.power_at-power.ensures.power ∙ sym more;
       few = rw new (omega (arith, ints));
       most = omega (arith, c.power_at-power.ensures.most, c.loop-place.invariant.most);
     }
@@ -56,7 +58,8 @@ returns-clause-power c =
     let all : c.loop-place.place ≡ 64 = omega arith in
     let most = c.loop-place.invariant.most in
     (let e : to_z w64 c.loop-place.power ≡ pos c.loop-place.power = omega (arith, ints) in e)
-    ∙ c.loop-place.invariant.power ∙ ap (sum_over (λ p. pos ((get_or c.args.counts.now p 0 + get_or c.args.counts.now (p + 64) 0) * ((8 * p + 4) * (8 * p + 4)))) 0) all
+    ∙ c.loop-place.invariant.power ∙ ap (sum_over (λ p. pos ((get_or c.args.counts.now p 0 + get_or c.args.counts.now (p + 64) 0) * ((8 * p + 4)
+    * (8 * p + 4)))) 0) all
 
 pub returns-clause-few : goal.returns-clause-few
 returns-clause-few c = omega (arith, c.loop-place.invariant.few)
