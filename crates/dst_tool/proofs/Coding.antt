@@ -52,7 +52,7 @@ accepted_out level file o accepts is one =
     let coded_is = coded_outcome level file (accepted file).frames (stored_at level file (accepted file)) accepts refl refl in
     ap (λ (a : Answer). a.out) (one.2 o is ∙ sym (one.2 _ coded_is))
 
-holds_nothing_yet : (place : ℕ) (old new : Option (List ℕ)) → new ≡ old → HoldsNothing old → HoldsUnfinished place [] new
+pub holds_nothing_yet : (place : ℕ) (old new : Option (List ℕ)) → new ≡ old → HoldsNothing old → HoldsUnfinished place [] new
 holds_nothing_yet place old new same nothing = subst (HoldsUnfinished place []) (sym same) (go old nothing)
   where
     go : (held : Option (List ℕ)) → HoldsNothing held → HoldsUnfinished place [] held

@@ -4,5 +4,6 @@ pub mod OwnLines
 pub mod Runs
 pub mod Inverting
 pub mod Coding
+pub mod DsfCoding
 pub mod MadeRuns
 pub mod MadeOutcomes

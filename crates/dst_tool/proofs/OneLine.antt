@@ -49,7 +49,7 @@ whole_of (show_frame k) out old new e = e
 whole_of index out old new e = e
 whole_of (make start frames channels multiple) out old new e = e
 whole_of (make_run start frames channels multiple) out old new e = e
-whole_of (encode_dsf level) out old new e = e
+whole_of (encode_dsf level) out old new e = λ nothing. e
 whole_of decode_dsf out old new e = e
 whole_of (range pairs) out old new e = e
 
@@ -176,6 +176,12 @@ encoding_is_no_frame level k e = absurd cc
 
 pub decoding_is_no_frame : (k : ℕ) → decode ≡ frame k true → ⊥
 decoding_is_no_frame k e = absurd cc
+
+pub encoding_dsf_is_no_frame : (level k : ℕ) → encode_dsf level ≡ frame k true → ⊥
+encoding_dsf_is_no_frame level k e = absurd cc
+
+pub decoding_dsf_is_no_frame : (k : ℕ) → decode_dsf ≡ frame k true → ⊥
+decoding_dsf_is_no_frame k e = absurd cc
 
 pub checking_is_no_frame : (k : ℕ) → check ≡ frame k true → ⊥
 checking_is_no_frame k e = absurd cc

@@ -132,7 +132,10 @@ whole_of_refused (show_frame k) file o r old new h six w = w
 whole_of_refused index file o r old new h six w = w
 whole_of_refused (make start frames channels multiple) file o r old new h six w = w
 whole_of_refused (make_run start frames channels multiple) file o r old new h six w = w
-whole_of_refused (encode_dsf level) file o r old new h six w = w
+whole_of_refused (encode_dsf level) file o (Some fault) old new h six w = let five = ap (λ (a : Answer). a.status) h in absurd (omega arith)
+whole_of_refused (encode_dsf level) file o None old new (inl s) six w = absurd (not_nothing s.before s.behind s.stop s.is_run)
+whole_of_refused (encode_dsf level) file o None old new (inr h) six w =
+    let zero_status = done_is_0 (encode_dsf level) file (accepted file) o h.1 in absurd (omega arith)
 whole_of_refused decode_dsf file o r old new h six w = w
 whole_of_refused (range pairs) file o r old new h six w = w
 

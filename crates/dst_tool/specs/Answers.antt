@@ -2,7 +2,7 @@
 use Rattle.std.specs.Prelude.{ℕ, ◌*◌, [], ⊤, Result, Ok, Err}
 use Rattle.dst_spec.specs.Sample.{sound_bytes}
 use Rattle.dsdiff_spec.specs.Form.{shape_of}
-use Rattle.dsdiff_spec.specs.Words.{Command, encode, decode, cut, frame, check, make, make_run}
+use Rattle.dsdiff_spec.specs.Words.{Command, encode, decode, cut, frame, check, make, make_run, encode_dsf, decode_dsf}
 use Rattle.dsdiff_spec.specs.Lines.{Line, read_fault_line, write_fault_line, memory_line, file_line, frame_fault_line, coded_line, decoded_line, cut_line}
 use Rattle.dsdiff_spec.specs.Lines.{frame_line, check_line, made_line, made_run_line}
 use Rattle.dsdiff_chunks.specs.declared.open.OpenFault.{OpenFault}
@@ -40,6 +40,8 @@ status_of (Err Report) = 7
 abbrev pub done_line : Command → Numbers → Line
 done_line (encode level) s = coded_line s.frames s.bytes
 done_line decode s = decoded_line s.frames s.bytes
+done_line (encode_dsf level) s = coded_line s.frames s.bytes
+done_line decode_dsf s = decoded_line s.frames s.bytes
 done_line (cut first last) s = cut_line s.frames
 done_line (frame k by_index) s = frame_line k s.bytes
 done_line check s = check_line s.frames s.unread
@@ -51,6 +53,8 @@ done_line c s = []
 abbrev pub TellsOneLine : Command → Type 0
 TellsOneLine (encode level) = ⊤
 TellsOneLine decode = ⊤
+TellsOneLine (encode_dsf level) = ⊤
+TellsOneLine decode_dsf = ⊤
 TellsOneLine (cut first last) = ⊤
 TellsOneLine (frame k by_index) = ⊤
 TellsOneLine check = ⊤

@@ -3,7 +3,8 @@ use Rattle.std.specs.Prelude.{◌≡◌, ◌≢◌, ◌⊎◌, ℕ, ◌+◌, ◌
 use Rattle.dst_streams.specs.Causes.{Rose}
 use Rattle.dst_streams.specs.Told.{and_then, IsCutShort}
 use Rattle.dsdiff_spec.specs.Form.{sound_bytes_of}
-use Rattle.dsdiff_spec.specs.Words.{Word, Command, encode, decode, cut, frame, check, show, show_frame, index, make, make_run}
+use Rattle.dsdiff_spec.specs.Words.{Word, Command, encode, decode, cut, frame, check, show, show_frame, index, make, make_run, encode_dsf, decode_dsf}
+use Rattle.dsdiff_spec.specs.Dsf.{dsdiff}
 use Rattle.words_spec.specs.Rows.{command_of}
 use Rattle.dsdiff_spec.specs.Lines.{Line, report, read_fault_line, write_fault_line, memory_line}
 use Rattle.dsdiff_spec.specs.Refusal.{refusal}
@@ -19,14 +20,17 @@ abbrev pub DidNotRise : ℕ → ℕ → Type 0
 DidNotRise before now = Rose before now → ⊥
 
 -- ---- what is added to a sink
--- All of an output. `encode` writes over what it has written, and so asks for a sink that holds nothing.
+-- All of an output. Encoding writes over what it has written, and so asks for a sink that holds nothing.
 abbrev pub WholeOf : Option Command → List ℕ → Option (List ℕ) → Option (List ℕ) → Type 0
 WholeOf (Some (encode level)) out old new = HoldsNothing old → new ≡ and_then old out
+WholeOf (Some (encode_dsf level)) out old new = HoldsNothing old → new ≡ and_then old out
 WholeOf c out old new = new ≡ and_then old out
 
--- Part of an output, where a device failed: a prefix of it; of `encode` a file that isn't finished.
+-- Part of an output, where a device failed: a prefix of it; of encoding a file that isn't finished.
 abbrev pub PartOf : Option Command → List ℕ → List ℕ → Option (List ℕ) → Option (List ℕ) → Type 0
 PartOf (Some (encode level)) file out old new = HoldsNothing old → HoldsUnfinished (sound_size_place file (accepted file)) out new
+PartOf (Some (encode_dsf level)) file out old new =
+    HoldsNothing old → HoldsUnfinished (sound_size_place (dsdiff file) (accepted (dsdiff file))) out new
 PartOf c file out old new = IsCutShort old out new
 
 -- ---- how a run ends
@@ -92,6 +96,8 @@ WritesFile decode = ⊤
 WritesFile (cut first last) = ⊤
 WritesFile (frame k by_index) = ⊤
 WritesFile (make start frames channels multiple) = ⊤
+WritesFile (encode_dsf level) = ⊤
+WritesFile decode_dsf = ⊤
 WritesFile c = ⊥
 
 -- the most bytes that the source gives where one frame is found by the index, a frame's sound having so many

@@ -11,6 +11,7 @@ use crate::answers::{
     Fault, Numbers, checked, cut_out, decoded, encoded, frame_written, listed, made, ran, shown,
 };
 use crate::making::make_run;
+use dst_dsf::{decode_dsf, encode_dsf};
 use dst_lines::lines;
 use dst_read::{check_file, decode_file, frame_out, index_file, show_file};
 use dst_streams::{Sink, Source};
@@ -93,6 +94,17 @@ pub(crate) fn run_command<E: Threads + Sync, S: Source, K: Sink, R: Sink>(
             let answer = make_run(rt, alloc, start, frames, channels, &OpenGate);
             tell(report, command, ran(answer))
         }
+        Command::EncodeDsf { level } => {
+            let Some(picker) = LevelPicker::new(level) else {
+                unreachable!()
+            };
+            let answer = encode_dsf(rt, alloc, source, sink, &picker, workers, &OpenGate);
+            tell(report, command, encoded(answer))
+        }
+        Command::DecodeDsf => {
+            let answer = decode_dsf(rt, alloc, source, sink, workers, &OpenGate);
+            tell(report, command, decoded(answer))
+        }
     }
 }
 
@@ -144,8 +156,10 @@ fn done_line(command: Command, done: Numbers) -> lines::Line
     ensures { result.bytes ≡ reports.report (done_line (command_seen command) done ∷ []) }
 {
     match command {
-        Command::Encode { .. } => lines::coded(done.frames, done.bytes),
-        Command::Decode => lines::decoded(done.frames, done.bytes),
+        Command::Encode { .. } | Command::EncodeDsf { .. } => {
+            lines::coded(done.frames, done.bytes)
+        }
+        Command::Decode | Command::DecodeDsf => lines::decoded(done.frames, done.bytes),
         Command::Cut { .. } => lines::cut(done.frames),
         Command::Frame { frame, .. } => lines::frame_written(frame, done.bytes),
         Command::Check => lines::checked(done.frames, done.unread),

@@ -4,10 +4,10 @@ use Rattle.std.proofs.lemmas.List.{take_all}
 use Rattle.std.specs.Prelude.{codes, not, find, filter, option_map}
 use Rattle.std.specs.List.{AllByRecursion}
 use Rattle.dsdiff_spec.specs.Bytes.{◌is◌}
-use Rattle.dsdiff_spec.specs.Words.{Word, Task, encode}
+use Rattle.dsdiff_spec.specs.Words.{Word, Command, Task, encode, encode_dsf}
 use Rattle.words_spec.specs.Slots.{file, read_slots, Setting, level, workers, allowed_value, setting_value, read_settings}
 use Rattle.words_spec.specs.Rows.{level_of, workers_of, task_with, task_of}
-use Rattle.dst_words.specs.RowWords.{of_settings, coding_task, encode_words, level_and_workers_in}
+use Rattle.dst_words.specs.RowWords.{of_settings, coding_task, encode_words, encode_dsf_words, level_and_workers_in}
 use Prim.Native.String.{String}
 
 abbrev pub HasValue : Setting → Type 0
@@ -65,13 +65,14 @@ too_many_words (suc n) settings (w ∷ ws) h long =
         ap (option_map (λ found. (w, k) ∷ found)) (later vs (omega (arith, fewer, long))))
 
 -- a row with a level and workers
-pub task_of_coding : (words : List Word) → of_settings (level ∷ workers ∷ []) (λ o. Some (encode (level_of o))) words ≡ option_map coding_task (level_and_workers_in words)
+pub task_of_coding : (at : ℕ → Command) (words : List Word) →
+    of_settings (level ∷ workers ∷ []) (λ o. Some (at (level_of o))) words ≡ option_map (coding_task at) (level_and_workers_in words)
 unfolding level_and_workers_in
-task_of_coding words = go (read_settings 2 (level ∷ workers ∷ []) words)
+task_of_coding at words = go (read_settings 2 (level ∷ workers ∷ []) words)
   where
     go : (o : Option (List (Word × ℕ))) → ◌≡◌ {A = Option Task}
-        (elim o [ None ↦ None | Some o ↦ option_map (task_with o) (Some (encode (level_of o))) ])
-        (option_map coding_task (option_map (λ o. (level_of o, workers_of o)) o))
+        (elim o [ None ↦ None | Some o ↦ option_map (task_with o) (Some (at (level_of o))) ])
+        (option_map (coding_task at) (option_map (λ o. (level_of o, workers_of o)) o))
     go None = refl
     go (Some o) = refl
 
@@ -86,15 +87,19 @@ same_or_none (Some t) = refl
 abbrev behind_slots : (List Word → Option Task) → Option (List ℕ × List Word) → Option Task
 behind_slots f o = elim o [ None ↦ None | Some read ↦ f read.1 ]
 
+coded_row : (at : ℕ → Command) (o : Option (List ℕ × List Word)) →
+    or_none (behind_slots (of_settings (level ∷ workers ∷ []) (λ o. Some (at (level_of o)))) o)
+    ≡ behind_slots (λ words. option_map (coding_task at) (level_and_workers_in words)) o
+coded_row at None = refl
+coded_row at (Some read) = same_or_none (of_settings (level ∷ workers ∷ []) (λ o. Some (at (level_of o))) read.1) ∙ task_of_coding at read.1
+
 pub encode_row : (words : List Word) → task_of (codes "encode" ∷ words) ≡ encode_words words
 unfolding task_of
-encode_row words = go (read_slots (file ∷ file ∷ []) words)
-  where
-    go : (o : Option (List ℕ × List Word)) →
-        or_none (behind_slots (of_settings (level ∷ workers ∷ []) (λ o. Some (encode (level_of o)))) o)
-        ≡ behind_slots (λ words. option_map coding_task (level_and_workers_in words)) o
-    go None = refl
-    go (Some read) = same_or_none (of_settings (level ∷ workers ∷ []) (λ o. Some (encode (level_of o))) read.1) ∙ task_of_coding read.1
+encode_row words = coded_row encode (read_slots (file ∷ file ∷ []) words)
+
+pub encode_dsf_row : (words : List Word) → task_of (codes "encode-dsf" ∷ words) ≡ encode_dsf_words words
+unfolding task_of
+encode_dsf_row words = coded_row encode_dsf (read_slots (file ∷ file ∷ []) words)
 
 -- words behind the first one, which is a row's name
 pub row_named : {A : Type 0} (f : A → Word) (name : String) (row : List Word → Option Task) → ((words : List Word) → task_of (codes name ∷ words) ≡ row words) →

@@ -3,7 +3,7 @@ use Rattle.std.specs.Prelude.{ℕ, ◌/◌, ◌≤◌, ⊤}
 use Rattle.dst_spec.specs.Sample.{Shape}
 use Rattle.dsdiff_spec.specs.Words as words
 use Rattle.dst_words.specs.declared.words.Command.{Command}
-use Rattle.dst_words.specs.declared.words.Command.TheVariants.{Encode, Decode, Cut, Frame, Check, Show, ShowFrame, Index, Make, MakeRun}
+use Rattle.dst_words.specs.declared.words.Command.TheVariants.{Encode, Decode, Cut, Frame, Check, Show, ShowFrame, Index, Make, MakeRun, EncodeDsf, DecodeDsf}
 use Rattle.dst_words.specs.declared.words.Task.{Task}
 
 -- channels, and their rate in multiples of 64 times 44.1 kHz
@@ -21,6 +21,8 @@ command_seen (ShowFrame frame) = words.show_frame frame
 command_seen Index = words.index
 command_seen (Make start frames f) = words.make start frames (channels_seen f).0 (channels_seen f).1
 command_seen (MakeRun start frames f) = words.make_run start frames (channels_seen f).0 (channels_seen f).1
+command_seen (EncodeDsf level) = words.encode_dsf level
+command_seen DecodeDsf = words.decode_dsf
 
 abbrev pub task_seen : Task → words.Task
 task_seen t = record { command = command_seen t.command; workers = t.workers }
@@ -36,6 +38,7 @@ NumbersAreLawful (Encode level) = level ≤ 2
 NumbersAreLawful (Cut first last) = first ≤ last
 NumbersAreLawful (Make start frames channels) = frames ≤ 1000
 NumbersAreLawful (MakeRun start frames channels) = frames ≤ 100
+NumbersAreLawful (EncodeDsf level) = level ≤ 2
 NumbersAreLawful c = ⊤
 
 abbrev pub HasLawfulNumbers : Task → Type 0

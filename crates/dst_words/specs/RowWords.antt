@@ -1,7 +1,7 @@
 -- What the words behind a row's name ask for.
 use Rattle.std.specs.Prelude.{ℕ, Bool, ◌&&◌, if◌then◌else◌, List, [], ◌∷◌, length, Option, Some, None, option_map}
 use Rattle.dsdiff_spec.specs.Bytes.{◌is◌, ◌above◌}
-use Rattle.dsdiff_spec.specs.Words.{Word, Command, Task, show, index, encode, decode, cut, check, make, make_run}
+use Rattle.dsdiff_spec.specs.Words.{Word, Command, Task, show, index, encode, decode, cut, check, make, make_run, encode_dsf, decode_dsf}
 use Rattle.words_spec.specs.Slots.{Slot, file, number, is_file_word, number_word}
 use Rattle.words_spec.specs.Slots.{number_within, read_slots, Setting, level, workers, by_index, rate, read_settings}
 use Rattle.words_spec.specs.Rows.{level_of, workers_of, multiple_of, is_set, frame_of, show_frame_of, task_with}
@@ -43,11 +43,17 @@ abbrev pub alone : Command → Task
 alone c = record { command = c; workers = 1 }
 
 -- the words of each row; `show` and `make` have two
-abbrev pub coding_task : ℕ × ℕ → Task
-coding_task set = record { command = encode set.0; workers = set.1 }
+abbrev pub coding_task : (ℕ → Command) → ℕ × ℕ → Task
+coding_task at set = record { command = at set.0; workers = set.1 }
+
+abbrev pub coding_words : (ℕ → Command) → List Word → Option Task
+coding_words at = of_slots (file ∷ file ∷ []) (λ n words. option_map (coding_task at) (level_and_workers_in words))
 
 abbrev pub encode_words : List Word → Option Task
-encode_words = of_slots (file ∷ file ∷ []) (λ n words. option_map coding_task (level_and_workers_in words))
+encode_words = coding_words encode
+
+abbrev pub encode_dsf_words : List Word → Option Task
+encode_dsf_words = coding_words encode_dsf
 
 abbrev pub cutting_task : ℕ × ℕ → Task
 cutting_task span = alone (cut span.0 span.1)
@@ -59,6 +65,9 @@ cut_words words = None
 
 abbrev pub decode_words : List Word → Option Task
 decode_words = of_slots (file ∷ file ∷ []) (λ n. of_settings (workers ∷ []) (λ o. Some decode))
+
+abbrev pub decode_dsf_words : List Word → Option Task
+decode_dsf_words = of_slots (file ∷ file ∷ []) (λ n. of_settings (workers ∷ []) (λ o. Some decode_dsf))
 
 abbrev pub frame_words : List Word → Option Task
 frame_words = of_slots (file ∷ file ∷ number ∷ []) (λ n. of_settings (by_index ∷ []) (λ o. frame_of (is_set "--by-index" o) n))

@@ -164,3 +164,28 @@ fn words_of_cutting_and_making_are_tasks(rt: HostRuntime) -> Result<(), Fail> {
     }
     Ok(())
 }
+
+#[test]
+fn words_of_dsf_files_are_tasks(rt: HostRuntime) -> Result<(), Fail> {
+    let cases = [
+        (
+            "encode-dsf a.dsf b.dff",
+            task(Command::EncodeDsf { level: 1 }, 1),
+        ),
+        (
+            "encode-dsf a b --workers 4 --level 0",
+            task(Command::EncodeDsf { level: 0 }, 4),
+        ),
+        ("encode-dsf a b --level 3", None),
+        ("encode-dsf a", None),
+        ("decode-dsf a.dff b.dsf", task(Command::DecodeDsf, 1)),
+        ("decode-dsf a b --workers 16", task(Command::DecodeDsf, 16)),
+        ("decode-dsf a b --level 1", None),
+        ("decode-dsf a", None),
+    ];
+    for (text, expected) in cases {
+        let words = split(rt.alloc(), text)?;
+        assert_eq!(rt; read_words(words.as_slice()), expected, "{text}");
+    }
+    Ok(())
+}

@@ -3,7 +3,7 @@ ghost use Rattle.std.specs.Prelude.{◌≡◌, map, option_map, IfSome};
 ghost use Rattle.std.specs.String.{string_bytes};
 ghost use Rattle.words_spec.specs.Rows.{task_of};
 ghost use Rattle.dst_words.specs.Commands.{task_seen, HasFewWorkers, HasLawfulNumbers};
-ghost use Rattle.dst_words.specs.RowWords.{encode_words, decode_words, cut_words, frame_words, check_words, show_words, index_words, make_words};
+ghost use Rattle.dst_words.specs.RowWords.{encode_words, decode_words, cut_words, frame_words, check_words, show_words, index_words, make_words, encode_dsf_words, decode_dsf_words};
 
 use crate::slots::{
     is_file_word, read_by_index, read_channels, read_level_and_workers, read_number, read_span,
@@ -55,6 +55,12 @@ pub enum Command {
         frames: u32,
         channels: Channels,
     },
+    /// `encode-dsf IN OUT [--level L] [--workers W]`: code a DSF file at a level, 0 to 2.
+    EncodeDsf {
+        level: u32,
+    },
+    /// `decode-dsf IN OUT [--workers W]`: decode a coded file to a DSF file.
+    DecodeDsf,
 }
 
 /// What words ask for: a command, and how many workers, 1 to 16, work at it side by side; one unless words say otherwise. What
@@ -84,6 +90,8 @@ pub fn read_words(words: &[String]) -> Option<Task>
         "show" => read_show(rest),
         "index" => read_index(rest),
         "make" => read_make(rest),
+        "encode-dsf" => read_encode_dsf(rest),
+        "decode-dsf" => read_decode_dsf(rest),
         _ => None,
     }
 }
@@ -237,6 +245,42 @@ fn read_make(words: &[String]) -> Option<Task>
         frames,
         channels,
     }))
+}
+
+fn read_encode_dsf(words: &[String]) -> Option<Task>
+    ensures task { option_map task_seen result ≡ encode_dsf_words (map string_bytes words.now) }
+    ensures workers { IfSome result HasFewWorkers }
+    ensures numbers { IfSome result HasLawfulNumbers }
+{
+    let [input, output, options @ ..] = words else {
+        return None;
+    };
+    if !is_file_word(input) || !is_file_word(output) {
+        return None;
+    }
+    let (level, workers) = read_level_and_workers(options)?;
+    Some(Task {
+        command: Command::EncodeDsf { level },
+        workers,
+    })
+}
+
+fn read_decode_dsf(words: &[String]) -> Option<Task>
+    ensures task { option_map task_seen result ≡ decode_dsf_words (map string_bytes words.now) }
+    ensures workers { IfSome result HasFewWorkers }
+    ensures numbers { IfSome result HasLawfulNumbers }
+{
+    let [input, output, options @ ..] = words else {
+        return None;
+    };
+    if !is_file_word(input) || !is_file_word(output) {
+        return None;
+    }
+    let workers = read_workers(options)?;
+    Some(Task {
+        command: Command::DecodeDsf,
+        workers,
+    })
 }
 
 // A command at which one works.

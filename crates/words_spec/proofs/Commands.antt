@@ -2,7 +2,7 @@
 use Rattle.std.proofs.Common.{◌≡◌, ℕ, List, [], ◌∷◌, map, refl, true, false, Some, None}
 use Rattle.std.specs.Prelude.{codes}
 use Prim.Native.String.{String}
-use Rattle.dsdiff_spec.specs.Words.{Word, Command, Task, encode, decode, cut, frame, check, show, show_frame, index, make, make_run}
+use Rattle.dsdiff_spec.specs.Words.{Word, Command, Task, encode, decode, cut, frame, check, show, show_frame, index, make, make_run, encode_dsf, decode_dsf}
 use Rattle.words_spec.specs.Rows.{task_of}
 
 abbrev pub words : List String → List Word
@@ -121,6 +121,22 @@ most_frames_that_are_made_and_run = refl
 pub no_frames_are_made_and_run : task_of (words ("make" ∷ "7" ∷ "--run" ∷ "0" ∷ "1" ∷ "--rate" ∷ "256" ∷ [])) ≡ Some ((make_run 7 0 1 4) by 1)
 unfolding task_of
 no_frames_are_made_and_run = refl
+
+pub level_one_does_else_of_dsf : task_of (words ("encode-dsf" ∷ "a.dsf" ∷ "b.dff" ∷ [])) ≡ Some ((encode_dsf 1) by 1)
+unfolding task_of
+level_one_does_else_of_dsf = refl
+
+pub level_and_workers_of_dsf : task_of (words ("encode-dsf" ∷ "a" ∷ "b" ∷ "--workers" ∷ "16" ∷ "--level" ∷ "2" ∷ [])) ≡ Some ((encode_dsf 2) by 16)
+unfolding task_of
+level_and_workers_of_dsf = refl
+
+pub decoded_to_dsf : task_of (words ("decode-dsf" ∷ "a.dff" ∷ "b.dsf" ∷ [])) ≡ Some (decode_dsf by 1)
+unfolding task_of
+decoded_to_dsf = refl
+
+pub decoded_to_dsf_by_workers : task_of (words ("decode-dsf" ∷ "a" ∷ "b" ∷ "--workers" ∷ "16" ∷ [])) ≡ Some (decode_dsf by 16)
+unfolding task_of
+decoded_to_dsf_by_workers = refl
 
 -- ---- words that no row has
 pub no_words : task_of [] ≡ None
@@ -346,3 +362,15 @@ pipe_is_no_row = refl
 pub help_is_no_row : task_of (words ("--help" ∷ [])) ≡ None
 unfolding task_of
 help_is_no_row = refl
+
+pub level_of_dsf_past_the_greatest : task_of (words ("encode-dsf" ∷ "a" ∷ "b" ∷ "--level" ∷ "3" ∷ [])) ≡ None
+unfolding task_of
+level_of_dsf_past_the_greatest = refl
+
+pub no_level_of_decoding_to_dsf : task_of (words ("decode-dsf" ∷ "a" ∷ "b" ∷ "--level" ∷ "1" ∷ [])) ≡ None
+unfolding task_of
+no_level_of_decoding_to_dsf = refl
+
+pub two_files_are_needed_of_dsf : task_of (words ("decode-dsf" ∷ "a" ∷ [])) ≡ None
+unfolding task_of
+two_files_are_needed_of_dsf = refl

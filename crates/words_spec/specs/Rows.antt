@@ -1,9 +1,9 @@
--- The rows of commands: name, words, options, and the command of their numbers and settings. Commands on DSF files and on parts of the
--- sound have none yet. How many work at a command is an option of its row, and one does else.
+-- The rows of commands: name, words, options, and the command of their numbers and settings. Parts of the sound have none yet. How many
+-- work at a command is an option of its row, and one does else.
 use Rattle.std.specs.Prelude.{ℕ, ◌/◌, Bool, ◌==◌, if◌then◌else◌, List, [], ◌∷◌, length, Option, Some, None, option_map}
 use Rattle.dsdiff_spec.specs.Bytes.{◌is◌, ◌above◌}
 use Rattle.dsdiff_spec.specs.Faults.{first_some}
-use Rattle.dsdiff_spec.specs.Words.{Word, Command, Task, encode, decode, cut, frame, check, show, show_frame, index, make, make_run}
+use Rattle.dsdiff_spec.specs.Words.{Word, Command, Task, encode, decode, cut, frame, check, show, show_frame, index, make, make_run, encode_dsf, decode_dsf}
 use Rattle.words_spec.specs.Slots.{Slot, file, number}
 use Rattle.words_spec.specs.Slots.{within, fixed, read_slots, Setting, level, workers, by_index, rate, read_settings, set_or}
 use Prim.Native.String.{String}
@@ -64,6 +64,8 @@ rows =
     ∷ row "index" (file ∷ []) [] (λ n o. Some index)
     ∷ row "make" (number ∷ file ∷ within 0 1000 ∷ within 1 6 ∷ []) (rate ∷ []) (λ n o. make_of (multiple_of o) n)
     ∷ row "make" (number ∷ fixed "--run" ∷ within 0 100 ∷ within 1 6 ∷ []) (rate ∷ []) (λ n o. make_run_of (multiple_of o) n)
+    ∷ row "encode-dsf" (file ∷ file ∷ []) (level ∷ workers ∷ []) (λ n o. Some (encode_dsf (level_of o)))
+    ∷ row "decode-dsf" (file ∷ file ∷ []) (workers ∷ []) (λ n o. Some decode_dsf)
     ∷ []
 
 -- the task of words that are a row

@@ -12,7 +12,7 @@ use Rattle.dst_tool.specs.declared.answers.Numbers.{Numbers}
 use Rattle.dst_tool.specs.declared.answers.Fault.{Fault}
 use Rattle.dst_tool.specs.declared.answers.Fault.TheVariants.{Read, Write, Memory, Report, File, Frame}
 use Rattle.dst_commands.specs.Commands.{OutcomeOf}
-use Rattle.dst_tool.proofs.OneLine.{IsAnswer, few_given, most_for_any, TellsLine, run_of_answer, at_file, same_run, nothing_added, nothing_cut, finished_alone, cut_or_nothing, encoding_is_no_frame, decoding_is_no_frame, cutting_is_no_frame, making_is_no_frame, running_is_no_frame, checking_is_no_frame, showing_is_no_frame, showing_one_is_no_frame, listing_is_no_frame}
+use Rattle.dst_tool.proofs.OneLine.{IsAnswer, few_given, most_for_any, TellsLine, run_of_answer, at_file, same_run, nothing_added, nothing_cut, finished_alone, cut_or_nothing, encoding_is_no_frame, decoding_is_no_frame, encoding_dsf_is_no_frame, decoding_dsf_is_no_frame, cutting_is_no_frame, making_is_no_frame, running_is_no_frame, checking_is_no_frame, showing_is_no_frame, showing_one_is_no_frame, listing_is_no_frame}
 use Rattle.dst_read.specs.declared.faults.DecodeFault.{DecodeFault}
 use Rattle.dst_read.specs.declared.faults.DecodeFault.TheVariants as decoding
 use Rattle.dst_write.specs.declared.make.MakeFault.TheVariants as making
@@ -31,6 +31,7 @@ use Rattle.dst_read.specs.declared.faults.FrameWritten.{FrameWritten}
 use Rattle.dst_read.specs.declared.faults.Checked.{Checked}
 use Rattle.dst_read.specs.declared.faults.Reported.{Reported}
 use Rattle.dst_tool.proofs.Coding.{encoded_whole, part_of_encoding, accepted_out}
+use Rattle.dst_tool.proofs.DsfCoding.{dsf_at, dsf_whole, dsf_out, part_of_dsf}
 use Rattle.dst_tool.proofs.MadeOutcomes.{asks_make, asks_run, of_ran, made_outcome, made_out, made_whole, run_done, sink_failed}
 use Rattle.dst_tool.proofs.OwnLines.{run_of_listing}
 use Rattle.dst_tool.proofs.command.run_command.Goals as goal
@@ -151,6 +152,96 @@ returns-in-Decode g c =
       no_report = λ h. decode_reports of_decoded d (sym is ∙ h);
     })
     (subst (λ q. TellsLine (status_of r) (line_of q r) c.tell-in-Decode.result (record { before = g.R.Sink.faults c.args.report.now; now = g.R.Sink.faults c.tell-in-Decode.new.report }) (record { old = g.R.Sink.written c.args.report.now; new = g.R.Sink.written c.tell-in-Decode.new.report; room = g.R.Sink.room c.args.report.now })) same (record { reported = t.reported; whole = t.whole; cut_short = t.cut_short; cause = t.cause; sure = t.sure })))
+
+pub returns-in-Some-2 : goal.returns-in-Some-2
+returns-in-Some-2 g c =
+    let d = c.encode_dsf-answer.result in
+    let e = c.encode_dsf-answer.ensures in
+    let r = c.encoded-in-Some-2.result in
+    let is : r ≡ answered of_encoded of_encode d = c.encoded-in-Some-2.ensures in
+    let back : (f : Fault) → r ≡ Err f → d ≡ Err (to_encode f) = λ f h. back_from of_encoded of_encode to_encode encode_again d f (sym is ∙ h) in
+    let t = c.tell-in-Some-2.ensures in
+    let bytes = g.S.Source.bytes c.args.source.now in
+    let written = g.K.Sink.written c.args.sink.now in
+    let same = ap command_seen c.in-EncodeDsf.is in
+    let level = c.in-EncodeDsf.level in
+    let asks = asked.encode_dsf level in
+    let new = g.K.Sink.written c.encode_dsf-answer.new.sink in
+    let picker = c.in-Some-2.picker in
+    let picker_is : picker ≡ level = c.in-Some-2.ensures.level in
+    let one : (file : List ℕ) → bytes ≡ Some file → One (OutcomeOf asks file) = λ file told. command_has_one_outcome asks file tt (g.met.S.Source.told_are_bytes c.args.source.now file told) in
+    same_run same (run_of_answer asks r c.tell-in-Some-2.result bytes _ _ _ _ _ _ _ _ _ tt (λ file told. g.met.S.Source.told_are_bytes c.args.source.now file told)
+    (λ file told. record {
+      finished = subst (λ r. IfOk r (λ s. (out : List ℕ) × OutcomeOf asks file (done out (done_line asks s ∷ [])) × WholeOf (Some asks) out written new)) (sym is)
+          (if_answered of_encoded of_encode d _ (dsf_whole d level picker file bytes written new picker_is told e.accepted e.encoded e.frames e.stored));
+      file_is = λ fault h. e.file fault (back (File fault) h) file told level;
+      untouched = λ fault h. ap g.K.Sink.written (e.untouched fault (back (File fault) h));
+      frame_is = λ k fault h. absurd (encode_refuses of_encoded d k fault (sym is ∙ h));
+      cut_short = λ h. part_of_dsf level picker file written new picker_is (λ fault refused. ap g.K.Sink.written (e.refused file told level fault refused))
+          (λ nothing. e.unfinished (either (back Read) (back Write) h) file told nothing);
+      memory = λ h. ap g.K.Sink.written (e.memory (back Memory h));
+      no_report = λ h. encode_reports of_encoded d (sym is ∙ h);
+    })
+    (λ w. absurd w)
+    (record {
+      read = λ h. e.read (back Read h);
+      write = λ h. e.write (back Write h);
+      sure = λ h file told o outcome n room fits.
+          let out = dsf_out level file o (e.write_accepted (back Write h) file told level) outcome (one file told) ∙ ap (λ n. dsf_at n file) (sym picker_is) in
+          e.sure (back Write h) file told n room (subst (λ w. length w ≤ n) out fits);
+      memory = λ h. e.memory (back Memory h);
+      untouched = λ fault h. e.untouched fault (back (File fault) h);
+      idle = λ w. absurd w;
+      no_write = λ w. absurd w;
+      unread = λ w. absurd w;
+      no_file = λ w. absurd w;
+      settled = λ w s h. if_done of_encoded of_encode d s (sym is ∙ h) e.settled;
+      by_index = λ k h. absurd (encoding_dsf_is_no_frame level k h);
+      any_source = λ k h. absurd (encoding_dsf_is_no_frame level k h);
+      no_report = λ h. encode_reports of_encoded d (sym is ∙ h);
+    })
+    (record { reported = t.reported; whole = t.whole; cut_short = t.cut_short; cause = t.cause; sure = t.sure }))
+
+pub returns-in-DecodeDsf : goal.returns-in-DecodeDsf
+returns-in-DecodeDsf g c =
+    let d = c.decode_dsf-answer.result in
+    let e = c.decode_dsf-answer.ensures in
+    let r = c.decoded-in-DecodeDsf.result in
+    let is : r ≡ answered of_decoded of_decode d = c.decoded-in-DecodeDsf.ensures in
+    let back : (f : Fault) → r ≡ Err f → d ≡ Err (to_decode f) = λ f h. back_from of_decoded of_decode to_decode decode_again d f (sym is ∙ h) in
+    let t = c.tell-in-DecodeDsf.ensures in
+    let bytes = g.S.Source.bytes c.args.source.now in
+    let written = g.K.Sink.written c.args.sink.now in
+    let same = ap command_seen c.in-DecodeDsf.is in
+    let asks = asked.decode_dsf in
+    same_run same (run_of_answer asks r c.tell-in-DecodeDsf.result bytes _ _ _ _ _ _ _ _ _ tt (λ file told. g.met.S.Source.told_are_bytes c.args.source.now file told)
+    (λ file told. record {
+      finished = subst (λ r. IfOk r (λ s. (out : List ℕ) × OutcomeOf asks file (done out (done_line asks s ∷ [])) × (g.K.Sink.written c.decode_dsf-answer.new.sink ≡ and_then written out))) (sym is)
+          (if_answered of_decoded of_decode d _ (at_file d (λ s file. (out : List ℕ) × OutcomeOf asks file (done out (done_line asks (of_decoded s) ∷ [])) × (g.K.Sink.written c.decode_dsf-answer.new.sink ≡ and_then written out)) bytes file told e.decoded));
+      file_is = λ fault h. e.file fault (back (File fault) h) file told;
+      untouched = λ fault h. ap g.K.Sink.written (e.untouched fault (back (File fault) h));
+      frame_is = λ k fault h. e.frame k fault (back (Frame k fault) h) file told;
+      cut_short = λ h. e.cut_short (either (back Read) (back Write) h) file told;
+      memory = λ h. ap g.K.Sink.written (e.memory (back Memory h));
+      no_report = λ h. decode_reports of_decoded d (sym is ∙ h);
+    })
+    (λ w. absurd w)
+    (record {
+      read = λ h. e.read (back Read h);
+      write = λ h. e.write (back Write h);
+      sure = λ h. e.sure (back Write h);
+      memory = λ h. e.memory (back Memory h);
+      untouched = λ fault h. e.untouched fault (back (File fault) h);
+      idle = λ w. absurd w;
+      no_write = λ w. absurd w;
+      unread = λ w. absurd w;
+      no_file = λ w. absurd w;
+      settled = λ w s h. if_done of_decoded of_decode d s (sym is ∙ h) e.settled;
+      by_index = λ k h. absurd (decoding_dsf_is_no_frame k h);
+      any_source = λ k h. absurd (decoding_dsf_is_no_frame k h);
+      no_report = λ h. decode_reports of_decoded d (sym is ∙ h);
+    })
+    (subst (λ q. TellsLine (status_of r) (line_of q r) c.tell-in-DecodeDsf.result (record { before = g.R.Sink.faults c.args.report.now; now = g.R.Sink.faults c.tell-in-DecodeDsf.new.report }) (record { old = g.R.Sink.written c.args.report.now; new = g.R.Sink.written c.tell-in-DecodeDsf.new.report; room = g.R.Sink.room c.args.report.now })) same (record { reported = t.reported; whole = t.whole; cut_short = t.cut_short; cause = t.cause; sure = t.sure })))
 
 pub returns-in-Cut : goal.returns-in-Cut
 returns-in-Cut g c =

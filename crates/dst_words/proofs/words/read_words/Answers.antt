@@ -1,8 +1,8 @@
 -- The words of encoding, of cutting and of making are read as their rows have them.
 use Rattle.std.proofs.Common.{ap, sym, ◌∙◌}
 use Rattle.std.specs.String.{string_bytes}
-use Rattle.dst_words.specs.RowWords.{encode_words, cut_words, make_words}
-use Rattle.dst_words.proofs.Options.{encode_row, row_named}
+use Rattle.dst_words.specs.RowWords.{encode_words, cut_words, make_words, encode_dsf_words}
+use Rattle.dst_words.proofs.Options.{encode_row, encode_dsf_row, row_named}
 use Rattle.dst_words.proofs.Making.{cut_row, make_row}
 use Rattle.dst_words.proofs.words.read_words.Goals as goal
 
@@ -20,3 +20,9 @@ pub returns-in-make-clause-task : goal.returns-in-make-clause-task
 returns-in-make-clause-task c =
     let name = ap (λ s. string_bytes s) (sym c.name-item.is) ∙ sym c.as_str.ensures.value ∙ c.in-make.is in
     c.read_make.ensures.task ∙ sym (row_named (λ s. string_bytes s) "make" make_words make_row c.args.words.now c.name-item.result c.in-len1-up.len_at_least name)
+
+pub returns-in-text-clause-task : goal.returns-in-text-clause-task
+returns-in-text-clause-task c =
+    let name = ap (λ s. string_bytes s) (sym c.name-item.is) ∙ sym c.as_str.ensures.value ∙ c.in-text.is in
+    c.read_encode_dsf.ensures.task
+    ∙ sym (row_named (λ s. string_bytes s) "encode-dsf" encode_dsf_words encode_dsf_row c.args.words.now c.name-item.result c.in-len1-up.len_at_least name)
