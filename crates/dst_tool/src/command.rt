@@ -44,9 +44,7 @@ pub(crate) fn run_command<E: Threads + Sync, S: Source, K: Sink, R: Sink>(
 {
     match command {
         Command::Encode { level } => {
-            let Some(picker) = LevelPicker::new(level) else {
-                unreachable!()
-            };
+            let picker = picker_of(level);
             let answer = encode_file(rt, alloc, source, sink, &picker, workers, &OpenGate);
             tell(report, command, encoded(answer))
         }
@@ -95,9 +93,7 @@ pub(crate) fn run_command<E: Threads + Sync, S: Source, K: Sink, R: Sink>(
             tell(report, command, ran(answer))
         }
         Command::EncodeDsf { level } => {
-            let Some(picker) = LevelPicker::new(level) else {
-                unreachable!()
-            };
+            let picker = picker_of(level);
             let answer = encode_dsf(rt, alloc, source, sink, &picker, workers, &OpenGate);
             tell(report, command, encoded(answer))
         }
@@ -106,6 +102,17 @@ pub(crate) fn run_command<E: Threads + Sync, S: Source, K: Sink, R: Sink>(
             tell(report, command, decoded(answer))
         }
     }
+}
+
+// The picker of a level that there is.
+fn picker_of(level: u32) -> LevelPicker
+    requires { level ≤ 2 }
+    ensures { result ≡ level }
+{
+    let Some(picker) = LevelPicker::new(level) else {
+        unreachable!()
+    };
+    picker
 }
 
 // Reports the line of what a command answered that reports one line.

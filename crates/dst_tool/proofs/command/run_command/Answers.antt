@@ -63,8 +63,8 @@ either f h (inl a) = inl (f a)
 either f h (inr b) = inr (h b)
 
 -- ---- commands that report one line
-pub returns-in-Some : goal.returns-in-Some
-returns-in-Some g c =
+pub returns-in-Encode : goal.returns-in-Encode
+returns-in-Encode g c =
     let d = c.encode_file-answer.result in
     let e = c.encode_file-answer.ensures in
     let r = c.encoded.result in
@@ -77,8 +77,8 @@ returns-in-Some g c =
     let level = c.in-Encode.level in
     let asks = asked.encode level in
     let new = g.K.Sink.written c.encode_file-answer.new.sink in
-    let picker = c.in-Some.picker in
-    let picker_is : picker ≡ level = c.in-Some.ensures.level in
+    let picker = c.picker_of-picker.result in
+    let picker_is : picker ≡ level = c.picker_of-picker.ensures in
     let one : (file : List ℕ) → bytes ≡ Some file → One (OutcomeOf asks file) = λ file told. command_has_one_outcome asks file tt (g.met.S.Source.told_are_bytes c.args.source.now file told) in
     same_run same (run_of_answer asks r c.tell.result bytes _ _ _ _ _ _ _ _ _ tt (λ file told. g.met.S.Source.told_are_bytes c.args.source.now file told)
     (λ file told. record {
@@ -153,24 +153,24 @@ returns-in-Decode g c =
     })
     (subst (λ q. TellsLine (status_of r) (line_of q r) c.tell-in-Decode.result (record { before = g.R.Sink.faults c.args.report.now; now = g.R.Sink.faults c.tell-in-Decode.new.report }) (record { old = g.R.Sink.written c.args.report.now; new = g.R.Sink.written c.tell-in-Decode.new.report; room = g.R.Sink.room c.args.report.now })) same (record { reported = t.reported; whole = t.whole; cut_short = t.cut_short; cause = t.cause; sure = t.sure })))
 
-pub returns-in-Some-2 : goal.returns-in-Some-2
-returns-in-Some-2 g c =
+pub returns-in-EncodeDsf : goal.returns-in-EncodeDsf
+returns-in-EncodeDsf g c =
     let d = c.encode_dsf-answer.result in
     let e = c.encode_dsf-answer.ensures in
-    let r = c.encoded-in-Some-2.result in
-    let is : r ≡ answered of_encoded of_encode d = c.encoded-in-Some-2.ensures in
+    let r = c.encoded-in-EncodeDsf.result in
+    let is : r ≡ answered of_encoded of_encode d = c.encoded-in-EncodeDsf.ensures in
     let back : (f : Fault) → r ≡ Err f → d ≡ Err (to_encode f) = λ f h. back_from of_encoded of_encode to_encode encode_again d f (sym is ∙ h) in
-    let t = c.tell-in-Some-2.ensures in
+    let t = c.tell-in-EncodeDsf.ensures in
     let bytes = g.S.Source.bytes c.args.source.now in
     let written = g.K.Sink.written c.args.sink.now in
     let same = ap command_seen c.in-EncodeDsf.is in
     let level = c.in-EncodeDsf.level in
     let asks = asked.encode_dsf level in
     let new = g.K.Sink.written c.encode_dsf-answer.new.sink in
-    let picker = c.in-Some-2.picker in
-    let picker_is : picker ≡ level = c.in-Some-2.ensures.level in
+    let picker = c.picker_of-picker-in-EncodeDsf.result in
+    let picker_is : picker ≡ level = c.picker_of-picker-in-EncodeDsf.ensures in
     let one : (file : List ℕ) → bytes ≡ Some file → One (OutcomeOf asks file) = λ file told. command_has_one_outcome asks file tt (g.met.S.Source.told_are_bytes c.args.source.now file told) in
-    same_run same (run_of_answer asks r c.tell-in-Some-2.result bytes _ _ _ _ _ _ _ _ _ tt (λ file told. g.met.S.Source.told_are_bytes c.args.source.now file told)
+    same_run same (run_of_answer asks r c.tell-in-EncodeDsf.result bytes _ _ _ _ _ _ _ _ _ tt (λ file told. g.met.S.Source.told_are_bytes c.args.source.now file told)
     (λ file told. record {
       finished = subst (λ r. IfOk r (λ s. (out : List ℕ) × OutcomeOf asks file (done out (done_line asks s ∷ [])) × WholeOf (Some asks) out written new)) (sym is)
           (if_answered of_encoded of_encode d _ (dsf_whole d level picker file bytes written new picker_is told e.accepted e.encoded e.frames e.stored));
