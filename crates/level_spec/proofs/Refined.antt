@@ -53,10 +53,10 @@ pub IsTable-fitted : (rows : List State) (x : List ℤ) → 1 ≤ length x → l
 unfolding fitted
 IsTable-fitted rows x some few = elim (greatest x == 0) as (λ b. IsTable filter_kind (cond b (pos 0 ∷ []) (without_zeros (fit_down rows (at_255 x)
     (length x))))) [
-  | true ↦ record { least = omega arith; most = omega arith; each = ((omega (arith, ints), omega (arith, ints)), tt); alone = λ lone _. absurd (cc) }
-  | false ↦ let long = length-fit_down rows (at_255 x) (length x) in
-      IsTable-without_zeros (fit_down rows (at_255 x) (length x)) (omega arith) (omega arith) (fit_down-range rows (at_255 x) (length x))
-]
+      | true ↦ record { least = omega arith; most = omega arith; each = ((omega (arith, ints), omega (arith, ints)), tt); alone = λ lone _. absurd (cc) }
+      | false ↦ let long = length-fit_down rows (at_255 x) (length x) in
+          IsTable-without_zeros (fit_down rows (at_255 x) (length x)) (omega arith) (omega arith) (fit_down-range rows (at_255 x) (length x))
+    ]
 
 -- what holds of the value, where there is one
 abbrev pub IfThere : {A : Type 0} → (A → Type 0) → Option A → Type 0
