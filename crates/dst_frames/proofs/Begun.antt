@@ -1,5 +1,6 @@
 -- Lanes whose codes begin, and a frame that is decoded in one.
-use Rattle.std.proofs.Common.{◌≡◌, ℕ, ◌+◌, ◌^◌, ◌<◌, ◌≤◌, nat_lt, Bool, true, false, List, [], ◌∷◌, ◌++◌, length, get_or, refl, ap, sym, subst, ◌∙◌, arith, Result, Ok, ltb-true, ltb-false}
+use Rattle.std.proofs.Common.{◌≡◌, ℕ, ◌+◌, ◌^◌, ◌<◌, ◌≤◌, nat_lt, Bool, true, false, List, [], ◌∷◌, ◌++◌, length, get_or, set, get_or-set_same, get_or-set_other, nat_eq, refl, ap, sym, subst, ◌∙◌, arith, Result, Ok, ltb-true, ltb-false}
+use Rattle.std.proofs.lemmas.Bool.{eqb-true, eqb-false}
 use Rattle.dst_spec.specs.Bits.{bits}
 use Rattle.dst_spec.specs.Sample.{Shape, IsShape}
 use Rattle.dst_spec.specs.Symbols.{reserved_probability, symbols}
@@ -18,6 +19,7 @@ use Rattle.dst_frames.specs.Batch.{HasBegun, IsDecoded, AreLanes, stored_in, cod
 use Rattle.dst_frames.specs.Running.{LaneDecoded}
 use Rattle.dst_frames.specs.declared.slots.Slot.{Slot}
 use Rattle.dst_frames.specs.declared.stored.StoredFrame.{StoredFrame}
+use Rattle.dst_frames.specs.declared.stored.DecodedFrame.{DecodedFrame}
 use Rattle.dst_frames.proofs.Lanes.{one_of}
 use Rattle.dst_frames.proofs.Running.{code_of, no_code}
 use Rattle.dst_frames.proofs.Whole.{frame_begins, frame_ends}
@@ -97,3 +99,12 @@ begun_lanes f s t frames slots words given few same begun empty taken = record {
         let b = empty n le h in
         let k = taken n 1 [] h b.0.lane b.1 (omega (arith, b.0.ahead)) (omega (arith, b.0.used_is)) in
         (subst (IsLane t n) (no_code frames n le) k.2.lane, omega (arith, k.2.used, b.0.used_is))
+
+-- sounds of one length, one of them written
+pub long_set : (heard : List DecodedFrame) (i m k : ℕ) (x other : DecodedFrame) → i < length heard → length x.sound.items ≡ k →
+    length (get_or heard m other).sound.items ≡ k → length (get_or (set heard i x) m other).sound.items ≡ k
+long_set heard i m k x other lt new was = go (nat_eq m i) refl
+  where
+    go : (b : Bool) → nat_eq m i ≡ b → length (get_or (set heard i x) m other).sound.items ≡ k
+    go true e = let is = eqb-true m i e in rw (is, get_or-set_same heard i x other lt) new
+    go false e = rw (get_or-set_other heard i m x other (eqb-false m i e)) was

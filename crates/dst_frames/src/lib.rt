@@ -5,7 +5,7 @@
 //! let unread = decode_frame(&frame, channels, &mut scratch, &mut sound)?; // the sound of the frame
 //! ```
 //!
-//! Up to eight frames of one shape are decoded side by side on one processor, which takes about half the time:
+//! Up to eight frames of one shape are decoded side by side on one processor:
 //!
 //! ```text
 //! let mut scratch = BatchScratch::new(alloc, channels)?;
