@@ -1,12 +1,11 @@
 -- Lanes whose codes begin, and a frame that is decoded in one.
-use Rattle.std.proofs.Common.{◌≡◌, ℕ, ◌+◌, ◌^◌, ◌<◌, ◌≤◌, nat_lt, Bool, true, false, List, [], ◌∷◌, ◌++◌, length, get_or, set, get_or-set_same, get_or-set_other, nat_eq, refl, ap, sym, subst, ◌∙◌, arith, Result, Ok, ltb-true, ltb-false}
+use Rattle.std.proofs.Common.{◌≡◌, ℕ, ◌^◌, ◌<◌, ◌≤◌, nat_lt, Bool, true, false, List, [], length, get_or, set, get_or-set_same, get_or-set_other, nat_eq, refl, ap, sym, subst, ◌∙◌, arith, Result, Ok, ltb-true, ltb-false}
 use Rattle.std.proofs.lemmas.Bool.{eqb-true, eqb-false}
 use Rattle.dst_spec.specs.Bits.{bits}
 use Rattle.dst_spec.specs.Sample.{Shape, IsShape}
 use Rattle.dst_spec.specs.Symbols.{reserved_probability, symbols}
 use Rattle.dst_spec.specs.Interval.{IsCodeOf}
 use Rattle.dst_spec.specs.Means.{MeansWithTail}
-use Rattle.dst_spec.specs.Offends.{Offends}
 use Rattle.dst_spec.specs.declared.faults.FrameFault.{FrameFault}
 use Rattle.dst_spec.proofs.Meaning.{meaning_is_no_fault}
 use Rattle.dst_spec.proofs.Unique.{meaning_of_tail}

@@ -1,16 +1,15 @@
 -- A sample of a frame whose code is decoded in a lane.
-use Rattle.std.proofs.Common.{◌≡◌, ℕ, ◌+◌, ◌-◌, ◌/◌, ◌%◌, ◌<◌, ◌≤◌, ◌&&◌, nat_eq, nat_lt, Bool, true, false, not, if◌then◌else◌, List, [], ◌∷◌, ◌++◌, length, get_or}
-use Rattle.std.proofs.Common.{refl, ap, ap₂, sym, ◌∙◌, subst, arith, ltb-true, ltb-false}
+use Rattle.std.proofs.Common.{◌≡◌, ℕ, ◌/◌, ◌%◌, ◌<◌, ◌≤◌, ◌&&◌, nat_eq, nat_lt, Bool, true, false, not, if◌then◌else◌, List, [], ◌∷◌, ◌++◌, length, get_or}
+use Rattle.std.proofs.Common.{refl, ap, sym, ◌∙◌, subst, arith, ltb-true, ltb-false}
 use Rattle.std.proofs.lemmas.List.{get_or_default}
 use lib.Dec.{leb}
 use mathlib.Core.Bool.{beq}
 use Rattle.arith_decoder.specs.Decoding.{Decoding, StandsFor}
 use Rattle.arith_lanes.specs.Words.{IsWord}
-use Rattle.arith_lanes.specs.Lanes.{IsLane, TakesSymbol, given_of, used_at, ahead_at}
+use Rattle.arith_lanes.specs.Lanes.{TakesSymbol, given_of}
 use Rattle.arith_lanes.specs.declared.lanes.ArithLanes.{ArithLanes}
 use Rattle.byte_predictor.specs.Samples.{signed_sum}
 use Rattle.dst_frames.specs.Tables.{prob_in, IsEntry, symbol_after}
-use Rattle.dst_frames.specs.Ready.{IsReady}
 use Rattle.dst_frames.specs.Batch.{IsWordOf, SlotTakes, SlotSteps, IsLaneFurther}
 use Rattle.dst_frames.specs.declared.tables.ChannelTables.{ChannelTables}
 use Rattle.dst_frames.specs.declared.state.ChannelState.{ChannelState}

@@ -1,12 +1,10 @@
-use Rattle.std.proofs.Common.{◌≡◌, ◌≢◌, ℕ, ◌+◌, ◌*◌, ◌^◌, ◌<◌, ◌≤◌, nat_lt, Bool, true, false, [], length, get_or, set, get_or-set_same, get_or-set_other, below_more}
-use Rattle.std.proofs.Common.{refl, ap, sym, subst, subst₂, ◌∙◌, arith, ltb-true, ltb-false}
+use Rattle.std.proofs.Common.{◌≡◌, ◌≢◌, ℕ, ◌+◌, ◌*◌, ◌<◌, ◌≤◌, length, get_or, set, get_or-set_same, get_or-set_other, below_more}
+use Rattle.std.proofs.Common.{ap, sym, subst, ◌∙◌, arith}
 use Rattle.std.proofs.lemmas.List.{get_or_default}
 use Rattle.dst_spec.specs.Sample.{sound_bytes}
 use Rattle.dst_spec.specs.Means.{MeansWithTail}
-use Rattle.arith_lanes.specs.Words.{IsWord}
 use Rattle.arith_lanes.specs.Lanes.{first_at, used_at}
-use Rattle.dst_frames.specs.Batch.{HasBegun, IsDecoded, AreLanes, stored_in, code_at}
-use Rattle.dst_frames.specs.declared.slots.Slot.{Slot}
+use Rattle.dst_frames.specs.Batch.{IsDecoded, stored_in, code_at}
 use Rattle.dst_frames.specs.declared.stored.StoredFrame.{StoredFrame}
 use Rattle.dst_frames.specs.declared.stored.DecodedFrame.{DecodedFrame}
 use Rattle.dst_frames.proofs.Begun.{begun_lanes, code_in_lane, answered, long_set}

@@ -1,8 +1,8 @@
-use Rattle.std.proofs.Common.{◌≡◌, ℕ, ◌+◌, ◌*◌, ◌^◌, ◌<◌, ◌≤◌, List, length, drop, get_or, refl, ap, sym, ◌∙◌, subst, arith}
+use Rattle.std.proofs.Common.{◌≡◌, ℕ, ◌+◌, ◌*◌, ◌^◌, ◌<◌, length, drop, get_or, refl, ap, sym, ◌∙◌, subst, arith}
 use Rattle.arith_lanes.specs.Lanes.{decoding_at}
 use Rattle.dst_frames.specs.Underway.{earlier, IsUnderway}
 use Rattle.dst_frames.specs.Tables.{AreBuilt}
-use Rattle.dst_frames.specs.Batch.{AreLanes, IsLaneFurther, code_at}
+use Rattle.dst_frames.specs.Batch.{IsLaneFurther, code_at}
 use Rattle.dst_frames.specs.Running.{AreWide, AreWords, FinishesByte}
 use Rattle.dst_frames.proofs.Bytes.{one_more_dropped}
 use Rattle.dst_frames.proofs.Running.{lane_still, lane_more, lanes_on, wide_behind, words_behind}
