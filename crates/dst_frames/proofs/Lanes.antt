@@ -67,8 +67,10 @@ slot_steps c place t start before after old new given next word now state taken 
       record {
         ready = taken.takes table other;
         symbol = λ filter probs samples pairs ready stands.
-            let entry : IsEntry (signed_sum filter samples) probs e = subst (λ (q : ChannelState). IsEntry (signed_sum filter samples) probs q.next) alike ready.next in
-            let pair = symbol_is filter probs samples early d.0 e (if early then 0 else e % 128) (if early then 128 else prob_in (e % 128)) entry refl (prob_now early e) in
+            let entry : IsEntry (signed_sum filter samples) probs e =
+            subst (λ (q : ChannelState). IsEntry (signed_sum filter samples) probs q.next) alike ready.next in
+            let pair = symbol_is filter probs samples early d.0 e (if early then 0 else e % 128)
+            (if early then 128 else prob_in (e % 128)) entry refl (prob_now early e) in
             let whole : ◌≡◌ {A = Bool × ℕ} (d.0, (if early then 128 else prob_in (e % 128))) (symbol_after filter probs early samples (nat_eq given 1)) =
             pair ∙ ap (symbol_after filter probs early samples) sample in
             subst (λ q. StandsFor new (pairs ++ q ∷ [])) whole (d.2 pairs stands);
