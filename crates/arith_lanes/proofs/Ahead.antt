@@ -1,5 +1,6 @@
 -- How many bits ahead a lane holds.
-use Rattle.std.proofs.Common.{◌≡◌, ℕ, ◌+◌, ◌-◌, ◌*◌, ◌/◌, ◌%◌, ◌^◌, ◌<◌, ◌≤◌, Bool, true, false, nat_lt, nat_eq, ◌||◌, ltb-true, ltb-false, List, get_or, bit_or}
+use Rattle.std.proofs.Common.{◌≡◌, ℕ, ◌+◌, ◌-◌, ◌*◌, ◌/◌, ◌%◌, ◌^◌, ◌<◌, ◌≤◌, Bool, true, false, nat_lt, nat_eq, ◌||◌, ltb-true, ltb-false, List}
+use Rattle.std.proofs.Common.{get_or, bit_or}
 use Rattle.std.proofs.Common.{refl, ap, ◌∙◌, arith, below_more, ◌⊎◌, inl, inr}
 use Rattle.std.proofs.lemmas.Bool.{eqb-true, eqb-false}
 use Rattle.std.proofs.lemmas.Nat.{pow-add, shl-shr, le_or_l, le_or_r}
@@ -48,7 +49,8 @@ many_ahead s n bytes lane m l e =
     let v = lane.registers.holds in
     let some = eqb-false (bit_or (get_or s.middle n 0) (get_or s.low n 0)) 0 e in
     let odd : value_of (registers_at s n) % 68719476736 ≡ 0 → ⊥ = λ none. some (none_of (get_or s.middle n 0) (get_or s.low n 0) (omega arith) (omega arith)) in
-    let few = few_zeros (bits bytes) (first_at s n + used_at s n) (get_or s.place n 0) (value_of (registers_at s n) / 2 ^ 52) (value_of (registers_at s n)) v odd in
+    let few = few_zeros (bits bytes) (first_at s n + used_at s n) (get_or s.place n 0) (value_of (registers_at s n) / 2 ^ 52)
+    (value_of (registers_at s n)) v odd in
     let held = lane_zeros s n bytes lane in
     let full = v.full in
     omega arith
@@ -64,7 +66,8 @@ few_ahead s n bytes lane e =
     let a = le_or_l (get_or s.middle n 0) (get_or s.low n 0) in
     let b = le_or_r (get_or s.middle n 0) (get_or s.low n 0) in
     let low : value_of (registers_at s n) % 68719476736 ≡ 0 = omega arith in
-    let many = many_zeros (bits bytes) (first_at s n + used_at s n) (get_or s.place n 0) (value_of (registers_at s n) / 2 ^ 52) (value_of (registers_at s n)) v low in
+    let many = many_zeros (bits bytes) (first_at s n + used_at s n) (get_or s.place n 0) (value_of (registers_at s n) / 2 ^ 52)
+    (value_of (registers_at s n)) v low in
     let held = lane_zeros s n bytes lane in
     let full = v.full in
     omega arith

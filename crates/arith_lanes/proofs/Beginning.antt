@@ -1,5 +1,6 @@
 -- A lane that begins, and one that is refilled.
-use Rattle.std.proofs.Common.{◌≡◌, ◌≢◌, ℕ, zero, suc, ◌+◌, ◌-◌, ◌*◌, ◌/◌, ◌%◌, ◌^◌, ◌<◌, ◌≤◌, List, [], ◌∷◌, length, get_or, set, get_or-set_same, get_or-set_other}
+use Rattle.std.proofs.Common.{◌≡◌, ◌≢◌, ℕ, zero, suc, ◌+◌, ◌-◌, ◌*◌, ◌/◌, ◌%◌, ◌^◌, ◌<◌, ◌≤◌, List, [], ◌∷◌, length, get_or, set, get_or-set_same}
+use Rattle.std.proofs.Common.{get_or-set_other}
 use Rattle.std.proofs.Common.{refl, ap₂, sym, ◌∙◌, arith, bit_or}
 use Rattle.std.proofs.lemmas.Nat.{or_shifted}
 use Rattle.std.specs.Int.{trailing_zeros, w64}
@@ -94,7 +95,8 @@ reaches s n bytes lane =
     let reach = v.reach in
     let most = r.in_range.most in
     let below = r.below in
-    let zeros = zeros_of (bits bytes) (first_at s n + used_at s n) (get_or s.place n 0) (value_of (registers_at s n) / 2 ^ 52) (value_of (registers_at s n)) (omega arith) v in
+    let zeros = zeros_of (bits bytes) (first_at s n + used_at s n) (get_or s.place n 0) (value_of (registers_at s n) / 2 ^ 52)
+    (value_of (registers_at s n)) (omega arith) v in
     omega arith
 
 -- 47 bits ahead
@@ -113,7 +115,8 @@ refills s t n bytes start upper lower lane early start_is upper_is lower_is h of
     let was = value_of (registers_at s n) in
     let reach = reaches s n bytes lane in
     let start_is_at : start ≡ get_or s.first n 0 + used_at s n = omega arith in
-    let number : number_from xs start 47 ≡ upper * 2 ^ 15 + lower = number_from-add xs start 32 15 ∙ ap₂ (λ x y. x * 2 ^ 15 + y) (sym upper_is) (sym lower_is) in
+    let number : number_from xs start 47 ≡ upper * 2 ^ 15 + lower = number_from-add xs start 32 15
+    ∙ ap₂ (λ x y. x * 2 ^ 15 + y) (sym upper_is) (sym lower_is) in
     let few = number_from-below xs start 32 (AreBits-bits bytes) in
     let value : value_of (registers_at t n) ≡ kept * 2 ^ 52 + (2 * number_from xs start 47 + 1) * 2 ^ 4 =
     omega (arith, number, h.kept_is, h.high_is, h.middle_is, h.low_is) in

@@ -1,5 +1,5 @@
 -- One lane of eight, written and read.
-use Rattle.std.proofs.Common.{◌≡◌, ◌≢◌, ℕ, ◌<◌, List, length, get_or, set, get_or-set_same, get_or-set_other, length-set, refl, ap, arith}
+use Rattle.std.proofs.Common.{◌≡◌, ◌≢◌, ℕ, ◌<◌, length, get_or, set, get_or-set_same, get_or-set_other, length-set, refl, ap, arith}
 use Rattle.arith_lanes.specs.Lanes.{registers_at, range_at, offset_at, used_at, first_at, ahead_at, IsKept}
 use Rattle.arith_lanes.specs.declared.lane.Registers.{Registers}
 use Rattle.arith_lanes.specs.declared.lanes.ArithLanes.{ArithLanes}

@@ -59,7 +59,8 @@ lane_steps p range kept high middle low word symbol part high_end range_left by 
     let cut : IsCut p range part factor = record { part_is = part_is; factor_is = w.factor } in
     let b = before p value range part factor w.most r cut in
     let offset : value / 2 ^ 52 ≡ kept = kept_of kept high middle low range h m l in
-    let chosen : nat_lt (value / 2 ^ 52) (range - part) ≡ symbol = ap (λ k. nat_lt k (range - part)) offset ∙ ap (nat_lt kept) (sym q.end_is) ∙ sym q.symbol_is in
+    let chosen : nat_lt (value / 2 ^ 52) (range - part) ≡ symbol = ap (λ k. nat_lt k (range - part)) offset ∙ ap (nat_lt kept) (sym q.end_is)
+    ∙ sym q.symbol_is in
     let y = four kept_left high middle low * by in
     let y_is : y ≡ value_behind symbol value (range - part) factor =
     moved symbol kept high middle low high_end factor by kept_left q.symbol_is q.by_is q.kept_is ∙ ap (λ e. value_behind symbol value e factor) q.end_is in

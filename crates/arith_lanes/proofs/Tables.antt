@@ -45,7 +45,8 @@ is_word byte table h is =
 pub mark_is : (byte : ℕ) (table : List ℕ) → byte < 256 → table ≡ all_words → get_or table byte 0 / 128 % 2 ≡ byte / 128
 mark_is byte table h is =
     let range = prob_in-range (byte % 128) (omega arith) in
-    ap (λ w. w / 128 % 2) (word_is byte table h is) ∙ middle (prob_in (byte % 128)) (byte / 128) (2 ^ shift_of (prob_in (byte % 128))) range.0 range.1 (omega arith)
+    ap (λ w. w / 128 % 2) (word_is byte table h is)
+    ∙ middle (prob_in (byte % 128)) (byte / 128) (2 ^ shift_of (prob_in (byte % 128))) range.0 range.1 (omega arith)
   where
     middle : (p mark power : ℕ) → 1 ≤ p → p ≤ 128 → mark < 2 → (p - 1 + 128 * mark + 256 * power) / 128 % 2 ≡ mark
     middle p mark power a b c = omega arith

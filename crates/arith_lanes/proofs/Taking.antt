@@ -18,7 +18,8 @@ lane_zeros s n bytes lane =
     let full = v.full in
     let most = r.in_range.most in
     let below = r.below in
-    let zeros = zeros_of (bits bytes) (first_at s n + used_at s n) (get_or s.place n 0) (value_of (registers_at s n) / 2 ^ 52) (value_of (registers_at s n)) (omega arith) v in
+    let zeros = zeros_of (bits bytes) (first_at s n + used_at s n) (get_or s.place n 0) (value_of (registers_at s n) / 2 ^ 52)
+    (value_of (registers_at s n)) (omega arith) v in
     omega arith
 
 pub takes : (s t : ArithLanes) (n : ℕ) (bytes : List ℕ) (p : ℕ) (symbol : Bool) → t.first ≡ s.first → t.place ≡ s.place → IsLane s n bytes →

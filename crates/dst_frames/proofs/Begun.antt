@@ -1,11 +1,12 @@
 -- Lanes whose codes begin, and a frame that is decoded in one.
-use Rattle.std.proofs.Common.{◌≡◌, ℕ, ◌+◌, ◌^◌, ◌<◌, ◌≤◌, nat_lt, Bool, true, false, List, [], ◌∷◌, ◌++◌, length, get_or, refl, ap, sym, subst, ◌∙◌, arith, Result, Ok, ltb-true, ltb-false}
+use Rattle.std.proofs.Common.{◌≡◌, ℕ, ◌^◌, ◌<◌, ◌≤◌, nat_lt, Bool, true, false, List, [], length, get_or, set, get_or-set_same, get_or-set_other}
+use Rattle.std.proofs.Common.{nat_eq, refl, ap, sym, subst, ◌∙◌, arith, Result, Ok, ltb-true, ltb-false}
+use Rattle.std.proofs.lemmas.Bool.{eqb-true, eqb-false}
 use Rattle.dst_spec.specs.Bits.{bits}
 use Rattle.dst_spec.specs.Sample.{Shape, IsShape}
 use Rattle.dst_spec.specs.Symbols.{reserved_probability, symbols}
 use Rattle.dst_spec.specs.Interval.{IsCodeOf}
 use Rattle.dst_spec.specs.Means.{MeansWithTail}
-use Rattle.dst_spec.specs.Offends.{Offends}
 use Rattle.dst_spec.specs.declared.faults.FrameFault.{FrameFault}
 use Rattle.dst_spec.proofs.Meaning.{meaning_is_no_fault}
 use Rattle.dst_spec.proofs.Unique.{meaning_of_tail}
@@ -18,6 +19,7 @@ use Rattle.dst_frames.specs.Batch.{HasBegun, IsDecoded, AreLanes, stored_in, cod
 use Rattle.dst_frames.specs.Running.{LaneDecoded}
 use Rattle.dst_frames.specs.declared.slots.Slot.{Slot}
 use Rattle.dst_frames.specs.declared.stored.StoredFrame.{StoredFrame}
+use Rattle.dst_frames.specs.declared.stored.DecodedFrame.{DecodedFrame}
 use Rattle.dst_frames.proofs.Lanes.{one_of}
 use Rattle.dst_frames.proofs.Running.{code_of, no_code}
 use Rattle.dst_frames.proofs.Whole.{frame_begins, frame_ends}
@@ -55,7 +57,8 @@ pub code_in_lane : ((d : Decoding) (pairs : List (Bool × ℕ)) → StandsFor d 
     IsCodeOfSound f b.params (bits bytes) b.place heard (used_at u n)
 code_in_lane law f s t u n bytes slot after word octets symbol sound heard b taken channels all decoded first =
     let P = b.params in
-    let begins = frame_begins f P symbol (reserved_probability P) sound (decoding_at t n bytes) slot.states.items refl (taken.stands [] b.begins.stands) b.fresh in
+    let begins = frame_begins f P symbol (reserved_probability P) sound (decoding_at t n bytes) slot.states.items refl
+    (taken.stands [] b.begins.stands) b.fresh in
     let whole = decoded f P symbol channels b.built begins in
     let stands = frame_ends f P symbol octets heard (decoding_at u n bytes) after.states.items all whole in
     let place : first_at u n ≡ b.place = first ∙ taken.first ∙ b.begins.first_is in
@@ -78,11 +81,15 @@ answered f frame sound answer tail shape is means = rw is (record {
 -- the lanes behind their reserved symbols
 pub begun_lanes : (f : Shape) (s t : ArithLanes) (frames : List StoredFrame) (slots : List Slot) (words given : List ℕ) → length frames ≤ 8 →
     length slots ≡ length frames →
-    ((n : ℕ) (frame : StoredFrame) (other : Slot) → n < length frames → HasBegun f s n (stored_in (get_or frames n frame)) (get_or slots n other) (get_or words n 0)) →
+    ((n : ℕ) (frame : StoredFrame) (other : Slot) → n < length frames →
+    HasBegun f s n (stored_in (get_or frames n frame)) (get_or slots n other) (get_or words n 0)) →
     ((n : ℕ) → length frames ≤ n → n < 8 → Begins s n [] 0 × IsWord 1 (get_or words n 0)) →
     ((n p : ℕ) (bytes : List ℕ) → n < 8 → IsLane s n bytes → IsWord p (get_or words n 0) → 8 ≤ ahead_at s n → used_at s n ≤ 2 ^ 40 →
     (symbol : Bool) × (get_or given n 0 ≡ given_of (get_or words n 0) symbol) × TakesSymbol s t n bytes p symbol) → AreLanes t (code_at frames) (2 ^ 30)
-begun_lanes f s t frames slots words given few same begun empty taken = record { lane = λ n h. (at n h (nat_lt n (length frames)) refl).0; used = λ n h. (at n h (nat_lt n (length frames)) refl).1 }
+begun_lanes f s t frames slots words given few same begun empty taken = record {
+  lane = λ n h. (at n h (nat_lt n (length frames)) refl).0;
+  used = λ n h. (at n h (nat_lt n (length frames)) refl).1;
+}
   where
     at : (n : ℕ) → n < 8 → (b : Bool) → nat_lt n (length frames) ≡ b → IsLane t n (code_at frames n) × (used_at t n ≤ 2 ^ 30)
     at n h true e =
@@ -97,3 +104,12 @@ begun_lanes f s t frames slots words given few same begun empty taken = record {
         let b = empty n le h in
         let k = taken n 1 [] h b.0.lane b.1 (omega (arith, b.0.ahead)) (omega (arith, b.0.used_is)) in
         (subst (IsLane t n) (no_code frames n le) k.2.lane, omega (arith, k.2.used, b.0.used_is))
+
+-- sounds of one length, one of them written
+pub long_set : (heard : List DecodedFrame) (i m k : ℕ) (x other : DecodedFrame) → i < length heard → length x.sound.items ≡ k →
+    length (get_or heard m other).sound.items ≡ k → length (get_or (set heard i x) m other).sound.items ≡ k
+long_set heard i m k x other lt new was = go (nat_eq m i) refl
+  where
+    go : (b : Bool) → nat_eq m i ≡ b → length (get_or (set heard i x) m other).sound.items ≡ k
+    go true e = let is = eqb-true m i e in rw (is, get_or-set_same heard i x other lt) new
+    go false e = rw (get_or-set_other heard i m x other (eqb-false m i e)) was

@@ -1,16 +1,15 @@
 -- A sample of a frame whose code is decoded in a lane.
-use Rattle.std.proofs.Common.{◌≡◌, ℕ, ◌+◌, ◌-◌, ◌/◌, ◌%◌, ◌<◌, ◌≤◌, ◌&&◌, nat_eq, nat_lt, Bool, true, false, not, if◌then◌else◌, List, [], ◌∷◌, ◌++◌, length, get_or}
-use Rattle.std.proofs.Common.{refl, ap, ap₂, sym, ◌∙◌, subst, arith, ltb-true, ltb-false}
+use Rattle.std.proofs.Common.{◌≡◌, ℕ, ◌/◌, ◌%◌, ◌<◌, ◌≤◌, ◌&&◌, nat_eq, nat_lt, Bool, true, false, not, if◌then◌else◌, List, [], ◌∷◌, ◌++◌, length, get_or}
+use Rattle.std.proofs.Common.{refl, ap, sym, ◌∙◌, subst, arith, ltb-true, ltb-false}
 use Rattle.std.proofs.lemmas.List.{get_or_default}
 use lib.Dec.{leb}
 use mathlib.Core.Bool.{beq}
 use Rattle.arith_decoder.specs.Decoding.{Decoding, StandsFor}
 use Rattle.arith_lanes.specs.Words.{IsWord}
-use Rattle.arith_lanes.specs.Lanes.{IsLane, TakesSymbol, given_of, used_at, ahead_at}
+use Rattle.arith_lanes.specs.Lanes.{TakesSymbol, given_of}
 use Rattle.arith_lanes.specs.declared.lanes.ArithLanes.{ArithLanes}
 use Rattle.byte_predictor.specs.Samples.{signed_sum}
 use Rattle.dst_frames.specs.Tables.{prob_in, IsEntry, symbol_after}
-use Rattle.dst_frames.specs.Ready.{IsReady}
 use Rattle.dst_frames.specs.Batch.{IsWordOf, SlotTakes, SlotSteps, IsLaneFurther}
 use Rattle.dst_frames.specs.declared.tables.ChannelTables.{ChannelTables}
 use Rattle.dst_frames.specs.declared.state.ChannelState.{ChannelState}
@@ -68,8 +67,10 @@ slot_steps c place t start before after old new given next word now state taken 
       record {
         ready = taken.takes table other;
         symbol = λ filter probs samples pairs ready stands.
-            let entry : IsEntry (signed_sum filter samples) probs e = subst (λ (q : ChannelState). IsEntry (signed_sum filter samples) probs q.next) alike ready.next in
-            let pair = symbol_is filter probs samples early d.0 e (if early then 0 else e % 128) (if early then 128 else prob_in (e % 128)) entry refl (prob_now early e) in
+            let entry : IsEntry (signed_sum filter samples) probs e =
+            subst (λ (q : ChannelState). IsEntry (signed_sum filter samples) probs q.next) alike ready.next in
+            let pair = symbol_is filter probs samples early d.0 e (if early then 0 else e % 128)
+            (if early then 128 else prob_in (e % 128)) entry refl (prob_now early e) in
             let whole : ◌≡◌ {A = Bool × ℕ} (d.0, (if early then 128 else prob_in (e % 128))) (symbol_after filter probs early samples (nat_eq given 1)) =
             pair ∙ ap (symbol_after filter probs early samples) sample in
             subst (λ q. StandsFor new (pairs ++ q ∷ [])) whole (d.2 pairs stands);

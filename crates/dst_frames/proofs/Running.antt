@@ -1,12 +1,13 @@
 -- A batch on its way: its lanes, its slots and its words.
-use Rattle.std.proofs.Common.{◌≡◌, ◌≢◌, ℕ, zero, suc, ◌+◌, ◌*◌, ◌/◌, ◌%◌, ◌<◌, ◌≤◌, nat_eq, nat_lt, Bool, true, false, ◌-◌, List, [], ◌∷◌, ◌++◌, length, take, drop, get_or, set, length-append, length-drop}
-use Rattle.std.proofs.Common.{get_or-set_same, get_or-set_other, length-set, refl, ap, sym, ◌∙◌, subst, subst₂, arith, ltb-true, ltb-false}
+use Rattle.std.proofs.Common.{◌≡◌, ◌≢◌, ℕ, zero, suc, ◌+◌, ◌<◌, ◌≤◌, nat_eq, nat_lt, Bool, true, false, ◌-◌, List, [], ◌∷◌, ◌++◌, length, take, drop}
+use Rattle.std.proofs.Common.{get_or, set, length-append, length-drop}
+use Rattle.std.proofs.Common.{get_or-set_same, get_or-set_other, length-set, refl, ap, sym, ◌∙◌, subst, arith, ltb-true, ltb-false}
 use Rattle.std.proofs.lemmas.Bool.{eqb-true, eqb-false}
 use Rattle.std.proofs.lemmas.List.{get_or_append_left, get_or-take, length-take-le, get_or-drop, get_or-append-add}
 use borrow.Rule.Slice.PartMut.{put_mid}
 use Rattle.arith_decoder.specs.Decoding.{Decoding}
 use Rattle.arith_lanes.specs.Words.{IsWord}
-use Rattle.arith_lanes.specs.Lanes.{IsLane, IsKept, decoding_at, used_at, ahead_at}
+use Rattle.arith_lanes.specs.Lanes.{IsLane, IsKept, decoding_at, used_at}
 use Rattle.arith_lanes.specs.declared.lanes.ArithLanes.{ArithLanes}
 use Rattle.dst_frames.specs.Tables.{AreBuilt}
 use Rattle.dst_frames.specs.Batch.{IsWordOf, SlotSteps, HasEnough, IsLaneFurther, AreLanes, stored_in, code_at}
@@ -206,8 +207,8 @@ wide_take channels count slots w le =
       states = λ n other h. rw (get_or-take count slots n other (omega (arith, long))) (w.states n other (omega (arith, long)));
     }
 
-pub wide_front : (channels count : ℕ) (slots front : List Slot) → AreWide slots channels → AreWide front channels → length front ≡ count → count ≤ length slots →
-    AreWide (put_mid 0 count slots front) channels
+pub wide_front : (channels count : ℕ) (slots front : List Slot) → AreWide slots channels → AreWide front channels → length front ≡ count →
+    count ≤ length slots → AreWide (put_mid 0 count slots front) channels
 wide_front channels count slots front w v same le =
     let rest = drop count slots in
     let left = length-drop count slots in

@@ -1,5 +1,6 @@
 -- Frames that are decoded side by side.
-use Rattle.std.specs.Prelude.{◌≡◌, ℕ, ◌+◌, ◌*◌, ◌/◌, ◌%◌, ◌<◌, ◌≤◌, ◌&&◌, nat_eq, nat_lt, ℤ, Bool, List, [], ◌∷◌, length, map, take, replicate, get_or, set, Result, IfOk, IfErr}
+use Rattle.std.specs.Prelude.{◌≡◌, ℕ, ◌+◌, ◌*◌, ◌/◌, ◌%◌, ◌<◌, ◌≤◌, ◌&&◌, nat_eq, nat_lt, ℤ, Bool, List, [], ◌∷◌, length, map, take, replicate}
+use Rattle.std.specs.Prelude.{get_or, set, Result, IfOk, IfErr}
 use Rattle.dst_spec.specs.Bits.{bits}
 use Rattle.dst_spec.specs.Sample.{Shape}
 use Rattle.dst_spec.specs.Header.{Params, HasHeader, bit_of}

@@ -8,7 +8,7 @@ use Rattle.arith_lanes.specs.Lanes.{decoding_at}
 use Rattle.arith_lanes.specs.declared.lanes.ArithLanes.{ArithLanes}
 use Rattle.dst_frames.specs.Tables.{AreBuilt}
 use Rattle.dst_frames.specs.Underway.{earlier, IsUnderway, IsDecodedTo, AreDecoded}
-use Rattle.dst_frames.specs.Batch.{IsWordOf, AreLanes, code_at}
+use Rattle.dst_frames.specs.Batch.{IsWordOf}
 use Rattle.dst_frames.specs.declared.tables.ChannelTables.{ChannelTables}
 use Rattle.dst_frames.specs.declared.state.ChannelState.{ChannelState}
 use Rattle.dst_frames.specs.declared.slots.Slot.{Slot}

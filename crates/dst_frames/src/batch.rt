@@ -43,6 +43,7 @@ pub fn decode_batch(
     requires sounds { (n : ℕ) (other : DecodedFrame) → n < length frames.now → length (get_or heard.old n other).sound.items ≡ sound_bytes channels }
     ensures decoded { (n : ℕ) (frame : StoredFrame) (other : DecodedFrame) → n < length frames.now
         → IsDecoded channels (stored_in (get_or frames.now n frame)) (get_or heard.new n other).sound.items (get_or heard.new n other).answer }
+    ensures long { (n : ℕ) (other : DecodedFrame) → n < length frames.now → length (get_or heard.new n other).sound.items ≡ sound_bytes channels }
     ensures channels { scratch.new.channels ≡ scratch.old.channels }
 {
     let slots = scratch.slots.as_mut_slice();
@@ -67,6 +68,7 @@ fn decode_in_slots(
     requires words { length words.old ≡ channels.channels }
     ensures decoded { (n : ℕ) (frame : StoredFrame) (other : DecodedFrame) → n < length frames.now
         → IsDecoded channels (stored_in (get_or frames.now n frame)) (get_or heard.new n other).sound.items (get_or heard.new n other).answer }
+    ensures long { (n : ℕ) (other : DecodedFrame) → n < length frames.now → length (get_or heard.new n other).sound.items ≡ sound_bytes channels }
     ensures wide { AreWide slots.new channels.channels }
 {
     if !decode_front(frames, channels, slots, words, heard) {
@@ -89,6 +91,7 @@ fn decode_each(
     requires wide { AreWide slots.old channels.channels }
     ensures decoded { (n : ℕ) (frame : StoredFrame) (other : DecodedFrame) → n < length frames.now
         → IsDecoded channels (stored_in (get_or frames.now n frame)) (get_or heard.new n other).sound.items (get_or heard.new n other).answer }
+    ensures long { (n : ℕ) (other : DecodedFrame) → n < length frames.now → length (get_or heard.new n other).sound.items ≡ sound_bytes channels }
     ensures wide { AreWide slots.new channels.channels }
 {
     for n in 0..frames.len() {
@@ -114,6 +117,7 @@ fn decode_front(
     requires words { length words.old ≡ channels.channels }
     ensures decoded { result ≡ true → (n : ℕ) (frame : StoredFrame) (other : DecodedFrame) → n < length frames.now
         → IsDecoded channels (stored_in (get_or frames.now n frame)) (get_or heard.new n other).sound.items (get_or heard.new n other).answer }
+    ensures long { (n : ℕ) (other : DecodedFrame) → n < length frames.now → length (get_or heard.new n other).sound.items ≡ sound_bytes channels }
     ensures left { result ≡ false → heard.new ≡ heard.old }
     ensures wide { AreWide slots.new channels.channels }
 {
@@ -142,6 +146,7 @@ fn decode_beside(
     requires words { length words.old ≡ channels.channels }
     ensures decoded { result ≡ true → (n : ℕ) (frame : StoredFrame) (other : DecodedFrame) → n < length frames.now
         → IsDecoded channels (stored_in (get_or frames.now n frame)) (get_or heard.new n other).sound.items (get_or heard.new n other).answer }
+    ensures long { (n : ℕ) (other : DecodedFrame) → n < length frames.now → length (get_or heard.new n other).sound.items ≡ sound_bytes channels }
     ensures left { result ≡ false → heard.new ≡ heard.old }
     ensures wide { AreWide slots.new channels.channels }
 {
@@ -299,6 +304,7 @@ fn decode_lanes(
     requires empty { (n : ℕ) → length frames.now ≤ n → n < 8 → Begins lanes.old n [] 0 × IsWord 1 (get_or reserved.now n 0) }
     ensures decoded { (n : ℕ) (frame : StoredFrame) (other : DecodedFrame) → n < length frames.now
         → IsDecoded channels (stored_in (get_or frames.now n frame)) (get_or heard.new n other).sound.items (get_or heard.new n other).answer }
+    ensures long { (n : ℕ) (other : DecodedFrame) → n < length frames.now → length (get_or heard.new n other).sound.items ≡ sound_bytes channels }
     ensures wide { AreWide slots.new channels.channels }
 {
     let octets = 4704 * channels.multiple();

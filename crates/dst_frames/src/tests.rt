@@ -196,15 +196,14 @@ fn frames_side_by_side_are_decoded_as_alone(rt: HostRuntime) -> Result<(), Fail>
         (&plain, Some(0x69)),
         (&[0xfc, 0x00, 0x00, 0x05, 0xff, 0xfc], None),
     ];
-    let mut scratch = BatchScratch::new(rt.alloc(), mono)?;
     for count in 1..9usize {
         // from the front, so that up to six all are coded, and turned round
         for turned in [false, true] {
             let mut stored = Vec::with_capacity(rt.alloc(), count)?;
             let mut heard = Vec::with_capacity(rt.alloc(), count)?;
             for n in 0..count {
-                let at = if turned { 7 - n } else { n };
-                let (frame, _) = frames[at % 8];
+                let at = if turned { 7 - n % 8 } else { n % 8 };
+                let (frame, _) = frames[at];
                 let mut bytes = vec![in rt.alloc(); 0u8; 4705]?;
                 let size = frame.len().min(4705);
                 bytes[..size].copy_from_slice(&frame[..size]);
@@ -218,16 +217,17 @@ fn frames_side_by_side_are_decoded_as_alone(rt: HostRuntime) -> Result<(), Fail>
                 })?;
             }
             assert!(rt; are_fit(&stored, mono, &heard));
+            let mut scratch = BatchScratch::new(rt.alloc(), mono)?;
             decode_batch(&stored, mono, &mut scratch, &mut heard);
-            for n in 0..count {
-                let at = if turned { 7 - n } else { n };
-                let (frame, first) = frames[at % 8];
+            for (n, one) in heard.iter().enumerate() {
+                let at = if turned { 7 - n % 8 } else { n % 8 };
+                let (frame, first) = frames[at];
                 let (sound, tail) = decoded(rt.alloc(), mono, &ONES, frame)?;
-                assert_eq!(rt; heard.as_slice()[n].answer, tail, "{count}, frame {at}");
+                assert_eq!(rt; one.answer, tail, "{count}, frame {at}");
                 match first {
-                    Some(byte) => {
-                        assert_eq!(rt; heard.as_slice()[n].sound.as_slice()[0], byte);
-                        assert!(rt; heard.as_slice()[n].sound.as_slice() == sound.as_slice());
+                    Some(_) => {
+                        assert!(rt; one.sound.as_slice() == sound.as_slice());
+                        assert_eq!(rt; sound.as_slice().first().copied(), first);
                     }
                     None => assert!(rt; tail.is_err()),
                 }

@@ -1,8 +1,10 @@
-use Rattle.std.proofs.Common.{◌≡◌, ◌≢◌, ℕ, ◌+◌, ◌<◌, ◌≤◌, length, get_or, set, get_or-set_same, get_or-set_other, below_more, ap, sym, subst, ◌∙◌, arith}
+use Rattle.std.proofs.Common.{◌≡◌, ◌≢◌, ℕ, ◌+◌, ◌<◌, ◌≤◌, length, get_or, set, get_or-set_same, get_or-set_other, below_more, subst, ◌∙◌, arith}
 use Rattle.std.proofs.lemmas.List.{get_or_default}
+use Rattle.dst_spec.specs.Sample.{sound_bytes}
 use Rattle.dst_frames.specs.Batch.{IsDecoded, stored_in}
 use Rattle.dst_frames.specs.declared.stored.StoredFrame.{StoredFrame}
 use Rattle.dst_frames.specs.declared.stored.DecodedFrame.{DecodedFrame}
+use Rattle.dst_frames.proofs.Begun.{long_set}
 use Rattle.dst_frames.proofs.Running.{wide_set}
 use Rattle.dst_frames.proofs.batch.decode_each.Goals as goal
 
@@ -41,6 +43,8 @@ loop-n-preserved c =
     (subst (λ (q : StoredFrame). IsDecoded f (stored_in q) x.sound.items x.answer) same c.decode_one.ensures.decoded) in
     record {
       done = λ m frame other h. below_more P i below here m h frame other;
+      long = λ m other h. long_set heard i m (sound_bytes f) x other lt_heard (c.decode_one.ensures.long ∙ inv.long i c.index-heard-n.result lt)
+          (inv.long m other h);
       left = left;
       wide = wide_set f.channels 0 c.loop-n.slots c.decode_one.new.slot inv.wide lt_slots
           (c.decode_one.ensures.tables ∙ inv.wide.tables 0 c.index-slots-0.result lt_slots)

@@ -1,15 +1,13 @@
-use Rattle.std.proofs.Common.{◌≡◌, ◌≢◌, ℕ, ◌+◌, ◌*◌, ◌^◌, ◌<◌, ◌≤◌, nat_lt, Bool, true, false, [], length, get_or, set, get_or-set_same, get_or-set_other, below_more}
-use Rattle.std.proofs.Common.{refl, ap, sym, subst, subst₂, ◌∙◌, arith, ltb-true, ltb-false}
+use Rattle.std.proofs.Common.{◌≡◌, ◌≢◌, ℕ, ◌+◌, ◌*◌, ◌<◌, ◌≤◌, length, get_or, set, get_or-set_same, get_or-set_other, below_more}
+use Rattle.std.proofs.Common.{ap, sym, subst, ◌∙◌, arith}
 use Rattle.std.proofs.lemmas.List.{get_or_default}
 use Rattle.dst_spec.specs.Sample.{sound_bytes}
 use Rattle.dst_spec.specs.Means.{MeansWithTail}
-use Rattle.arith_lanes.specs.Words.{IsWord}
 use Rattle.arith_lanes.specs.Lanes.{first_at, used_at}
-use Rattle.dst_frames.specs.Batch.{HasBegun, IsDecoded, AreLanes, stored_in, code_at}
-use Rattle.dst_frames.specs.declared.slots.Slot.{Slot}
+use Rattle.dst_frames.specs.Batch.{IsDecoded, stored_in, code_at}
 use Rattle.dst_frames.specs.declared.stored.StoredFrame.{StoredFrame}
 use Rattle.dst_frames.specs.declared.stored.DecodedFrame.{DecodedFrame}
-use Rattle.dst_frames.proofs.Begun.{begun_lanes, code_in_lane, answered}
+use Rattle.dst_frames.proofs.Begun.{begun_lanes, code_in_lane, answered, long_set}
 use Rattle.dst_frames.proofs.Lanes.{one_of}
 use Rattle.dst_frames.proofs.Running.{code_of}
 use Rattle.dst_frames.proofs.batch.decode_lanes.Goals as goal
@@ -50,6 +48,10 @@ loop-n-preserved c =
     let left : (m : ℕ) (other : DecodedFrame) → i + 1 ≤ m → get_or (set heard i x) m other ≡ get_or first_heard m other = λ m other h.
     let ne : m ≢ i = omega arith in
     get_or-set_other heard i m x other ne ∙ inv.left m other (omega arith) in
+    let x_long : length x.sound.items ≡ sound_bytes f = ap (λ v. length v.items) c.settle.ensures.sound
+    ∙ inv.long i c.index-heard-n.result lt in
+    let long : (m : ℕ) (other : DecodedFrame) → m < length frames → length (get_or (set heard i x) m other).sound.items ≡ sound_bytes f = λ m other h.
+    long_set heard i m (sound_bytes f) x other lt_heard x_long (inv.long m other h) in
     let here : P i = λ frame other.
     let bytes = stored_in (get_or frames i frame) in
     let code : bytes ≡ code_at frames i = code_of frames i frame lt in
@@ -75,5 +77,6 @@ loop-n-preserved c =
     (subst (λ q. MeansWithTail f bytes q.items settled.0) (sym sound_is) means)) in
     record {
       done = λ m frame other h. below_more P i below here m h frame other;
+      long = long;
       left = left;
     }

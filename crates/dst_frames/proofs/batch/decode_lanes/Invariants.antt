@@ -1,4 +1,5 @@
 use Rattle.std.proofs.Common.{◌≡◌, ℕ, ◌<◌, ◌≤◌, length, get_or}
+use Rattle.dst_spec.specs.Sample.{sound_bytes}
 use Rattle.dst_frames.specs.Batch.{IsDecoded, stored_in}
 use Rattle.dst_frames.specs.declared.stored.StoredFrame.{StoredFrame}
 use Rattle.dst_frames.specs.declared.stored.DecodedFrame.{DecodedFrame}
@@ -8,5 +9,6 @@ abbrev pub invariant-loop-n : goal.invariant-loop-n
 invariant-loop-n l = record {
   done : (m : ℕ) (frame : StoredFrame) (other : DecodedFrame) → m < l.n →
       IsDecoded l.fn.channels (stored_in (get_or l.frames m frame)) (get_or l.heard m other).sound.items (get_or l.heard m other).answer;
+  long : (m : ℕ) (other : DecodedFrame) → m < length l.frames → length (get_or l.heard m other).sound.items ≡ sound_bytes l.fn.channels;
   left : (m : ℕ) (other : DecodedFrame) → l.n ≤ m → get_or l.heard m other ≡ get_or l.initial.heard m other;
 }

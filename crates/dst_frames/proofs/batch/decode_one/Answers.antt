@@ -1,5 +1,5 @@
-use Rattle.std.proofs.Common.{◌≡◌, length, sym, subst, ◌∙◌, arith}
-use Rattle.std.proofs.lemmas.List.{length-take-le, with_items_is}
+use Rattle.std.proofs.Common.{◌≡◌, length, sym, subst, ◌∙◌}
+use Rattle.std.proofs.lemmas.List.{with_items_is}
 use Rattle.dst_frames.specs.Batch.{IsDecoded, stored_in}
 use Rattle.dst_frames.proofs.batch.decode_one.Goals as goal
 

@@ -1,5 +1,4 @@
-use Rattle.std.proofs.Common.{◌≡◌, ◌≢◌, ℕ, ◌+◌, ◌<◌, ◌≤◌, nat_lt, Bool, true, false, [], List, length, get_or, set, get_or-set_same, get_or-set_other, below_more, refl, arith}
-use Rattle.std.proofs.Common.{ltb-true, ltb-false}
+use Rattle.std.proofs.Common.{◌≢◌, ℕ, ◌<◌, [], length, get_or, set, get_or-set_same, get_or-set_other, below_more, arith}
 use Rattle.arith_lanes.specs.Words.{IsWord}
 use Rattle.dst_frames.specs.Batch.{IsWordOf}
 use Rattle.dst_frames.specs.declared.state.ChannelState.{ChannelState}

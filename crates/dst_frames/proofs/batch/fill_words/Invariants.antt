@@ -1,4 +1,4 @@
-use Rattle.std.proofs.Common.{◌≡◌, ℕ, ◌<◌, ◌≤◌, [], length, get_or}
+use Rattle.std.proofs.Common.{ℕ, ◌<◌, [], length, get_or}
 use Rattle.arith_lanes.specs.Words.{IsWord}
 use Rattle.dst_frames.specs.Batch.{IsWordOf}
 use Rattle.dst_frames.specs.declared.state.ChannelState.{ChannelState}

@@ -1,4 +1,4 @@
-use Rattle.std.proofs.Common.{◌≡◌, ◌≢◌, ℕ, ◌+◌, ◌<◌, ◌≤◌, [], length, get_or, set, get_or-set_same, get_or-set_other, length-set, below_more, refl, ap, sym, subst, ◌∙◌, arith}
+use Rattle.std.proofs.Common.{◌≡◌, ◌≢◌, ℕ, ◌<◌, [], length, get_or, set, get_or-set_same, get_or-set_other, length-set, below_more, refl, ap, sym, ◌∙◌, arith}
 use Rattle.std.proofs.lemmas.List.{get_or_default}
 use Rattle.arith_lanes.proofs.Beginning.{alike}
 use Rattle.dst_frames.specs.Batch.{IsWordOf}

@@ -1,4 +1,4 @@
-use Rattle.std.proofs.Common.{◌≡◌, ℕ, ◌<◌, [], length, subst, sym}
+use Rattle.std.proofs.Common.{◌≡◌, [], length, subst}
 use Rattle.dst_spec.specs.Header.{Params}
 use Rattle.dst_spec.specs.Guess.{probs_of}
 use Rattle.dst_num.specs.Map.{params_of}

@@ -1,7 +1,5 @@
-use Rattle.std.proofs.Common.{◌≡◌, ◌-◌, IfOk, IfErr, length, get_or, ap, sym, subst, ◌∙◌, refl}
+use Rattle.std.proofs.Common.{◌≡◌, ◌-◌, length, get_or, sym, subst, ◌∙◌, refl}
 use Rattle.dst_spec.specs.Bits.{bits}
-use Rattle.dst_spec.specs.Means.{MeansWithTail}
-use Rattle.dst_spec.specs.Offends.{Offends}
 use Rattle.dst_spec.proofs.Meaning.{meaning_is_no_fault}
 use Rattle.dst_spec.proofs.Unique.{meaning_of_tail}
 use Rattle.arith_decoder.specs.Decoding.{IsCodeFault}

@@ -1,4 +1,4 @@
-use Rattle.std.proofs.Common.{◌≡◌, get_or, ap, sym, ◌∙◌, arith}
+use Rattle.std.proofs.Common.{ap, ◌∙◌, arith}
 use Rattle.dst_frames.specs.Batch.{stored_in}
 use Rattle.dst_frames.specs.declared.stored.StoredFrame.{StoredFrame}
 use Rattle.dst_frames.proofs.Running.{code_of, no_code}

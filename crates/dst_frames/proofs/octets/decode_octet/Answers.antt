@@ -1,8 +1,8 @@
-use Rattle.std.proofs.Common.{◌≡◌, ℕ, ◌+◌, ◌*◌, ◌^◌, ◌<◌, ◌≤◌, List, length, drop, get_or, refl, ap, sym, ◌∙◌, subst, arith}
+use Rattle.std.proofs.Common.{◌≡◌, ℕ, ◌+◌, ◌*◌, ◌^◌, ◌<◌, length, drop, get_or, refl, ap, sym, ◌∙◌, subst, arith}
 use Rattle.arith_lanes.specs.Lanes.{decoding_at}
 use Rattle.dst_frames.specs.Underway.{earlier, IsUnderway}
 use Rattle.dst_frames.specs.Tables.{AreBuilt}
-use Rattle.dst_frames.specs.Batch.{AreLanes, IsLaneFurther, code_at}
+use Rattle.dst_frames.specs.Batch.{IsLaneFurther, code_at}
 use Rattle.dst_frames.specs.Running.{AreWide, AreWords, FinishesByte}
 use Rattle.dst_frames.proofs.Bytes.{one_more_dropped}
 use Rattle.dst_frames.proofs.Running.{lane_still, lane_more, lanes_on, wide_behind, words_behind}
@@ -70,7 +70,8 @@ pub returns-clause-words : goal.returns-clause-words
 returns-clause-words c =
     words_behind c.args.byte (length c.args.words.now) c.loop-place.slots c.finish_all.new.slots c.args.heard.now c.finish_all.new.heard c.loop-place.words
     c.loop-place.invariant.words (omega arith) (omega arith) (λ n other frame h.
-    subst (λ k. FinishesByte c.args.byte k (get_or c.loop-place.slots n other) (get_or c.finish_all.new.slots n other) (get_or c.args.heard.now n frame).sound.items
+    subst (λ k. FinishesByte c.args.byte k (get_or c.loop-place.slots n other) (get_or c.finish_all.new.slots n other)
+    (get_or c.args.heard.now n frame).sound.items
     (get_or c.finish_all.new.heard n frame).sound.items) (omega arith) (c.finish_all.ensures n other frame h))
 
 pub returns-clause-tables : goal.returns-clause-tables

@@ -1,4 +1,4 @@
-use Rattle.std.proofs.Common.{◌≡◌, ℕ, ◌+◌, ◌*◌, ◌<◌, ◌≤◌, length, get_or, ◌∙◌, subst, arith}
+use Rattle.std.proofs.Common.{◌≡◌, ◌+◌, ◌*◌, get_or, ◌∙◌, subst, arith}
 use Rattle.dst_frames.specs.Batch.{code_at}
 use Rattle.dst_frames.specs.Running.{AreWide, AreWords, LaneDecoded}
 use Rattle.dst_frames.proofs.Running.{lane_more, lane_decoded_on}

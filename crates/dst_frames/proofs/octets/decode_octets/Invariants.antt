@@ -1,4 +1,4 @@
-use Rattle.std.proofs.Common.{◌≡◌, ℕ, ◌+◌, ◌*◌, ◌<◌, length, get_or}
+use Rattle.std.proofs.Common.{◌≡◌, ℕ, ◌*◌, ◌<◌, length, get_or}
 use Rattle.dst_frames.specs.Batch.{IsLaneFurther, code_at}
 use Rattle.dst_frames.specs.Running.{AreWide, AreWords, LaneDecoded}
 use Rattle.dst_frames.specs.declared.slots.Slot.{Slot}

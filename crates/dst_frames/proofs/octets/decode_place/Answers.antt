@@ -1,8 +1,7 @@
-use Rattle.std.proofs.Common.{◌≡◌, ℕ, ◌+◌, ◌*◌, ◌<◌, ◌≤◌, ◌^◌, [], length, get_or, refl, ap, sym, ◌∙◌, arith}
-use Rattle.arith_lanes.specs.Lanes.{IsLane, decoding_at, used_at, ahead_at}
-use Rattle.dst_frames.specs.Batch.{HasEnough, SlotSteps, IsLaneFurther, code_at}
+use Rattle.std.proofs.Common.{ℕ, ◌+◌, ◌*◌, ◌<◌, ◌≤◌, ◌^◌, [], length, get_or, refl, ap, ◌∙◌, arith}
+use Rattle.arith_lanes.specs.Lanes.{decoding_at, used_at, ahead_at}
+use Rattle.dst_frames.specs.Batch.{HasEnough, SlotSteps, code_at}
 use Rattle.dst_frames.specs.declared.state.ChannelState.{ChannelState}
-use Rattle.dst_frames.specs.declared.tables.ChannelTables.{ChannelTables}
 use Rattle.dst_frames.specs.declared.slots.Slot.{Slot}
 use Rattle.dst_frames.proofs.History.{Predicts}
 use Rattle.dst_frames.proofs.Rows.{row_begins, row_ends}

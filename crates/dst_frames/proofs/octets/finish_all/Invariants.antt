@@ -1,4 +1,4 @@
-use Rattle.std.proofs.Common.{◌≡◌, ℕ, ◌<◌, ◌≤◌, length, get_or}
+use Rattle.std.proofs.Common.{◌≡◌, ℕ, ◌<◌, ◌≤◌, get_or}
 use Rattle.dst_frames.specs.Running.{FinishesByte}
 use Rattle.dst_frames.specs.declared.slots.Slot.{Slot}
 use Rattle.dst_frames.specs.declared.stored.DecodedFrame.{DecodedFrame}

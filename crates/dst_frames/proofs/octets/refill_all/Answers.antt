@@ -1,5 +1,4 @@
-use Rattle.std.proofs.Common.{◌≡◌, ◌≢◌, ℕ, ◌<◌, ◌≤◌, refl, sym, ◌∙◌, subst, arith, below_more}
-use Rattle.arith_lanes.specs.Lanes.{IsLane, decoding_at, used_at}
+use Rattle.std.proofs.Common.{◌≢◌, ℕ, ◌<◌, ◌∙◌, arith, below_more}
 use Rattle.dst_frames.specs.Batch.{HasEnough, code_at}
 use Rattle.dst_frames.proofs.Running.{kept_none, kept_more, enough_kept, used_kept}
 use Rattle.dst_frames.proofs.octets.refill_all.Goals as goal

@@ -1,4 +1,4 @@
-use Rattle.std.proofs.Common.{◌≡◌, refl}
+use Rattle.std.proofs.Common.{refl}
 use Rattle.dst_frames.specs.Batch.{code_at}
 use Rattle.dst_frames.proofs.octets.refill_where_short.Goals as goal
 

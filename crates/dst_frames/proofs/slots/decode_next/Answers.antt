@@ -1,8 +1,5 @@
-use Rattle.std.proofs.Common.{◌≡◌, ℕ, ◌/◌, ◌%◌, ◌<◌, ◌≤◌, ◌&&◌, nat_lt, Bool, true, false, if◌then◌else◌, [], length, get_or, refl, arith, ltb-true, ltb-false, sym, subst}
-use Rattle.arith_lanes.specs.Words.{IsWord}
+use Rattle.std.proofs.Common.{◌%◌, ◌&&◌, nat_lt, if◌then◌else◌, get_or, arith}
 use Rattle.dst_frames.specs.Tables.{prob_in}
-use Rattle.dst_frames.specs.Batch.{IsLaneFurther}
-use Rattle.dst_frames.specs.declared.tables.ChannelTables.{ChannelTables}
 use Rattle.dst_frames.proofs.Lanes.{slot_steps, further_by, some_word}
 use Rattle.dst_frames.proofs.slots.decode_next.Goals as goal
 

@@ -1,5 +1,5 @@
-use Rattle.std.proofs.Common.{◌≡◌, ◌≢◌, ℕ, ◌+◌, ◌/◌, ◌%◌, ◌<◌, ◌≤◌, nat_lt, if◌then◌else◌, length, get_or, set, get_or-set_same, get_or-set_other, length-set, below_more}
-use Rattle.std.proofs.Common.{ap, sym, ◌∙◌, subst, subst₂, arith}
+use Rattle.std.proofs.Common.{◌≡◌, ◌≢◌, ℕ, ◌/◌, ◌%◌, ◌<◌, nat_lt, if◌then◌else◌, length, get_or, set, get_or-set_same, get_or-set_other, length-set, below_more}
+use Rattle.std.proofs.Common.{ap, sym, ◌∙◌, arith}
 use Rattle.std.proofs.lemmas.List.{get_or_default}
 use Rattle.arith_lanes.specs.Words.{IsWord}
 use Rattle.dst_frames.specs.declared.tables.ChannelTables.{ChannelTables}
