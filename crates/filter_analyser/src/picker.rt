@@ -9,6 +9,7 @@ ghost use Rattle.filter_analyser.specs.Run.{padded};
 
 use crate::lags::correlate;
 use crate::picks::{per_channel, shared};
+use crate::refined::refined_picks;
 use crate::recursion::{solve_all, solve_filter};
 use dst_num::Channels;
 use frame_predictions::Predictions;
@@ -32,7 +33,7 @@ impl Model for LevelPicker {
 
     ghost view = { λ p. p.level };
 
-    ghost invariant = { λ p. p.level ≤ 2 };
+    ghost invariant = { λ p. p.level ≤ 3 };
 
     ghost inverse = { λ n. record { level = n } };
 }
@@ -40,11 +41,11 @@ impl Model for LevelPicker {
 impl LevelPicker {
     /// There is none unless the level is 0, 1 or 2.
     pub fn new(level: u32) -> Option<LevelPicker>
-        ensures none { IfNone result (2 < level) }
+        ensures none { IfNone result (3 < level) }
         ensures level { IfSome result (λ p. p ≡ level) }
-        ensures most { IfSome result (λ p. p ≤ 2) }
+        ensures most { IfSome result (λ p. p ≤ 3) }
     {
-        if level > 2 {
+        if level > 3 {
             return None;
         }
         Some(LevelPicker { level })
@@ -68,7 +69,14 @@ impl Picker for LevelPicker {
         match self.level {
             0 => {}
             1 => pick_one(sound, channels, predictions, found),
-            _ => pick_all(sound, channels, predictions, found),
+            2 => pick_all(sound, channels, predictions, found),
+            _ => {
+                let refined = refined_picks(sound, channels, predictions);
+                pick_all(sound, channels, predictions, found);
+                for params in refined {
+                    found.push(params);
+                }
+            }
         }
     }
 }
@@ -116,7 +124,7 @@ fn pick_all(sound: &[u8], channels: Channels, predictions: &mut Predictions, fou
 }
 
 // Solves each channel's correlations for all orders, and adds them up.
-fn solve_channels(
+pub(crate) fn solve_channels(
     sound: &[u8],
     channels: Channels,
     solved: &mut [[[i64; 128]; 4]; 6],

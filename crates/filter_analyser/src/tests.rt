@@ -198,14 +198,16 @@ fn a_higher_level_is_never_longer(rt: HostRuntime) -> Result<(), Fail> {
     assert_eq!(rt; plain, 14_113);
     assert!(rt; one < plain);
     assert!(rt; two <= one);
+    let three = stored_length(rt.alloc(), sound.as_slice(), 3)?;
+    assert!(rt; three <= two);
     Ok(())
 }
 
 #[test]
 fn there_are_three_levels(rt: HostRuntime) -> Result<(), Fail> {
-    for level in 0..3u32 {
+    for level in 0..4u32 {
         assert!(rt; LevelPicker::new(level).is_some());
     }
-    assert!(rt; LevelPicker::new(3).is_none());
+    assert!(rt; LevelPicker::new(4).is_none());
     Ok(())
 }
