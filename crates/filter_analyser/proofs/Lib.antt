@@ -14,3 +14,4 @@ pub mod Writing
 pub mod RowStepping
 pub mod Pulled
 pub mod Stepped
+pub mod Joining

@@ -20,7 +20,8 @@ use std::marker::Model;
 const ORDERS: [usize; 4] = [16, 32, 64, 128];
 
 /// Picks the parameters of a level: none at level 0, filters of order 32 for each channel at level 1, filters of the orders 16, 32,
-/// 64 and 128, for each channel and then shared, at level 2.
+/// 64 and 128, for each channel and then shared, at level 2, and those and then refined filters, shared and then for each channel
+/// with one table each and with one for all, at level 3.
 #[derive(Drop)]
 pub struct LevelPicker {
     level: u32,
@@ -39,7 +40,7 @@ impl Model for LevelPicker {
 }
 
 impl LevelPicker {
-    /// There is none unless the level is 0, 1 or 2.
+    /// There is none unless the level is 0, 1, 2 or 3.
     pub fn new(level: u32) -> Option<LevelPicker>
         ensures none { IfNone result (3 < level) }
         ensures level { IfSome result (λ p. p ≡ level) }
@@ -73,9 +74,9 @@ impl Picker for LevelPicker {
             _ => {
                 let refined = refined_picks(sound, channels, predictions);
                 pick_all(sound, channels, predictions, found);
-                for params in refined {
-                    found.push(params);
-                }
+                found.push(refined.shared);
+                found.push(refined.own);
+                found.push(refined.own_with_one_table);
             }
         }
     }

@@ -2,7 +2,7 @@
 ghost use Rattle.std.specs.Prelude.{◌≡◌, ℕ, ◌+◌, ◌<◌, ◌≤◌, List, [], ◌∷◌, length, map, get_or};
 ghost use Rattle.dst_spec.specs.Sample.{IsShape, sound_bytes};
 ghost use Rattle.level_spec.specs.Refining.{refined_from};
-ghost use Rattle.level_spec.specs.Picks.{channels_of, refined_together, refined_alone, refined_shared, refined_own, refined_own_with_one_table};
+ghost use Rattle.level_spec.specs.Picks.{channels_of, refined_together, refined_alone, refined_shared, refined_own, one_table as one_table_of, refined_own_with_one_table};
 
 use crate::lags::correlate;
 use crate::picker::solve_channels;
@@ -10,30 +10,46 @@ use crate::picks::{count_row, parameters};
 use crate::recursion::keep_rows;
 use crate::refining::{Members, Refined, count_members, refine, short_table};
 use arrayvec::ArrayVec;
-use dst_num::{Channels, FilterTable, Params};
+use dst_num::{Channels, FilterTable, Params, ProbTable};
 use filter_refiner::fit;
 use frame_predictions::Predictions;
 
-/// The refined parameters: one filter for all channels, one for each, and one for each with one table.
+/// The refined parameters.
+#[derive(Drop)]
+pub(crate) struct RefinedPicks {
+    /// One filter and one table for all channels.
+    pub(crate) shared: Params,
+    /// A filter and a table for each channel.
+    pub(crate) own: Params,
+    /// A filter for each channel, and one table for all.
+    pub(crate) own_with_one_table: Params,
+}
+
+/// Refines filters for all channels together and for each alone.
 pub(crate) fn refined_picks(
     sound: &[u8],
     channels: Channels,
     predictions: &mut Predictions,
-) -> ArrayVec<Params, 3>
+) -> RefinedPicks
     requires sound { length sound.now ≡ sound_bytes channels }
     requires begun { predictions.old.sound ≡ sound.now }
     requires channels { predictions.old.channels ≡ channels }
-    ensures found { result.items ≡ refined_shared channels sound.now ∷ refined_own channels sound.now ∷ refined_own_with_one_table channels sound.now ∷ [] }
+    ensures shared { result.shared ≡ refined_shared channels sound.now }
+    ensures own { result.own ≡ refined_own channels sound.now }
+    ensures one { result.own_with_one_table ≡ refined_own_with_one_table channels sound.now }
     ensures sound { predictions.new.sound ≡ predictions.old.sound }
     ensures channels { predictions.new.channels ≡ predictions.old.channels }
 {
-    let mut found = ArrayVec::new();
     let together = refine_together(sound, channels, predictions);
-    let own = refine_each(sound, channels, predictions, &together.last);
-    found.push(shared_picks(channels, predictions, &together.best));
-    found.push(own_picks(channels, predictions, own.as_slice()));
-    found.push(joint_picks(channels, predictions, own.as_slice()));
-    found
+    let each = refine_each(sound, channels, predictions, &together.last);
+    let shared = shared_picks(channels, predictions, &together.best);
+    let own = own_picks(channels, predictions, each.as_slice());
+    let own_with_one_table = joint_picks(channels, predictions, each.as_slice());
+    RefinedPicks {
+        shared,
+        own,
+        own_with_one_table,
+    }
 }
 
 // Refines a filter for all channels together.
@@ -104,7 +120,13 @@ fn refine_alone(
 }
 
 // One filter and one table for all channels.
-fn shared_picks(channels: Channels, predictions: &mut Predictions, filter: &FilterTable) -> Params {
+fn shared_picks(channels: Channels, predictions: &mut Predictions, filter: &FilterTable) -> Params
+    requires channels { predictions.old.channels ≡ channels }
+    requires filter { filter.now ≡ (refined_together channels predictions.old.sound).best }
+    ensures params { result ≡ refined_shared channels predictions.old.sound }
+    ensures sound { predictions.new.sound ≡ predictions.old.sound }
+    ensures channels { predictions.new.channels ≡ predictions.old.channels }
+{
     let all = Members {
         first: 0,
         count: channels.count(),
@@ -116,18 +138,16 @@ fn shared_picks(channels: Channels, predictions: &mut Predictions, filter: &Filt
     parameters(&[0; 6], &[0; 6], channels, filters, probs)
 }
 
-fn copies(filters: &[FilterTable]) -> ArrayVec<FilterTable, 6> {
-    let mut copies = ArrayVec::new();
-    for filter in filters {
-        copies.push(filter.copy());
-    }
-    copies
-}
-
 // A filter and a table for each channel.
-fn own_picks(channels: Channels, predictions: &mut Predictions, own: &[FilterTable]) -> Params {
+fn own_picks(channels: Channels, predictions: &mut Predictions, own: &[FilterTable]) -> Params
+    requires channels { predictions.old.channels ≡ channels }
+    requires own { own.now ≡ map (refined_alone channels predictions.old.sound) (channels_of channels) }
+    ensures params { result ≡ refined_own channels predictions.old.sound }
+    ensures sound { predictions.new.sound ≡ predictions.old.sound }
+    ensures channels { predictions.new.channels ≡ predictions.old.channels }
+{
     let mut probs = ArrayVec::new();
-    for c in 0..own.len() {
+    for c in 0..channels.count() {
         let alone = Members { first: c, count: 1 };
         probs.push(short_table(&count_members(predictions, channels, alone, &own[c])));
     }
@@ -135,12 +155,41 @@ fn own_picks(channels: Channels, predictions: &mut Predictions, own: &[FilterTab
 }
 
 // A filter for each channel, and one table for all.
-fn joint_picks(channels: Channels, predictions: &mut Predictions, own: &[FilterTable]) -> Params {
+fn joint_picks(channels: Channels, predictions: &mut Predictions, own: &[FilterTable]) -> Params
+    requires channels { predictions.old.channels ≡ channels }
+    requires own { own.now ≡ map (refined_alone channels predictions.old.sound) (channels_of channels) }
+    ensures params { result ≡ refined_own_with_one_table channels predictions.old.sound }
+    ensures sound { predictions.new.sound ≡ predictions.old.sound }
+    ensures channels { predictions.new.channels ≡ predictions.old.channels }
+{
     let mut probs = ArrayVec::new();
+    probs.push(one_table(channels, predictions, own));
+    parameters(&[0, 1, 2, 3, 4, 5], &[0; 6], channels, copies(own), probs)
+}
+
+// The short table of all channels, each with a filter of its own.
+fn one_table(channels: Channels, predictions: &mut Predictions, own: &[FilterTable]) -> ProbTable
+    requires channels { predictions.old.channels ≡ channels }
+    requires own { own.now ≡ map (refined_alone channels predictions.old.sound) (channels_of channels) }
+    ensures table { result ≡ one_table_of channels predictions.old.sound (refined_alone channels predictions.old.sound) }
+    ensures sound { predictions.new.sound ≡ predictions.old.sound }
+    ensures channels { predictions.new.channels ≡ predictions.old.channels }
+{
     let mut counts = [0; 128];
-    for c in 0..own.len() {
+    for c in 0..channels.count() {
         count_row(&mut counts, predictions, c, &own[c]);
     }
-    probs.push(short_table(&counts));
-    parameters(&[0, 1, 2, 3, 4, 5], &[0; 6], channels, copies(own), probs)
+    short_table(&counts)
+}
+
+// The same filters once more.
+fn copies(filters: &[FilterTable]) -> ArrayVec<FilterTable, 6>
+    requires { length filters.now ≤ 6 }
+    ensures { result.items ≡ filters.now }
+{
+    let mut copies = ArrayVec::new();
+    for filter in filters {
+        copies.push(filter.copy());
+    }
+    copies
 }
