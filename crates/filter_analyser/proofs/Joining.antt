@@ -1,7 +1,8 @@
 -- Tables of refined filters: of channels with one filter, and of channels with a filter each.
-use Rattle.std.proofs.Common.{◌≡◌, ℕ, zero, suc, ◌+◌, ◌<◌, ◌==◌, ℤ, true, List, [], ◌∷◌, ◌++◌, length, map, get_or, take, replicate, refl, ap, sym, ◌∙◌, arith}
-use Rattle.std.specs.List.{range_with_len}
-use Rattle.dst_spec.specs.Sample.{Shape}
+use Rattle.std.proofs.Common.{◌≡◌, ℕ, zero, suc, ◌+◌, ◌-◌, ◌<◌, ◌==◌, ℤ, true, List, [], ◌∷◌, ◌++◌, length, map, get_or, take, replicate, refl, ap, sym, ◌∙◌, arith}
+use Rattle.std.proofs.lemmas.List.FromFn.{length-map-range_with_len, get_or-map-range_with_len}
+use Rattle.std.specs.List.{count_by, range_with_len}
+use Rattle.dst_spec.specs.Sample.{Shape, samples}
 use Rattle.dst_num.specs.Map.{params_of}
 use Rattle.level_spec.specs.Counts.{count_from, table_of, total, wrong}
 use Rattle.level_spec.specs.Size.{shortened}
@@ -23,6 +24,11 @@ short-is f sound channels coefs counts h = ap shortened (counted-is f sound chan
 -- how often a code comes in a channel with its filter
 abbrev pub codes_of : Shape → List ℕ → (ℕ → List ℤ) → ℕ → ℕ → ℕ
 codes_of f sound filters c q = count_from (length (filters c)) f (λ d t. code_at f sound d (filters c) t == q) (c ∷ [])
+
+pub codes_of-is : (f : Shape) (sound : List ℕ) (filters : ℕ → List ℤ) (c q : ℕ) →
+    codes_of f sound filters c q ≡ count_by (λ t. code_at f sound c (filters c) t == q) (range_with_len (length (filters c)) (samples f - length (filters c)))
+unfolding count_from
+codes_of-is f sound filters c q = omega arith
 
 pub sum_of-push : (counts : ℕ → ℕ → ℕ) (a n p : ℕ) → sum_of counts (range_with_len a (n + 1)) p ≡ sum_of counts (range_with_len a n) p + counts (a + n) p
 unfolding sum_of
@@ -68,6 +74,15 @@ one_table-is f sound filters counts h =
         let t = sum_of-parts totals of p p (p + 64) (channels_of f) (λ c. total-codes f sound (c ∷ []) (filters c) p k) in
         omega arith)
     (λ p k. h (p + 64) (omega arith) ∙ sym (sum_of-same wrongs of p (p + 64) (channels_of f) (λ c. wrong-codes f sound (c ∷ []) (filters c) p k))))
+
+-- the filters of channels, each refined alone
+pub each-long : (f : Shape) (sound : List ℕ) (filters : List (List ℤ)) → filters ≡ map (refined_alone f sound) (channels_of f) → length filters ≡ f.channels
+each-long f sound filters e = ap length e ∙ length-map-range_with_len (refined_alone f sound) 0 f.channels
+
+pub each-at : (f : Shape) (sound : List ℕ) (filters : List (List ℤ)) (c : ℕ) (d : List ℤ) → filters ≡ map (refined_alone f sound) (channels_of f) → c < f.channels →
+    get_or filters c d ≡ refined_alone f sound c
+each-at f sound filters c d e h =
+    ap (λ xs. get_or xs c d) e ∙ get_or-map-range_with_len (refined_alone f sound) 0 f.channels c c d h (omega arith)
 
 pub refined_shared-is : (f : Shape) (sound : List ℕ) (elements : List ℕ) (filter : List ℤ) (probs : List ℕ) → elements ≡ replicate f.channels 0 →
     filter ≡ (refined_together f sound).best → probs ≡ short_table f sound (channels_of f) filter →

@@ -71,13 +71,7 @@ impl Picker for LevelPicker {
             0 => {}
             1 => pick_one(sound, channels, predictions, found),
             2 => pick_all(sound, channels, predictions, found),
-            _ => {
-                let refined = refined_picks(sound, channels, predictions);
-                pick_all(sound, channels, predictions, found);
-                found.push(refined.shared);
-                found.push(refined.own);
-                found.push(refined.own_with_one_table);
-            }
+            _ => pick_refined(sound, channels, predictions, found),
         }
     }
 }
@@ -122,6 +116,28 @@ fn pick_all(sound: &[u8], channels: Channels, predictions: &mut Predictions, fou
     for place in 0..4usize {
         found.push(shared(&together[place], ORDERS[place], channels, predictions));
     }
+}
+
+// The parameters of level 3.
+fn pick_refined(
+    sound: &[u8],
+    channels: Channels,
+    predictions: &mut Predictions,
+    found: &mut Candidates,
+)
+    requires sound { length sound.now ≡ sound_bytes channels }
+    requires begun { predictions.old.sound ≡ sound.now }
+    requires channels { predictions.old.channels ≡ channels }
+    requires empty { found.old.items ≡ [] }
+    ensures found { found.new.items ≡ level_picks 3 sound.now channels }
+    ensures sound { predictions.new.sound ≡ predictions.old.sound }
+    ensures channels { predictions.new.channels ≡ predictions.old.channels }
+{
+    let refined = refined_picks(sound, channels, predictions);
+    pick_all(sound, channels, predictions, found);
+    found.push(refined.shared);
+    found.push(refined.own);
+    found.push(refined.own_with_one_table);
 }
 
 // Solves each channel's correlations for all orders, and adds them up.

@@ -174,6 +174,7 @@ fn one_table(channels: Channels, predictions: &mut Predictions, own: &[FilterTab
     ensures table { result ≡ one_table_of channels predictions.old.sound (refined_alone channels predictions.old.sound) }
     ensures sound { predictions.new.sound ≡ predictions.old.sound }
     ensures channels { predictions.new.channels ≡ predictions.old.channels }
+    ensures shape { IsShape channels }
 {
     let mut counts = [0; 128];
     for c in 0..channels.count() {
