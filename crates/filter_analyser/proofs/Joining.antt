@@ -69,10 +69,10 @@ one_table-is f sound filters counts h =
     ap shortened (table_of-same (λ p. get_or counts p 0 + get_or counts (p + 64) 0) (λ p. get_or counts (p + 64) 0)
     (sum_of totals (channels_of f)) (sum_of wrongs (channels_of f))
     (λ p k.
-        let a = h p (omega arith) in
-        let b = h (p + 64) (omega arith) in
-        let t = sum_of-parts totals of p p (p + 64) (channels_of f) (λ c. total-codes f sound (c ∷ []) (filters c) p k) in
-        omega arith)
+    let a = h p (omega arith) in
+    let b = h (p + 64) (omega arith) in
+    let t = sum_of-parts totals of p p (p + 64) (channels_of f) (λ c. total-codes f sound (c ∷ []) (filters c) p k) in
+    omega arith)
     (λ p k. h (p + 64) (omega arith) ∙ sym (sum_of-same wrongs of p (p + 64) (channels_of f) (λ c. wrong-codes f sound (c ∷ []) (filters c) p k))))
 
 -- the filters of channels, each refined alone

@@ -20,7 +20,7 @@ gradient-push f sound W first a (suc n) j =
     let last : a + 1 + n ≡ a + suc n = omega arith in
     let rest = gradient-push f sound W first (a + 1) n j in
     let more : weighted_agreement f sound W first (a + 1 + n) j ≡ weighted_agreement f sound W first (a + suc n) j =
-        ap (λ c. weighted_agreement f sound W first c j) last in
+    ap (λ c. weighted_agreement f sound W first c j) last in
     ap (λ m. gradient f sound W first (range_with_len a m) j) e ∙ omega (arith, ints)
 
 pub agreement-same : (f : Shape) (sound : List ℕ) (V W : ℕ → ℕ → ℕ) (first c j : ℕ) → ((t : ℕ) → t < samples f → V c t ≡ W c t) →

@@ -59,7 +59,7 @@ sum_below-same F G (suc n) h = let rest = sum_below-same F G n (λ p l. h p (ome
 -- the size of a filter by its counts
 pub size-is : (f : Shape) (sound channels : List ℕ) (coefs : List ℤ) (counts : List ℕ) (m : ℕ) → AreCounts f sound channels coefs counts → m ≡ length channels →
     size coefs m (λ p. get_or counts p 0 + get_or counts (p + 64) 0) (λ p. get_or counts (p + 64) 0)
-        (shortened (table_of (λ p. get_or counts p 0 + get_or counts (p + 64) 0) (λ p. get_or counts (p + 64) 0)))
+    (shortened (table_of (λ p. get_or counts p 0 + get_or counts (p + 64) 0) (λ p. get_or counts (p + 64) 0)))
     ≡ filter_size f sound channels coefs
 unfolding filter_size short_table size
 size-is f sound channels coefs counts m h e =
@@ -69,9 +69,9 @@ size-is f sound channels coefs counts m h e =
     let S = shortened (counted f sound channels coefs) in
     ap (λ t. size coefs m T W t) table ∙ ap (λ n. size coefs n T W S) e
     ∙ ap (λ n. 4096 * (spelled_bits filter_kind coefs + spelled_bits prob_kind (map pos S) + length channels * length coefs) + n)
-      (sum_below-same (place_bits T W S) (place_bits (total f sound channels coefs) (wrong f sound channels coefs) S) 64 (λ p l.
-      ap (λ t. W p * bits_of (entry_at S p) + (t - W p) * bits_of (256 - entry_at S p)) (totals-are f sound channels coefs counts p h l)
-      ∙ ap (λ w. w * bits_of (entry_at S p) + (total f sound channels coefs p - w) * bits_of (256 - entry_at S p)) (wrongs-are f sound channels coefs counts p h l)))
+    (sum_below-same (place_bits T W S) (place_bits (total f sound channels coefs) (wrong f sound channels coefs) S) 64 (λ p l.
+    ap (λ t. W p * bits_of (entry_at S p) + (t - W p) * bits_of (256 - entry_at S p)) (totals-are f sound channels coefs counts p h l)
+    ∙ ap (λ w. w * bits_of (entry_at S p) + (total f sound channels coefs p - w) * bits_of (256 - entry_at S p)) (wrongs-are f sound channels coefs counts p h l)))
 
 cut-at : (moves : List ℤ) (n j : ℕ) → ((j : ℕ) → n ≤ j → get_or moves j (pos 0) ≡ pos 0) → get_or (take n moves) j (pos 0) ≡ get_or moves j (pos 0)
 cut-at moves n j rest = elim (cases_lt j n) [
@@ -89,7 +89,7 @@ map-same F G a (suc n) h =
 pub moved-is : (f : Shape) (sound channels : List ℕ) (coefs : List ℤ) (r0 sp pp : ℤ) (kept : List State) (g : ℕ → ℤ) → r0 ≡ lag (correlations f sound channels) 0 →
     kept ≡ rows (correlations f sound channels) 128 → sp ≡ agreement (total f sound channels coefs) (wrong f sound channels coefs) → pp ≡ power (total f sound channels coefs) →
     ((j : ℕ) → j < 128 → g j ≡ gradient f sound (λ c t. weight (total f sound channels coefs) (wrong f sound channels coefs) (place f sound c coefs t) (is_wrong f sound c coefs t))
-        (length coefs) channels j) → moved_by r0 kept sp pp g coefs ≡ next_filter f sound channels coefs
+    (length coefs) channels j) → moved_by r0 kept sp pp g coefs ≡ next_filter f sound channels coefs
 unfolding next_filter moved_by
 moved-is f sound channels coefs r0 sp pp kept g a b d e h =
     let T = total f sound channels coefs in
@@ -97,8 +97,8 @@ moved-is f sound channels coefs r0 sp pp kept g a b d e h =
     let lags = correlations f sound channels in
     let G : ℕ → ℤ = gradient f sound (λ c t. weight T W (place f sound c coefs t) (is_wrong f sound c coefs t)) (length coefs) channels in
     ap (λ ys. cond (int_le (sp *ℤ pos (2 ^ 13)) pp) None (elim (solved kept ys) as (λ _. Option (List ℤ)) [ None ↦ None | Some d ↦ Some (fitted kept (target coefs d)) ]))
-        (map-same (λ j. pull r0 sp pp (g j) (get_or coefs j (pos 0))) (λ j. pull r0 sp pp (G j) (get_or coefs j (pos 0))) 0 128
-        (λ j l. ap (λ z. pull r0 sp pp z (get_or coefs j (pos 0))) (h j (omega arith))))
+    (map-same (λ j. pull r0 sp pp (g j) (get_or coefs j (pos 0))) (λ j. pull r0 sp pp (G j) (get_or coefs j (pos 0))) 0 128
+    (λ j l. ap (λ z. pull r0 sp pp z (get_or coefs j (pos 0))) (h j (omega arith))))
     ∙ ap (λ r. moved_by r kept sp pp G coefs) a ∙ ap (λ k. moved_by (lag lags 0) k sp pp G coefs) b
     ∙ ap (λ x. moved_by (lag lags 0) (rows lags 128) x pp G coefs) d ∙ ap (λ x. moved_by (lag lags 0) (rows lags 128) (agreement T W) x G coefs) e
 
@@ -139,16 +139,16 @@ pub weights-are : (f : Shape) (sound channels : List ℕ) (coefs : List ℤ) (co
     ((p : ℕ) → p < 64 → get_or weights p 0 ≡ weight (λ p. get_or counts p 0 + get_or counts (p + 64) 0) (λ p. get_or counts (p + 64) 0) p false) →
     ((p : ℕ) → p < 64 → get_or weights (p + 64) 0 ≡ weight (λ p. get_or counts p 0 + get_or counts (p + 64) 0) (λ p. get_or counts (p + 64) 0) p true) →
     (c t : ℕ) → get_or weights (code_at f sound c coefs t) 0
-      ≡ weight (total f sound channels coefs) (wrong f sound channels coefs) (place f sound c coefs t) (is_wrong f sound c coefs t)
+    ≡ weight (total f sound channels coefs) (wrong f sound channels coefs) (place f sound c coefs t) (is_wrong f sound c coefs t)
 weights-are f sound channels coefs counts weights h right wrongly c t =
     let p = place f sound c coefs t in
     let few : p < 64 = omega arith in
     let T = total f sound channels coefs in
     let W = wrong f sound channels coefs in
     let e : entry (get_or counts p 0 + get_or counts (p + 64) 0) (get_or counts (p + 64) 0) ≡ entry (T p) (W p) =
-        ap (λ n. entry n (get_or counts (p + 64) 0)) (totals-are f sound channels coefs counts p h few) ∙ ap (entry (T p)) (wrongs-are f sound channels coefs counts p h few) in
+    ap (λ n. entry n (get_or counts (p + 64) 0)) (totals-are f sound channels coefs counts p h few) ∙ ap (entry (T p)) (wrongs-are f sound channels coefs counts p h few) in
     weight-of weights T W p (is_negative (sum_before f sound c coefs (pos t))) (sample f sound c (pos t) == 1) (right p few ∙ e)
-        (wrongly p few ∙ ap (λ x. 256 - x) e)
+    (wrongly p few ∙ ap (λ x. 256 - x) e)
 
 -- a step of refining
 pub refine-none : (next : List ℤ → Option (List ℤ)) (sizes : List ℤ → ℕ) (n : ℕ) (r : Refined) → next r.last ≡ None → refine next sizes n r ≡ r
@@ -177,6 +177,7 @@ refine-zero next sizes n r e = ap (λ k. refine next sizes k r) e
 pub pick-best : (next : List ℤ → Option (List ℤ)) (sizes : List ℤ → ℕ) (m : ℕ) (q best : List ℤ) (end : Refined) →
     refine next sizes m (record { best = cond (nat_lt (sizes q) (sizes best)) q best; last = q }) ≡ end →
     (sizes q < sizes best → refine next sizes m (record { best = q; last = q }) ≡ end) × (sizes best ≤ sizes q → refine next sizes m (record { best = best; last = q }) ≡ end)
-pick-best next sizes m q best end h =
-    (λ less. ap (λ b. refine next sizes m (record { best = cond b q best; last = q })) (sym (test-true (sizes q) (sizes best) less)) ∙ h,
-      λ more. ap (λ b. refine next sizes m (record { best = cond b q best; last = q })) (sym (test-false (sizes q) (sizes best) more)) ∙ h)
+pick-best next sizes m q best end h = (
+  λ less. ap (λ b. refine next sizes m (record { best = cond b q best; last = q })) (sym (test-true (sizes q) (sizes best) less)) ∙ h,
+  λ more. ap (λ b. refine next sizes m (record { best = cond b q best; last = q })) (sym (test-false (sizes q) (sizes best) more)) ∙ h,
+)

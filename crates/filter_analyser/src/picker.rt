@@ -9,8 +9,8 @@ ghost use Rattle.filter_analyser.specs.Run.{padded};
 
 use crate::lags::correlate;
 use crate::picks::{per_channel, shared};
-use crate::refined::refined_picks;
 use crate::recursion::{solve_all, solve_filter};
+use crate::refined::refined_picks;
 use dst_num::Channels;
 use frame_predictions::Predictions;
 use frame_store::{Candidates, Picker};

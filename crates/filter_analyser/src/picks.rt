@@ -43,7 +43,13 @@ pub(crate) fn per_channel(
         probs.push(channel_table(predictions, c, &filter));
         filters.push(filter);
     }
-    parameters(&[0, 1, 2, 3, 4, 5], &[0, 1, 2, 3, 4, 5], channels, filters, probs)
+    parameters(
+        &[0, 1, 2, 3, 4, 5],
+        &[0, 1, 2, 3, 4, 5],
+        channels,
+        filters,
+        probs,
+    )
 }
 
 /// Parameters with one filter and one table for all channels.

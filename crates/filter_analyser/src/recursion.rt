@@ -152,11 +152,11 @@ impl Run {
         ensures made { result ≡ true → length self.new.values ≡ length self.old.values + 1 }
     {
         let place = self.steps + 1;
-        let next_value = next_value(lags, &self.values[..self.steps], self.error);
-        if next_value.unsigned_abs() >= 1 << 24 {
+        let added = next_value(lags, &self.values[..self.steps], self.error);
+        if added.unsigned_abs() >= 1 << 24 {
             return false;
         }
-        let reflection = next_value as i64;
+        let reflection = added as i64;
         let next = moved(&self.values[..self.steps], reflection);
         let error = fallen(self.error, reflection);
         if is_past(error, lags[0], &next[..place]) {

@@ -151,7 +151,13 @@ fn own_picks(channels: Channels, predictions: &mut Predictions, own: &[FilterTab
         let alone = Members { first: c, count: 1 };
         probs.push(short_table(&count_members(predictions, channels, alone, &own[c])));
     }
-    parameters(&[0, 1, 2, 3, 4, 5], &[0, 1, 2, 3, 4, 5], channels, copies(own), probs)
+    parameters(
+        &[0, 1, 2, 3, 4, 5],
+        &[0, 1, 2, 3, 4, 5],
+        channels,
+        copies(own),
+        probs,
+    )
 }
 
 // A filter for each channel, and one table for all.

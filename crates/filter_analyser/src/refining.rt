@@ -14,7 +14,10 @@ ghost use Rattle.frame_predictions.specs.Codes.{code_at};
 use crate::counts::table_from;
 use crate::picks::count_row;
 use dst_num::{Channels, FilterTable, ProbTable};
-use filter_refiner::{Rows, add_gradient, agree_little, filter_size, fit, pulls, shorten, solve, sums_of, target, weights_of};
+use filter_refiner::{
+    Rows, add_gradient, agree_little, filter_size, fit, pulls, shorten, solve, sums_of, target,
+    weights_of,
+};
 use frame_predictions::Predictions;
 
 /// Channels from one on.
@@ -127,7 +130,14 @@ fn gradient_of(
     let mut gradient = [0; 128];
     for c in 0..members.count {
         let channel = members.first + c;
-        add_channel(&mut gradient, predictions, channels, channel, filter, weights);
+        add_channel(
+            &mut gradient,
+            predictions,
+            channels,
+            channel,
+            filter,
+            weights,
+        );
     }
     gradient
 }
@@ -154,7 +164,15 @@ fn add_channel(
     let row = predictions.row(channel, filter);
     let codes = predictions.codes(row);
     let first = filter.coefs().len();
-    add_gradient(gradient, codes, weights, predictions.sound(), channels, channel, first);
+    add_gradient(
+        gradient,
+        codes,
+        weights,
+        predictions.sound(),
+        channels,
+        channel,
+        first,
+    );
 }
 
 /// The counts of the codes of channels with a filter.

@@ -84,13 +84,13 @@ returns c =
           let held : to_z w64 (of_z w64 w.run.inside.error) ≡ w.run.inside.error = omega (arith, ints, w.run.invariant.1.most, w.run.invariant.1.positive) in
           let stays : w.row_step.new.self ≡ c.loop-step.run = w.row_step.ensures.stop w.if-not-row_step.true in
           let stop : next_row lags (row_after lags n) ≡ row_after lags n = ap (next_row lags) (sym c.loop-step.invariant.run) ∙ sym w.row_step.ensures.state ∙ stays
-              ∙ c.loop-step.invariant.run in
+          ∙ c.loop-step.invariant.run in
           let less : n < 128 = omega (arith, w.loop-step-test.true) in
           let whole : n + (128 - n) ≡ 128 = omega arith in
           let end : row_after lags 128 ≡ row_after lags n = ap (row_after lags) (sym whole) ∙ row_after-stop lags n (128 - n) stop in
           let long : length (row_after lags 128).values ≡ n = ap (λ s. length s.values) end ∙ c.loop-step.invariant.long in
           let done = finish lags (n + 1) c.loop-step-test.rows c.loop-step-test.run
-              (w.rows-is ∙ w.push.ensures ∙ more lags n c.loop-step.rows (to_z w64 (of_z w64 w.run.inside.error)) inner c.loop-step.invariant.rows is held)
-              (w.run-is ∙ stays ∙ c.loop-step.invariant.run ∙ sym end) (omega arith) in
+          (w.rows-is ∙ w.push.ensures ∙ more lags n c.loop-step.rows (to_z w64 (of_z w64 w.run.inside.error)) inner c.loop-step.invariant.rows is held)
+          (w.run-is ∙ stays ∙ c.loop-step.invariant.run ∙ sym end) (omega arith) in
           record { rows = done.0; solution = c.padded.ensures ∙ done.1 }
     ]

@@ -58,7 +58,7 @@ returns-clause-best c =
     let f = c.args.channels in
     let sound = c.args.sound.now in
     let filter = first f sound c.solve_channels.new.joint c.keep_rows-kept.result.1 c.fit-first.result c.keep_rows-kept.result.0 c.solve_channels.ensures.joint
-        c.keep_rows-kept.ensures.rows c.keep_rows-kept.ensures.solution c.fit-first.ensures in
+    c.keep_rows-kept.ensures.rows c.keep_rows-kept.ensures.solution c.fit-first.ensures in
     c.refine.ensures.best ∙ ap (λ r. r.best) (together f sound c.args.predictions.now.sound c.count.result c.fit-first.result c.requires.begun c.count.ensures.count filter)
 
 pub returns-clause-last : goal.returns-clause-last
@@ -66,5 +66,5 @@ returns-clause-last c =
     let f = c.args.channels in
     let sound = c.args.sound.now in
     let filter = first f sound c.solve_channels.new.joint c.keep_rows-kept.result.1 c.fit-first.result c.keep_rows-kept.result.0 c.solve_channels.ensures.joint
-        c.keep_rows-kept.ensures.rows c.keep_rows-kept.ensures.solution c.fit-first.ensures in
+    c.keep_rows-kept.ensures.rows c.keep_rows-kept.ensures.solution c.fit-first.ensures in
     c.refine.ensures.last ∙ ap (λ r. r.last) (together f sound c.args.predictions.now.sound c.count.result c.fit-first.result c.requires.begun c.count.ensures.count filter)

@@ -24,8 +24,8 @@ returns-then-agree_little-clause-none c =
     let sums = c.sums_of-sums.result in
     let G : ℕ → ℤ = gradient f sound (λ c t. weight (total f sound members coefs) (wrong f sound members coefs) (place f sound c coefs t) (is_wrong f sound c coefs t)) (length coefs) members in
     sym (moved-is f sound members coefs c.args.r0 sums.agreement sums.power c.args.rows.now G c.requires.r0 c.requires.rows
-        (c.sums_of-sums.ensures.agreement ∙ agreement-is f sound members coefs c.args.counts.now c.requires.counts)
-        (c.sums_of-sums.ensures.power ∙ power-is f sound members coefs c.args.counts.now c.requires.counts) (λ j h. refl))
+    (c.sums_of-sums.ensures.agreement ∙ agreement-is f sound members coefs c.args.counts.now c.requires.counts)
+    (c.sums_of-sums.ensures.power ∙ power-is f sound members coefs c.args.counts.now c.requires.counts) (λ j h. refl))
     ∙ moved-none c.args.r0 c.args.rows.now sums.agreement sums.power G coefs (sym c.agree_little.ensures ∙ c.if-agree_little.true)
 
 pub pulls-requires-clause-r0 : goal.pulls-requires-clause-r0
@@ -65,9 +65,9 @@ returns-in-None-clause-none c =
     let W : ℕ → ℕ → ℕ = λ c t. weight (total f sound members coefs) (wrong f sound members coefs) (place f sound c coefs t) (is_wrong f sound c coefs t) in
     let are = weights-are f sound members coefs c.args.counts.now weights c.requires.counts c.weights_of.ensures.right c.weights_of.ensures.wrong in
     let is = moved-is f sound members coefs r sums.agreement sums.power c.args.rows.now g (held ∙ c.requires.r0) c.requires.rows
-        (c.sums_of-sums.ensures.agreement ∙ agreement-is f sound members coefs c.args.counts.now c.requires.counts)
-        (c.sums_of-sums.ensures.power ∙ power-is f sound members coefs c.args.counts.now c.requires.counts)
-        (λ j h. c.gradient_of-gradient.ensures.gradient j h ∙ gradient-same f sound V W (length coefs) members j are) in
+    (c.sums_of-sums.ensures.agreement ∙ agreement-is f sound members coefs c.args.counts.now c.requires.counts)
+    (c.sums_of-sums.ensures.power ∙ power-is f sound members coefs c.args.counts.now c.requires.counts)
+    (λ j h. c.gradient_of-gradient.ensures.gradient j h ∙ gradient-same f sound V W (length coefs) members j are) in
     let test : int_le (sums.agreement *ℤ pos (2 ^ 13)) sums.power ≡ false = sym c.agree_little.ensures ∙ c.if-agree_little.false in
     sym is ∙ moved-solved r c.args.rows.now sums.agreement sums.power g coefs c.pulls.result None test c.pulls.ensures.pulls c.in-None.ensures.none
 
@@ -94,9 +94,9 @@ returns-in-Some-clause-some c =
     let W : ℕ → ℕ → ℕ = λ c t. weight (total f sound members coefs) (wrong f sound members coefs) (place f sound c coefs t) (is_wrong f sound c coefs t) in
     let are = weights-are f sound members coefs c.args.counts.now weights c.requires.counts c.weights_of.ensures.right c.weights_of.ensures.wrong in
     let is = moved-is f sound members coefs r sums.agreement sums.power c.args.rows.now g (held ∙ c.requires.r0) c.requires.rows
-        (c.sums_of-sums.ensures.agreement ∙ agreement-is f sound members coefs c.args.counts.now c.requires.counts)
-        (c.sums_of-sums.ensures.power ∙ power-is f sound members coefs c.args.counts.now c.requires.counts)
-        (λ j h. c.gradient_of-gradient.ensures.gradient j h ∙ gradient-same f sound V W (length coefs) members j are) in
+    (c.sums_of-sums.ensures.agreement ∙ agreement-is f sound members coefs c.args.counts.now c.requires.counts)
+    (c.sums_of-sums.ensures.power ∙ power-is f sound members coefs c.args.counts.now c.requires.counts)
+    (λ j h. c.gradient_of-gradient.ensures.gradient j h ∙ gradient-same f sound V W (length coefs) members j are) in
     let test : int_le (sums.agreement *ℤ pos (2 ^ 13)) sums.power ≡ false = sym c.agree_little.ensures ∙ c.if-agree_little.false in
     let n = length c.args.rows.now in
     let moves = c.in-Some.moves in

@@ -104,25 +104,25 @@ loop-step-preserved c =
     let heard : c.next_filter.new.predictions.sound ≡ sound = c.next_filter.ensures.sound ∙ c.loop-step.invariant.sound in
     let before : refine next sizes (c.args.steps - n) (pair c.loop-step.best c.loop-step.last) ≡ refine next sizes c.args.steps start = c.loop-step.invariant.whole in
     let taken : next c.loop-step.last ≡ Some q =
-        ap (λ s. next_filter f s members c.loop-step.last) (sym c.loop-step.invariant.sound) ∙ c.in-Some.ensures.some in
+    ap (λ s. next_filter f s members c.loop-step.last) (sym c.loop-step.invariant.sound) ∙ c.in-Some.ensures.some in
     let one : c.args.steps - n ≡ c.args.steps - (n + 1) + 1 = omega (arith, c.loop-step-test.true) in
     let moved : refine next sizes (c.args.steps - (n + 1)) (pair (cond (nat_lt (sizes q) (sizes c.loop-step.best)) q c.loop-step.best) q) ≡ refine next sizes c.args.steps start =
-        sym (refine-some next sizes (c.args.steps - n) (c.args.steps - (n + 1)) (pair c.loop-step.best c.loop-step.last) q one taken) ∙ before in
+    sym (refine-some next sizes (c.args.steps - n) (c.args.steps - (n + 1)) (pair c.loop-step.best c.loop-step.last) q one taken) ∙ before in
     let counted : (p : ℕ) → p < 128 → get_or c.count_members-counts-in-loop-step.result p 0 ≡ Count sound q p = λ p h.
-        c.count_members-counts-in-loop-step.ensures.counts p h ∙ ap (λ s. Count s q p) heard in
+    c.count_members-counts-in-loop-step.ensures.counts p h ∙ ap (λ s. Count s q p) heard in
     let size : c.size_of-size.result ≡ sizes q = c.size_of-size.ensures
-        ∙ size-is f sound members q c.count_members-counts-in-loop-step.result c.args.members.count counted long in
+    ∙ size-is f sound members q c.count_members-counts-in-loop-step.result c.args.members.count counted long in
     let chosen = pick-best next sizes (c.args.steps - (n + 1)) q c.loop-step.best (refine next sizes c.args.steps start) moved in
     let parts : (refine next sizes (c.args.steps - (n + 1)) (pair c.if-size-least.best q) ≡ refine next sizes c.args.steps start) × (c.if-size-least.least ≡ sizes c.if-size-least.best) =
-        elim c.if-size-least.branch [
-          | then-size-least w ↦
-              let is : c.if-size-least.best ≡ q = w.best-is ∙ w.copy-best-then-size-least.ensures in
-              let less : sizes q < sizes c.loop-step.best = omega (arith, w.if-size-least.true, size, c.loop-step.invariant.least) in
-              (ap (λ b. refine next sizes (c.args.steps - (n + 1)) (pair b q)) is ∙ chosen.0 less, w.least-is ∙ size ∙ ap sizes (sym is))
-          | else-size-least w ↦
-              let more : sizes c.loop-step.best ≤ sizes q = omega (arith, w.if-size-least.false, size, c.loop-step.invariant.least) in
-              (ap (λ b. refine next sizes (c.args.steps - (n + 1)) (pair b q)) w.best-is ∙ chosen.1 more, w.least-is ∙ c.loop-step.invariant.least ∙ ap sizes (sym w.best-is))
-        ] in
+    elim c.if-size-least.branch [
+      | then-size-least w ↦
+          let is : c.if-size-least.best ≡ q = w.best-is ∙ w.copy-best-then-size-least.ensures in
+          let less : sizes q < sizes c.loop-step.best = omega (arith, w.if-size-least.true, size, c.loop-step.invariant.least) in
+          (ap (λ b. refine next sizes (c.args.steps - (n + 1)) (pair b q)) is ∙ chosen.0 less, w.least-is ∙ size ∙ ap sizes (sym is))
+      | else-size-least w ↦
+          let more : sizes c.loop-step.best ≤ sizes q = omega (arith, w.if-size-least.false, size, c.loop-step.invariant.least) in
+          (ap (λ b. refine next sizes (c.args.steps - (n + 1)) (pair b q)) w.best-is ∙ chosen.1 more, w.least-is ∙ c.loop-step.invariant.least ∙ ap sizes (sym w.best-is))
+    ] in
     record {
       whole = parts.0;
       counts = counted;
@@ -145,16 +145,19 @@ returns c =
     let Count : List ℕ → List ℤ → ℕ → ℕ = λ s l q. count_from (length l) f (λ c t. code_at f s c l t == q) members in
     let long : c.args.members.count ≡ length members = sym (length-range_with_len c.args.members.first c.args.members.count) in
     let pieces : (pair c.loop-step.best c.loop-step.last ≡ refine next sizes c.args.steps start) × (c.loop-step-test.predictions.sound ≡ sound)
-        × (c.loop-step-test.predictions.channels ≡ c.args.predictions.now.channels) = elim c.loop-step-test.branch [
+    × (c.loop-step-test.predictions.channels ≡ c.args.predictions.now.channels) = elim c.loop-step-test.branch [
       | else-loop-step-test w ↦
-          let none : c.args.steps - c.loop-step._step ≡ 0 = omega (arith, w.loop-step-test.false) in
-          (sym (refine-zero next sizes (c.args.steps - c.loop-step._step) (pair c.loop-step.best c.loop-step.last) none) ∙ c.loop-step.invariant.whole,
-            ap (λ p. p.sound) w.predictions-is ∙ c.loop-step.invariant.sound, ap (λ p. p.channels) w.predictions-is ∙ c.loop-step.invariant.channels ∙ sym c.requires.channels)
+          let none : c.args.steps - c.loop-step._step ≡ 0 = omega (arith, w.loop-step-test.false) in (
+            sym (refine-zero next sizes (c.args.steps - c.loop-step._step) (pair c.loop-step.best c.loop-step.last) none) ∙ c.loop-step.invariant.whole,
+            ap (λ p. p.sound) w.predictions-is ∙ c.loop-step.invariant.sound,
+            ap (λ p. p.channels) w.predictions-is ∙ c.loop-step.invariant.channels ∙ sym c.requires.channels,
+          )
       | then-loop-step-test+in_default w ↦
           let ends : next c.loop-step.last ≡ None =
-              ap (λ s. next_filter f s members c.loop-step.last) (sym c.loop-step.invariant.sound) ∙ w.in_default.ensures.none in
-          (sym (refine-none next sizes (c.args.steps - c.loop-step._step) (pair c.loop-step.best c.loop-step.last) ends) ∙ c.loop-step.invariant.whole,
+          ap (λ s. next_filter f s members c.loop-step.last) (sym c.loop-step.invariant.sound) ∙ w.in_default.ensures.none in (
+            sym (refine-none next sizes (c.args.steps - c.loop-step._step) (pair c.loop-step.best c.loop-step.last) ends) ∙ c.loop-step.invariant.whole,
             ap (λ p. p.sound) w.predictions-is ∙ w.next_filter.ensures.sound ∙ c.loop-step.invariant.sound,
-            ap (λ p. p.channels) w.predictions-is ∙ w.next_filter.ensures.channels ∙ c.loop-step.invariant.channels ∙ sym c.requires.channels)
+            ap (λ p. p.channels) w.predictions-is ∙ w.next_filter.ensures.channels ∙ c.loop-step.invariant.channels ∙ sym c.requires.channels,
+          )
     ] in
     record { best = ap (λ r. r.best) pieces.0; last = ap (λ r. r.last) pieces.0; sound = pieces.1; channels = pieces.2 }

@@ -15,9 +15,9 @@ returns-then-unsigned_abs-clause-state c =
     let error = c.self.inside.error in
     let values = take c.self.inside.steps c.self.inside.values in
     let s : State = record { error = error; values = values } in
-    let F = c.next_value-next_value.result in
+    let F = c.next_value-added.result in
     let held : to_z w64 (of_z w64 error) ≡ error = omega (arith, ints, c.self.invariant.1.most, c.self.invariant.1.positive) in
-    let is : F ≡ reflection lags s (length values + 1) = c.next_value-next_value.ensures
+    let is : F ≡ reflection lags s (length values + 1) = c.next_value-added.ensures
     ∙ ap (λ e. reflection lags (record { error = e; values = values }) (length values + 1)) held in
     let same : to_z w128 (of_z w128 F) ≡ F = omega (arith, ints) in
     let great : 2 ^ 24 ≤ nat_abs F = let v : c.unsigned_abs.result ≡ nat_abs F = c.unsigned_abs.ensures.value ∙ ap nat_abs same in omega arith in
@@ -40,9 +40,9 @@ returns-then-is_past-clause-state c =
     let values = take c.self.inside.steps c.self.inside.values in
     let s : State = record { error = error; values = values } in
     let n = length values + 1 in
-    let F = c.next_value-next_value.result in
+    let F = c.next_value-added.result in
     let held : to_z w64 (of_z w64 error) ≡ error = omega (arith, ints, c.self.invariant.1.most, c.self.invariant.1.positive) in
-    let is : F ≡ reflection lags s n = c.next_value-next_value.ensures ∙ ap (λ e. reflection lags (record { error = e; values = values }) n) held in
+    let is : F ≡ reflection lags s n = c.next_value-added.ensures ∙ ap (λ e. reflection lags (record { error = e; values = values }) n) held in
     let same : to_z w128 (of_z w128 F) ≡ F = omega (arith, ints) in
     let small : nat_abs F < 2 ^ 24 = let v : c.unsigned_abs.result ≡ nat_abs F = c.unsigned_abs.ensures.value ∙ ap nat_abs same in omega arith in
     let cut : to_z w64 (of_z w64 (to_z w128 (of_z w128 F))) ≡ F = omega (arith, ints) in
@@ -55,15 +55,15 @@ returns-then-is_past-clause-state c =
     let positive = c.self.invariant.1.positive in
     let back : to_z w64 (of_z w64 c.fallen-error.result) ≡ c.fallen-error.result = omega (arith, ints) in
     let fell : c.fallen-error.result ≡ fallen error F = c.fallen-error.ensures.fallen
-        ∙ ap (λ e. fallen e (to_z w64 (of_z w64 (to_z w128 (of_z w128 F))))) held ∙ ap (λ z. fallen error z) cut in
+    ∙ ap (λ e. fallen e (to_z w64 (of_z w64 (to_z w128 (of_z w128 F))))) held ∙ ap (λ z. fallen error z) cut in
     let r = get_or lags 0 (pos 0) in
     let first = lags-most lags 0 c.requires.correlations in
     let kept : to_z w64 (of_z w64 r) ≡ r = omega (arith, ints) in
     let test : c.is_past.result ≡ (int_lt (fallen error F) (lag lags 0) || list_any (λ b. nat_lt (2 ^ 32) (nat_abs b)) (moved values F n)) =
-        c.is_past.ensures
-        ∙ ap (λ e. int_lt e (to_z w64 (of_z w64 r)) || list_any (λ b. nat_lt (2 ^ 32) (nat_abs b)) (take (c.self.inside.steps + 1) c.moved-next.result)) (back ∙ fell)
-        ∙ ap (λ z. int_lt (fallen error F) z || list_any (λ b. nat_lt (2 ^ 32) (nat_abs b)) (take (c.self.inside.steps + 1) c.moved-next.result)) kept
-        ∙ ap (λ v. int_lt (fallen error F) r || list_any (λ b. nat_lt (2 ^ 32) (nat_abs b)) v) next in
+    c.is_past.ensures
+    ∙ ap (λ e. int_lt e (to_z w64 (of_z w64 r)) || list_any (λ b. nat_lt (2 ^ 32) (nat_abs b)) (take (c.self.inside.steps + 1) c.moved-next.result)) (back ∙ fell)
+    ∙ ap (λ z. int_lt (fallen error F) z || list_any (λ b. nat_lt (2 ^ 32) (nat_abs b)) (take (c.self.inside.steps + 1) c.moved-next.result)) kept
+    ∙ ap (λ v. int_lt (fallen error F) r || list_any (λ b. nat_lt (2 ^ 32) (nat_abs b)) v) next in
     let stop = row-step-by_test lags s F c.is_past.result is small test in
     sym (subst (λ t. next_row lags t ≡ t) c.self.view_is (stop ∙ ap
     (λ b. cond b s (record { error = fallen error F; values = moved values F n })) c.if-is_past.true))
@@ -81,7 +81,7 @@ invariant_of-self c =
     let positive = c.self.invariant.1.positive in
     let kept = take (c.self.inside.steps + 1) c.moved-next.result in
     let past = small-when (int_lt (to_z w64 (of_z w64 c.fallen-error.result)) (to_z w64 (of_z w64 (get_or c.args.lags.now 0 (pos 0)))))
-        (list_any (λ b. nat_lt (2 ^ 32) (nat_abs b)) kept) (sym c.is_past.ensures ∙ c.if-is_past.false) in (
+    (list_any (λ b. nat_lt (2 ^ 32) (nat_abs b)) kept) (sym c.is_past.ensures ∙ c.if-is_past.false) in (
       omega arith,
       record {
         positive = omega (arith, ints);
@@ -98,9 +98,9 @@ returns-clause-state c =
     let values = take c.self.inside.steps c.self.inside.values in
     let s : State = record { error = error; values = values } in
     let n = length values + 1 in
-    let F = c.next_value-next_value.result in
+    let F = c.next_value-added.result in
     let held : to_z w64 (of_z w64 error) ≡ error = omega (arith, ints, c.self.invariant.1.most, c.self.invariant.1.positive) in
-    let is : F ≡ reflection lags s n = c.next_value-next_value.ensures ∙ ap (λ e. reflection lags (record { error = e; values = values }) n) held in
+    let is : F ≡ reflection lags s n = c.next_value-added.ensures ∙ ap (λ e. reflection lags (record { error = e; values = values }) n) held in
     let same : to_z w128 (of_z w128 F) ≡ F = omega (arith, ints) in
     let small : nat_abs F < 2 ^ 24 = let v : c.unsigned_abs.result ≡ nat_abs F = c.unsigned_abs.ensures.value ∙ ap nat_abs same in omega arith in
     let cut : to_z w64 (of_z w64 (to_z w128 (of_z w128 F))) ≡ F = omega (arith, ints) in
@@ -113,15 +113,15 @@ returns-clause-state c =
     let positive = c.self.invariant.1.positive in
     let back : to_z w64 (of_z w64 c.fallen-error.result) ≡ c.fallen-error.result = omega (arith, ints) in
     let fell : c.fallen-error.result ≡ fallen error F = c.fallen-error.ensures.fallen
-        ∙ ap (λ e. fallen e (to_z w64 (of_z w64 (to_z w128 (of_z w128 F))))) held ∙ ap (λ z. fallen error z) cut in
+    ∙ ap (λ e. fallen e (to_z w64 (of_z w64 (to_z w128 (of_z w128 F))))) held ∙ ap (λ z. fallen error z) cut in
     let r = get_or lags 0 (pos 0) in
     let first = lags-most lags 0 c.requires.correlations in
     let kept : to_z w64 (of_z w64 r) ≡ r = omega (arith, ints) in
     let test : c.is_past.result ≡ (int_lt (fallen error F) (lag lags 0) || list_any (λ b. nat_lt (2 ^ 32) (nat_abs b)) (moved values F n)) =
-        c.is_past.ensures
-        ∙ ap (λ e. int_lt e (to_z w64 (of_z w64 r)) || list_any (λ b. nat_lt (2 ^ 32) (nat_abs b)) (take (c.self.inside.steps + 1) c.moved-next.result)) (back ∙ fell)
-        ∙ ap (λ z. int_lt (fallen error F) z || list_any (λ b. nat_lt (2 ^ 32) (nat_abs b)) (take (c.self.inside.steps + 1) c.moved-next.result)) kept
-        ∙ ap (λ v. int_lt (fallen error F) r || list_any (λ b. nat_lt (2 ^ 32) (nat_abs b)) v) next in
+    c.is_past.ensures
+    ∙ ap (λ e. int_lt e (to_z w64 (of_z w64 r)) || list_any (λ b. nat_lt (2 ^ 32) (nat_abs b)) (take (c.self.inside.steps + 1) c.moved-next.result)) (back ∙ fell)
+    ∙ ap (λ z. int_lt (fallen error F) z || list_any (λ b. nat_lt (2 ^ 32) (nat_abs b)) (take (c.self.inside.steps + 1) c.moved-next.result)) kept
+    ∙ ap (λ v. int_lt (fallen error F) r || list_any (λ b. nat_lt (2 ^ 32) (nat_abs b)) v) next in
     let stop = row-step-by_test lags s F c.is_past.result is small test in
     let state : ℤ → List ℤ → State = λ e v. record { error = e; values = v } in
     ap (λ e. state e (take (c.self.inside.steps + 1) c.moved-next.result)) (back ∙ fell) ∙ ap (state (fallen error F)) next
