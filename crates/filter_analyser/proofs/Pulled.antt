@@ -1,11 +1,11 @@
 -- Gradients of channels, by the codes of rows.
-use Rattle.std.proofs.Common.{◌≡◌, ℕ, zero, suc, ◌+◌, ◌-◌, ◌*◌, ◌<◌, ◌≤◌, ◌==◌, ℤ, pos, ◌+ℤ◌, ◌-ℤ◌, ◌*ℤ◌, List, [], ◌∷◌, length, get_or, refl, ap, sym, ◌∙◌, arith}
+use Rattle.std.proofs.Common.{◌≡◌, ℕ, zero, suc, ◌+◌, ◌-◌, ◌<◌, ℤ, pos, ◌+ℤ◌, ◌-ℤ◌, ◌*ℤ◌, List, [], ◌∷◌, get_or, refl, ap, ◌∙◌, arith}
 use Rattle.std.proofs.lemmas.Int.{ints}
 use Rattle.std.proofs.lemmas.List.FromFn.{get_or-map-range_with_len}
 use Rattle.std.specs.List.{range_with_len}
 use Rattle.dst_spec.specs.Sample.{Shape, sample, samples}
 use Rattle.dst_spec.specs.Guess.{signed}
-use Rattle.level_spec.specs.Correlation.{sum_over, sign}
+use Rattle.level_spec.specs.Correlation.{sign}
 use Rattle.level_spec.specs.Refining.{weighted_agreement, gradient}
 use Rattle.level_spec.proofs.Sums.{sum_over-same}
 use Rattle.frame_predictions.specs.Codes.{code_at, codes}

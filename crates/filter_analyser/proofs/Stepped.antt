@@ -1,12 +1,12 @@
 -- A step of refining by a filter's counts.
-use Rattle.std.proofs.Common.{◌≡◌, ℕ, zero, suc, ◌+◌, ◌-◌, ◌*◌, ◌^◌, ◌<◌, ◌≤◌, ◌==◌, ℤ, pos, ◌+ℤ◌, ◌-ℤ◌, ◌*ℤ◌, int_le, nat_lt, cond, Bool, true, false, List, [], ◌∷◌, length, map, get_or, Option, Some, None, not, take, length-take, inl, inr, refl, ap, sym, ◌∙◌, arith}
+use Rattle.std.proofs.Common.{◌≡◌, ℕ, zero, suc, ◌+◌, ◌-◌, ◌*◌, ◌^◌, ◌<◌, ◌≤◌, ◌==◌, ℤ, pos, ◌+ℤ◌, ◌-ℤ◌, ◌*ℤ◌, int_le, nat_lt, cond, Bool, true, false, List, ◌∷◌, length, map, get_or, Option, Some, None, not, take, length-take, inl, inr, refl, ap, sym, ◌∙◌, arith}
 use Rattle.std.proofs.lemmas.Bool.{cases_lt}
 use Rattle.std.proofs.lemmas.List.{get_or-take, get_or_past}
 use Rattle.std.specs.Int.{is_negative}
 use Rattle.std.specs.List.{range_with_len}
 use Rattle.dst_spec.specs.Guess.{sum_before}
 use Rattle.dst_spec.specs.Sample.{Shape, sample}
-use Rattle.level_spec.specs.Correlation.{sum_over, correlations}
+use Rattle.level_spec.specs.Correlation.{correlations}
 use Rattle.level_spec.specs.Recursion.{State, lag}
 use Rattle.level_spec.specs.Counts.{place, is_wrong, count_from, total, wrong, entry, table_of, counted}
 use Rattle.level_spec.specs.Rows.{rows}
@@ -18,7 +18,7 @@ use Rattle.level_spec.specs.Refining.{agreement, power, weight, pull, target, mo
 use Rattle.level_spec.proofs.Sums.{sum_over-same}
 use Rattle.frame_predictions.specs.Codes.{code_at}
 use Rattle.filter_analyser.proofs.Differing.{test-true, test-false}
-use Rattle.filter_analyser.proofs.Counting.{total-codes, wrong-codes, table_of-same, counted-is}
+use Rattle.filter_analyser.proofs.Counting.{total-codes, wrong-codes, counted-is}
 
 -- totals and wrong guesses by counts of codes
 abbrev pub AreCounts : Shape → List ℕ → List ℕ → List ℤ → List ℕ → Type 0

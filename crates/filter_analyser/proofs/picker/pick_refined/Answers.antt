@@ -1,7 +1,6 @@
-use Rattle.std.proofs.Common.{◌≡◌, ℕ, List, [], ◌∷◌, ◌++◌, length, map, refl, ap, ◌∙◌, arith}
+use Rattle.std.proofs.Common.{◌≡◌, ℕ, List, [], ◌∷◌, ◌++◌, length, refl, ap, ◌∙◌, arith}
 use Rattle.dst_spec.specs.Sample.{Shape}
-use Rattle.dst_spec.specs.Header.{Params}
-use Rattle.level_spec.specs.Picks.{per_channel, shared, refined_shared, refined_own, refined_own_with_one_table, orders, level_picks}
+use Rattle.level_spec.specs.Picks.{refined_shared, refined_own, refined_own_with_one_table, level_picks}
 use Rattle.filter_analyser.proofs.picker.pick_refined.Goals as goal
 
 -- level 2 has eight

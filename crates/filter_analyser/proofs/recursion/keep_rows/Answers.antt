@@ -1,11 +1,11 @@
-use Rattle.std.proofs.Common.{◌≡◌, ℕ, ◌+◌, ◌-◌, ◌^◌, ◌<◌, ◌≤◌, min, ℤ, pos, nat_abs, true, false, suc, to_z, of_z, List, [], ◌∷◌, ◌++◌, length, map, take, get_or, length-take, refl, ap, sym, ◌∙◌, subst, arith}
+use Rattle.std.proofs.Common.{◌≡◌, ℕ, ◌+◌, ◌-◌, ◌^◌, ◌<◌, ◌≤◌, min, ℤ, pos, nat_abs, suc, to_z, of_z, List, [], ◌∷◌, ◌++◌, length, map, take, get_or, refl, ap, sym, ◌∙◌, subst, arith}
 use mir.Syntax.{w64}
 use Rattle.std.proofs.lemmas.Int.{ints}
 use Rattle.std.proofs.lemmas.List.FromFn.{length-map-range_with_len, map-range_with_len_more}
 use Rattle.std.specs.List.{range_with_len}
 use Rattle.level_spec.specs.Recursion.{State}
-use Rattle.level_spec.specs.Rows.{first_row, row_after, next_row, row_count, rows, row_solution}
-use Rattle.level_spec.proofs.RowSteps.{length-row_after, row_after-stop, length-row_solution, IsRow-after}
+use Rattle.level_spec.specs.Rows.{first_row, row_after, next_row, rows, row_solution}
+use Rattle.level_spec.proofs.RowSteps.{row_after-stop, IsRow-after}
 use Rattle.filter_analyser.specs.Run.{padded}
 use Rattle.filter_analyser.proofs.Shares.{each-most}
 use Rattle.filter_analyser.proofs.recursion.keep_rows.Goals as goal

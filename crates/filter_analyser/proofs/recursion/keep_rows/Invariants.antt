@@ -1,4 +1,4 @@
-use Rattle.std.proofs.Common.{◌≡◌, ℕ, ◌<◌, length, map}
+use Rattle.std.proofs.Common.{◌≡◌, length, map}
 use Rattle.std.specs.List.{range_with_len}
 use Rattle.level_spec.specs.Rows.{row_after}
 use Rattle.filter_analyser.proofs.recursion.keep_rows.Given as goal

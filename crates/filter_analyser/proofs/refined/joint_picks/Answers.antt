@@ -1,4 +1,4 @@
-use Rattle.std.proofs.Common.{◌≡◌, ℕ, ◌≤◌, List, true, [], ◌∷◌, ◌++◌, length, take, replicate, ap, sym, ◌∙◌, subst, arith}
+use Rattle.std.proofs.Common.{ℕ, true, [], ◌∷◌, take, replicate, ap, sym, ◌∙◌, subst, arith}
 use Rattle.dst_spec.specs.Header.{IsParams}
 use Rattle.dst_num.specs.Map.{params_of}
 use Rattle.level_spec.proofs.RefinedPicks.{IsParams-refined_own_with_one_table}

@@ -1,8 +1,8 @@
-use Rattle.std.proofs.Common.{◌≡◌, ℕ, ◌+◌, ◌-◌, ◌<◌, ◌≤◌, ◌==◌, List, ℤ, [], ◌∷◌, length, get_or, refl, ap, sym, ◌∙◌, arith}
+use Rattle.std.proofs.Common.{◌≡◌, ℕ, ◌+◌, ◌-◌, ◌<◌, ◌==◌, List, ℤ, length, refl, ap, sym, ◌∙◌, arith}
 use Rattle.std.specs.List.{count_by, range_with_len}
 use Rattle.dst_spec.specs.Sample.{Shape, samples}
 use Rattle.dst_spec.proofs.Lists.{get_or-zeros}
-use Rattle.level_spec.specs.Picks.{channels_of, refined_alone, sum_of}
+use Rattle.level_spec.specs.Picks.{refined_alone, sum_of}
 use Rattle.frame_predictions.specs.Codes.{code_at}
 use Rattle.filter_analyser.proofs.Joining.{codes_of, codes_of-is, sum_of-push, one_table-is, each-long, each-at}
 use Rattle.filter_analyser.proofs.refined.one_table.Goals as goal

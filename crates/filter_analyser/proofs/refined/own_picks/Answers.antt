@@ -1,12 +1,10 @@
-use Rattle.std.proofs.Common.{◌≡◌, ℕ, ◌+◌, ◌<◌, ◌≤◌, ◌==◌, List, ℤ, true, [], ◌∷◌, ◌++◌, length, map, get_or, take, replicate, ap, sym, ◌∙◌, subst, arith}
-use Rattle.std.proofs.lemmas.List.FromFn.{length-map-range_with_len, get_or-map-range_with_len, map-range_with_len_more}
+use Rattle.std.proofs.Common.{◌≡◌, ℕ, ◌+◌, ◌<◌, ◌==◌, List, ℤ, [], ◌∷◌, ◌++◌, length, map, take, ap, sym, ◌∙◌, subst, arith}
+use Rattle.std.proofs.lemmas.List.FromFn.{length-map-range_with_len, map-range_with_len_more}
 use Rattle.std.specs.List.{range_with_len}
-use Rattle.dst_spec.specs.Sample.{Shape}
 use Rattle.dst_spec.specs.Header.{IsParams}
-use Rattle.dst_num.specs.Map.{params_of}
 use Rattle.level_spec.specs.Counts.{count_from}
 use Rattle.level_spec.specs.Refining.{short_table}
-use Rattle.level_spec.specs.Picks.{channels_of, refined_alone}
+use Rattle.level_spec.specs.Picks.{refined_alone}
 use Rattle.level_spec.proofs.RefinedPicks.{IsParams-refined_own}
 use Rattle.frame_predictions.specs.Codes.{code_at}
 use Rattle.filter_analyser.proofs.Picking.{first_numbers}

@@ -1,8 +1,4 @@
-use Rattle.std.proofs.Common.{◌≡◌, ◌+◌, ◌≤◌, ℕ, List, [], ◌∷◌, length, pos, get_or, ap, sym, ◌∙◌, subst, arith}
-use Rattle.level_spec.specs.Correlation.{correlations}
-use Rattle.level_spec.specs.Recursion.{lag}
-use Rattle.level_spec.specs.Rows.{rows}
-use Rattle.level_spec.specs.Refining.{refined_from}
+use Rattle.std.proofs.Common.{[], ◌∷◌, sym, subst, arith}
 use Rattle.level_spec.specs.Laws.{AreCorrelations}
 use Rattle.level_spec.proofs.Sizes.{are_correlations}
 use Rattle.filter_analyser.proofs.refined.refine_alone.Goals as goal

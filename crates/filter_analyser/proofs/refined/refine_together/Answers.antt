@@ -1,12 +1,12 @@
-use Rattle.std.proofs.Common.{◌≡◌, ◌+◌, ◌-◌, ◌^◌, ◌≤◌, ℕ, ℤ, List, [], ◌∷◌, ◌++◌, length, pos, nat_abs, get_or, replicate, ap, sym, ◌∙◌, subst, arith}
-use Rattle.std.specs.List.{AllByRecursion, range_with_len}
+use Rattle.std.proofs.Common.{◌≡◌, ◌-◌, ◌^◌, ◌≤◌, ℕ, ℤ, List, length, pos, nat_abs, get_or, replicate, ap, sym, ◌∙◌, subst, arith}
+use Rattle.std.specs.List.{range_with_len}
 use Rattle.dst_spec.proofs.Lists.{all_append}
 use Rattle.dst_spec.specs.Sample.{Shape}
 use Rattle.level_spec.specs.Correlation.{correlations}
-use Rattle.level_spec.specs.Recursion.{State, lag}
+use Rattle.level_spec.specs.Recursion.{State}
 use Rattle.level_spec.specs.Rows.{rows, row_after, row_solution}
 use Rattle.level_spec.specs.Fitting.{fitted}
-use Rattle.level_spec.specs.Refining.{Refined, refined_from, first_filter}
+use Rattle.level_spec.specs.Refining.{refined_from, first_filter}
 use Rattle.level_spec.specs.Picks.{channels_of, refined_together}
 use Rattle.level_spec.specs.Laws.{AreCorrelations}
 use Rattle.level_spec.proofs.RowSteps.{IsRow-after}

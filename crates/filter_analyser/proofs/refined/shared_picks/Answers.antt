@@ -1,4 +1,4 @@
-use Rattle.std.proofs.Common.{◌≡◌, ℕ, ◌==◌, List, true, [], ◌∷◌, ◌++◌, length, take, replicate, ap, sym, ◌∙◌, subst, arith}
+use Rattle.std.proofs.Common.{ℕ, ◌==◌, true, [], ◌∷◌, length, take, replicate, ap, sym, ◌∙◌, subst}
 use Rattle.std.specs.List.{range_with_len}
 use Rattle.dst_spec.specs.Header.{IsParams}
 use Rattle.dst_num.specs.Map.{params_of}

@@ -1,7 +1,7 @@
-use Rattle.std.proofs.Common.{◌≡◌, ℕ, ◌+◌, ◌-◌, ◌<◌, ◌≤◌, ℤ, pos, ◌+ℤ◌, List, length, get_or, ap, sym, ◌∙◌, arith}
+use Rattle.std.proofs.Common.{◌≡◌, ℕ, pos, ◌+ℤ◌, List, length, get_or, ap, ◌∙◌}
 use Rattle.dst_spec.specs.Sample.{Shape}
 use Rattle.level_spec.specs.Refining.{weighted_agreement}
-use Rattle.frame_predictions.specs.Codes.{codes, code_at}
+use Rattle.frame_predictions.specs.Codes.{codes}
 use Rattle.frame_predictions.specs.Predicting.{Predicted, nothing}
 use Rattle.filter_analyser.proofs.Pulled.{agreement-by_codes}
 use Rattle.filter_analyser.proofs.refining.add_channel.Goals as goal

@@ -1,6 +1,5 @@
-use Rattle.std.proofs.Common.{◌≡◌, ℕ, ◌+◌, ◌*◌, ◌^◌, ◌<◌, ◌≤◌, ℤ, pos, ◌+ℤ◌, nat_abs, List, length, get_or, refl, ap, sym, ◌∙◌, arith}
+use Rattle.std.proofs.Common.{ℕ, ◌+◌, ◌+ℤ◌, nat_abs, List, length, get_or, refl, ap, sym, ◌∙◌, arith}
 use Rattle.std.specs.List.{range_with_len}
-use Rattle.dst_spec.specs.Sample.{Shape}
 use Rattle.level_spec.specs.Refining.{weighted_agreement, gradient}
 use Rattle.frame_predictions.specs.Codes.{code_at}
 use Rattle.filter_refiner.proofs.Numbers.{zeros-at}

@@ -1,12 +1,10 @@
-use Rattle.std.proofs.Common.{◌≡◌, ◌≢◌, ℕ, ◌+◌, ◌*◌, ◌^◌, ◌<◌, ◌≤◌, ℤ, pos, ◌*ℤ◌, ◌<ℤ◌, int_le, nat_abs, true, false, to_z, of_z, List, length, map, get_or, Option, Some, None, take, refl, ap, sym, ◌∙◌, subst, arith}
+use Rattle.std.proofs.Common.{◌≡◌, ℕ, ◌^◌, ◌≤◌, ℤ, pos, ◌*ℤ◌, int_le, nat_abs, false, to_z, of_z, length, get_or, Some, None, take, refl, ap, sym, ◌∙◌, arith}
 use mir.Syntax.{w64}
-use Rattle.std.proofs.lemmas.Int.{ints}
 use Rattle.std.proofs.lemmas.List.FromFn.{length-range_with_len}
 use Rattle.std.specs.List.{range_with_len}
 use Rattle.level_spec.specs.Correlation.{correlations}
-use Rattle.level_spec.specs.Recursion.{lag}
 use Rattle.level_spec.specs.Fitting.{fitted}
-use Rattle.level_spec.specs.Refining.{gradient, weight, moved_by, next_filter, pull, target}
+use Rattle.level_spec.specs.Refining.{gradient, weight}
 use Rattle.level_spec.specs.Counts.{total, wrong, place, is_wrong}
 use Rattle.level_spec.proofs.Sizes.{are_correlations}
 use Rattle.frame_predictions.specs.Codes.{code_at}

@@ -1,4 +1,4 @@
-use Rattle.std.proofs.Common.{◌≡◌, ℕ, ◌+◌, ◌-◌, ◌*◌, ◌<◌, ◌≤◌, ◌==◌, nat_lt, cond, ℤ, pos, nat_abs, ◌^◌, to_z, of_z, List, length, get_or, Option, Some, None, refl, ap, sym, ◌∙◌, subst, arith}
+use Rattle.std.proofs.Common.{◌≡◌, ℕ, ◌+◌, ◌-◌, ◌<◌, ◌≤◌, ◌==◌, nat_lt, cond, ℤ, nat_abs, ◌^◌, List, length, get_or, Some, None, ap, sym, ◌∙◌, arith}
 use Rattle.std.proofs.lemmas.List.FromFn.{length-range_with_len}
 use Rattle.std.specs.List.{range_with_len}
 use Rattle.level_spec.specs.Correlation.{correlations}
@@ -10,8 +10,6 @@ use Rattle.frame_predictions.specs.Codes.{code_at}
 use Rattle.filter_analyser.proofs.Stepped.{size-is, refine-none, refine-some, refine-zero, pick-best}
 use Rattle.filter_analyser.proofs.Shares.{lags-most, same_64}
 use Rattle.level_spec.proofs.Sizes.{are_correlations}
-use mir.Syntax.{w64}
-use Rattle.filter_analyser.proofs.Differing.{test-true, test-false}
 use Rattle.filter_analyser.proofs.refining.refine.Goals as goal
 use Rattle.filter_analyser.proofs.refining.refine.Goals.{then-size-least, else-size-least, else-loop-step-test, then-loop-step-test+in_default}
 

@@ -1,4 +1,4 @@
-use Rattle.std.proofs.Common.{◌≡◌, ℕ, ◌+◌, ◌-◌, ◌*◌, ◌<◌, ◌≤◌, ◌==◌, length, get_or}
+use Rattle.std.proofs.Common.{◌≡◌, ℕ, ◌-◌, ◌*◌, ◌<◌, ◌≤◌, ◌==◌, length, get_or}
 use Rattle.std.specs.List.{range_with_len}
 use Rattle.level_spec.specs.Counts.{count_from}
 use Rattle.level_spec.specs.Refining.{Refined, next_filter, filter_size, refine}

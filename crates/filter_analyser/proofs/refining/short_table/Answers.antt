@@ -1,4 +1,4 @@
-use Rattle.std.proofs.Common.{◌≡◌, ◌≤◌, ◌+◌, ℕ, length, get_or, ap, arith}
+use Rattle.std.proofs.Common.{◌+◌, length, get_or, ap, arith}
 use Rattle.level_spec.proofs.Refined.{length-table_of}
 use Rattle.filter_analyser.proofs.refining.short_table.Goals as goal
 

@@ -1,7 +1,7 @@
-use Rattle.std.proofs.Common.{◌≡◌, ◌+◌, ◌^◌, ◌<◌, ◌≤◌, ℤ, pos, ◌≤ℤ◌, nat_abs, nat_lt, int_lt, ◌||◌, to_z, of_z, List, length, get_or, take, length-take, cond, ap, sym, ◌∙◌, subst, arith}
+use Rattle.std.proofs.Common.{◌≡◌, ◌+◌, ◌^◌, ◌<◌, ◌≤◌, ℤ, pos, nat_abs, nat_lt, int_lt, ◌||◌, to_z, of_z, List, length, get_or, take, length-take, cond, ap, sym, ◌∙◌, subst, arith}
 use mir.Syntax.{w64, w128}
 use Rattle.std.proofs.lemmas.Int.{ints}
-use Rattle.std.specs.List.{list_any, AllByRecursion}
+use Rattle.std.specs.List.{list_any}
 use Rattle.level_spec.specs.Recursion.{State, lag, reflection, moved, fallen}
 use Rattle.level_spec.specs.Rows.{next_row}
 use Rattle.filter_analyser.proofs.Shares.{lags-most}
