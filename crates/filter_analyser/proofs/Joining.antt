@@ -79,7 +79,8 @@ one_table-is f sound filters counts h =
 pub each-long : (f : Shape) (sound : List ℕ) (filters : List (List ℤ)) → filters ≡ map (refined_alone f sound) (channels_of f) → length filters ≡ f.channels
 each-long f sound filters e = ap length e ∙ length-map-range_with_len (refined_alone f sound) 0 f.channels
 
-pub each-at : (f : Shape) (sound : List ℕ) (filters : List (List ℤ)) (c : ℕ) (d : List ℤ) → filters ≡ map (refined_alone f sound) (channels_of f) → c < f.channels →
+pub each-at : (f : Shape) (sound : List ℕ) (filters : List (List ℤ)) (c : ℕ) (d : List ℤ) → filters ≡ map (refined_alone f sound) (channels_of f)
+    → c < f.channels →
     get_or filters c d ≡ refined_alone f sound c
 each-at f sound filters c d e h =
     ap (λ xs. get_or xs c d) e ∙ get_or-map-range_with_len (refined_alone f sound) 0 f.channels c c d h (omega arith)

@@ -31,7 +31,8 @@ agreement-same f sound V W first c j h =
 
 -- the codes of a row
 pub agreement-by_codes : (f : Shape) (sound row weights : List ℕ) (coefs : List ℤ) (first c j : ℕ) → row ≡ codes f sound c coefs →
-    weighted_agreement f sound (λ c t. get_or weights (get_or row t 0) 0) first c j ≡ weighted_agreement f sound (λ c t. get_or weights (code_at f sound c coefs t) 0) first c j
+    weighted_agreement f sound (λ c t. get_or weights (get_or row t 0) 0) first c j
+    ≡ weighted_agreement f sound (λ c t. get_or weights (code_at f sound c coefs t) 0) first c j
 unfolding codes
 agreement-by_codes f sound row weights coefs first c j e =
     agreement-same f sound (λ c t. get_or weights (get_or row t 0) 0) (λ c t. get_or weights (code_at f sound c coefs t) 0) first c j (λ t h.

@@ -1,4 +1,5 @@
-use Rattle.std.proofs.Common.{◌≡◌, ℕ, ◌+◌, ◌-◌, ◌^◌, ◌<◌, ◌≤◌, min, ℤ, pos, nat_abs, suc, to_z, of_z, List, [], ◌∷◌, ◌++◌, length, map, take, get_or, refl, ap, sym, ◌∙◌, subst, arith}
+use Rattle.std.proofs.Common.{◌≡◌, ℕ, ◌+◌, ◌-◌, ◌^◌, ◌<◌, ◌≤◌, min, ℤ, pos, nat_abs, suc, to_z, of_z, List, [], ◌∷◌, ◌++◌, length, map, take, get_or, refl, ap}
+use Rattle.std.proofs.Common.{sym, ◌∙◌, subst, arith}
 use mir.Syntax.{w64}
 use Rattle.std.proofs.lemmas.Int.{ints}
 use Rattle.std.proofs.lemmas.List.FromFn.{length-map-range_with_len, map-range_with_len_more}
@@ -18,7 +19,8 @@ loop-step-init c = record { rows = c.new-rows.ensures; run = c.begin_with_ridge-
 pub push-requires-clause-long : goal.push-requires-clause-long
 push-requires-clause-long c =
     let n = c.loop-step._step in
-    let seen : length (take c.run.inside.steps c.run.inside.values) ≡ n = ap (λ s. length s.values) (c.run.view_is ∙ c.loop-step.invariant.run) ∙ c.loop-step.invariant.long in
+    let seen : length (take c.run.inside.steps c.run.inside.values) ≡ n = ap (λ s. length s.values) (c.run.view_is ∙ c.loop-step.invariant.run)
+    ∙ c.loop-step.invariant.long in
     seen ∙ sym (ap length c.loop-step.invariant.rows ∙ length-map-range_with_len (row_after c.args.lags.now) 0 n)
 
 pub push-requires-clause-room : goal.push-requires-clause-room
@@ -30,11 +32,13 @@ pub push-requires-clause-small : goal.push-requires-clause-small
 push-requires-clause-small c = λ j.
     let n = c.loop-step._step in
     let row = IsRow-after c.args.lags.now n c.requires.least in
-    let is : take c.run.inside.steps c.run.inside.values ≡ (row_after c.args.lags.now n).values = ap (λ s. s.values) (c.run.view_is ∙ c.loop-step.invariant.run) in
+    let is : take c.run.inside.steps c.run.inside.values ≡ (row_after c.args.lags.now n).values =
+    ap (λ s. s.values) (c.run.view_is ∙ c.loop-step.invariant.run) in
     subst (λ v. nat_abs (get_or v j (pos 0)) ≤ 2 ^ 32) (sym is) (each-most (row_after c.args.lags.now n).values (2 ^ 32) j row.values)
 
 -- the rows with one more
-pub more : (lags : List ℤ) (n : ℕ) (kept : List State) (error : ℤ) (s : State) → kept ≡ map (row_after lags) (range_with_len 0 n) → s ≡ row_after lags n → error ≡ s.error →
+pub more : (lags : List ℤ) (n : ℕ) (kept : List State) (error : ℤ) (s : State) → kept ≡ map (row_after lags) (range_with_len 0 n) → s ≡ row_after lags n
+    → error ≡ s.error →
     kept ++ record { error = error; values = s.values } ∷ [] ≡ map (row_after lags) (range_with_len 0 (n + 1))
 more lags n kept error s a b e =
     ap (λ r. r ++ record { error = error; values = s.values } ∷ []) a
@@ -75,7 +79,8 @@ returns c =
           let all : c.loop-step._step ≡ 128 = omega (arith, w.loop-step-test.false) in
           let end : c.loop-step.run ≡ row_after lags 128 = c.loop-step.invariant.run ∙ ap (row_after lags) all in
           let long : length (row_after lags 128).values ≡ 128 = ap (λ n. length (row_after lags n).values) (sym all) ∙ c.loop-step.invariant.long ∙ all in
-          let done = finish lags c.loop-step._step c.loop-step-test.rows c.loop-step-test.run (w.rows-is ∙ c.loop-step.invariant.rows) (w.run-is ∙ end) (omega arith) in
+          let done = finish lags c.loop-step._step c.loop-step-test.rows c.loop-step-test.run (w.rows-is ∙ c.loop-step.invariant.rows) (w.run-is ∙ end)
+          (omega arith) in
           record { rows = done.0; solution = c.padded.ensures ∙ done.1 }
       | then-loop-step-test+then-not-row_step w ↦
           let n = c.loop-step._step in
@@ -83,7 +88,8 @@ returns c =
           let is : inner ≡ row_after lags n = w.run.view_is ∙ c.loop-step.invariant.run in
           let held : to_z w64 (of_z w64 w.run.inside.error) ≡ w.run.inside.error = omega (arith, ints, w.run.invariant.1.most, w.run.invariant.1.positive) in
           let stays : w.row_step.new.self ≡ c.loop-step.run = w.row_step.ensures.stop w.if-not-row_step.true in
-          let stop : next_row lags (row_after lags n) ≡ row_after lags n = ap (next_row lags) (sym c.loop-step.invariant.run) ∙ sym w.row_step.ensures.state ∙ stays
+          let stop : next_row lags (row_after lags n) ≡ row_after lags n = ap (next_row lags) (sym c.loop-step.invariant.run) ∙ sym w.row_step.ensures.state
+          ∙ stays
           ∙ c.loop-step.invariant.run in
           let less : n < 128 = omega (arith, w.loop-step-test.true) in
           let whole : n + (128 - n) ≡ 128 = omega arith in

@@ -21,7 +21,8 @@ parameters-requires c =
     let zeros = take {A = ℕ} f.channels (0 ∷ 0 ∷ 0 ∷ 0 ∷ 0 ∷ 0 ∷ []) in
     let probs = alone c.new-probs.result.items c.push.new.self.items c.one_table.result c.push.ensures.items c.new-probs.ensures in
     let is = ap (params_of elements zeros (replicate f.channels true) c.copies.result.items) probs
-    ∙ refined_joint-is f sound elements zeros c.copies.result.items c.one_table.result (first_numbers f.channels shape.most) (zero_numbers f.channels shape.most)
+    ∙ refined_joint-is f sound elements zeros c.copies.result.items c.one_table.result (first_numbers f.channels shape.most)
+    (zero_numbers f.channels shape.most)
     (c.copies.ensures ∙ c.requires.own) c.one_table.ensures.table in
     record { lawful = subst (IsParams f.channels) (sym is) (IsParams-refined_own_with_one_table f sound shape.least) }
 
@@ -34,5 +35,6 @@ returns-clause-params c =
     let zeros = take {A = ℕ} f.channels (0 ∷ 0 ∷ 0 ∷ 0 ∷ 0 ∷ 0 ∷ []) in
     let probs = alone c.new-probs.result.items c.push.new.self.items c.one_table.result c.push.ensures.items c.new-probs.ensures in
     c.parameters.ensures ∙ ap (params_of elements zeros (replicate f.channels true) c.copies.result.items) probs
-    ∙ refined_joint-is f sound elements zeros c.copies.result.items c.one_table.result (first_numbers f.channels shape.most) (zero_numbers f.channels shape.most)
+    ∙ refined_joint-is f sound elements zeros c.copies.result.items c.one_table.result (first_numbers f.channels shape.most)
+    (zero_numbers f.channels shape.most)
     (c.copies.ensures ∙ c.requires.own) c.one_table.ensures.table

@@ -34,13 +34,15 @@ loop-c-preserved c =
     record {
       long = c.count_row.ensures.long;
       counts = λ q h.
-          let in_row : Shape → List ℕ → List ℤ → ℕ = λ g s coefs. count_by (λ t. code_at g s n coefs t == q) (range_with_len (length coefs) (samples g - length coefs)) in
+          let in_row : Shape → List ℕ → List ℤ → ℕ =
+          λ g s coefs. count_by (λ t. code_at g s n coefs t == q) (range_with_len (length coefs) (samples g - length coefs)) in
           let filter : List ℤ = c.index-own-c.result in
           c.count_row.ensures.counts q h
           ∙ ap (λ k. k + in_row c.loop-c.predictions.channels c.loop-c.predictions.sound filter) (c.loop-c.invariant.counts q h)
           ∙ ap (λ g. sum_of of (range_with_len 0 n) q + in_row g c.loop-c.predictions.sound filter) c.loop-c.invariant.channels
           ∙ ap (λ s. sum_of of (range_with_len 0 n) q + in_row f s filter) c.loop-c.invariant.sound
-          ∙ ap (λ coefs. sum_of of (range_with_len 0 n) q + in_row f sound coefs) (c.index-own-c.is ∙ each-at f sound c.args.own.now n filter c.requires.own inside)
+          ∙ ap (λ coefs. sum_of of (range_with_len 0 n) q + in_row f sound coefs)
+          (c.index-own-c.is ∙ each-at f sound c.args.own.now n filter c.requires.own inside)
           ∙ ap (λ k. sum_of of (range_with_len 0 n) q + k) (sym (codes_of-is f sound F n q))
           ∙ sym (sum_of-push of 0 n q ∙ ap (λ c. sum_of of (range_with_len 0 n) q + of c q) z);
       most = λ q. omega (arith, c.count_row.ensures.most q, c.loop-c.invariant.most q);

@@ -5,4 +5,5 @@ use Rattle.filter_analyser.proofs.refined.refine_alone.Goals as goal
 
 pub keep_rows-kept-requires : goal.keep_rows-kept-requires
 keep_rows-kept-requires c =
-    subst AreCorrelations (sym c.correlate.ensures) (are_correlations c.args.channels c.args.sound.now (c.args.c ∷ []) c.requires.shape (omega arith) (omega arith))
+    subst AreCorrelations (sym c.correlate.ensures)
+    (are_correlations c.args.channels c.args.sound.now (c.args.c ∷ []) c.requires.shape (omega arith) (omega arith))

@@ -29,7 +29,8 @@ small lags k h =
 pub fit-first-requires : goal.fit-first-requires
 fit-first-requires c = λ j.
     let few = small c.solve_channels.new.joint j c.solve_channels.ensures.lawful in
-    let is : nat_abs (get_or c.keep_rows-kept.result.1 j (pos 0)) ≤ 2 ^ 32 = subst (λ x. nat_abs (get_or x j (pos 0)) ≤ 2 ^ 32) (sym c.keep_rows-kept.ensures.solution) few in
+    let is : nat_abs (get_or c.keep_rows-kept.result.1 j (pos 0)) ≤ 2 ^ 32 =
+    subst (λ x. nat_abs (get_or x j (pos 0)) ≤ 2 ^ 32) (sym c.keep_rows-kept.ensures.solution) few in
     omega arith
 
 pub refine-requires-clause-rows : goal.refine-requires-clause-rows
@@ -43,7 +44,8 @@ refine-requires-clause-rows c =
 first : (f : Shape) (sound : List ℕ) (lags values filter : List ℤ) (kept : List State) → lags ≡ correlations f sound (channels_of f) → kept ≡ rows lags 128 →
     values ≡ row_solution lags 128 → filter ≡ fitted kept values → filter ≡ first_filter f sound (channels_of f)
 unfolding first_filter
-first f sound lags values filter kept a b v e = e ∙ ap (λ k. fitted k values) b ∙ ap (fitted (rows lags 128)) v ∙ ap (λ l. fitted (rows l 128) (row_solution l 128)) a
+first f sound lags values filter kept a b v e = e ∙ ap (λ k. fitted k values) b ∙ ap (fitted (rows lags 128)) v
+    ∙ ap (λ l. fitted (rows l 128) (row_solution l 128)) a
 
 -- what is refined from it
 together : (f : Shape) (sound heard : List ℕ) (n : ℕ) (filter : List ℤ) → heard ≡ sound → n ≡ f.channels → filter ≡ first_filter f sound (channels_of f) →
@@ -59,7 +61,8 @@ returns-clause-best c =
     let sound = c.args.sound.now in
     let filter = first f sound c.solve_channels.new.joint c.keep_rows-kept.result.1 c.fit-first.result c.keep_rows-kept.result.0 c.solve_channels.ensures.joint
     c.keep_rows-kept.ensures.rows c.keep_rows-kept.ensures.solution c.fit-first.ensures in
-    c.refine.ensures.best ∙ ap (λ r. r.best) (together f sound c.args.predictions.now.sound c.count.result c.fit-first.result c.requires.begun c.count.ensures.count filter)
+    c.refine.ensures.best
+    ∙ ap (λ r. r.best) (together f sound c.args.predictions.now.sound c.count.result c.fit-first.result c.requires.begun c.count.ensures.count filter)
 
 pub returns-clause-last : goal.returns-clause-last
 returns-clause-last c =
@@ -67,4 +70,5 @@ returns-clause-last c =
     let sound = c.args.sound.now in
     let filter = first f sound c.solve_channels.new.joint c.keep_rows-kept.result.1 c.fit-first.result c.keep_rows-kept.result.0 c.solve_channels.ensures.joint
     c.keep_rows-kept.ensures.rows c.keep_rows-kept.ensures.solution c.fit-first.ensures in
-    c.refine.ensures.last ∙ ap (λ r. r.last) (together f sound c.args.predictions.now.sound c.count.result c.fit-first.result c.requires.begun c.count.ensures.count filter)
+    c.refine.ensures.last
+    ∙ ap (λ r. r.last) (together f sound c.args.predictions.now.sound c.count.result c.fit-first.result c.requires.begun c.count.ensures.count filter)

@@ -17,7 +17,8 @@ returns-clause-gradient c = λ j h.
     let old = get_or c.args.gradient.now j (pos 0) in
     let of : Shape → List ℕ → Predicted → List ℕ = λ f sound p. codes f sound p.channel p.filter in
     let is : row ≡ codes f sound ch coefs =
-    c.codes-codes.ensures.codes ∙ ap (λ f. of f c.row-row.new.self.sound (get_or c.row-row.new.self.rows c.row-row.result nothing)) (c.row-row.ensures.channels ∙ c.requires.channels)
+    c.codes-codes.ensures.codes ∙ ap (λ f. of f c.row-row.new.self.sound (get_or c.row-row.new.self.rows c.row-row.result nothing))
+    (c.row-row.ensures.channels ∙ c.requires.channels)
     ∙ ap (λ s. of f s (get_or c.row-row.new.self.rows c.row-row.result nothing)) c.row-row.ensures.sound ∙ ap (of f sound) (c.row-row.ensures.is nothing) in
     let heard : c.sound.result.now ≡ sound = c.sound.ensures.sound ∙ c.row-row.ensures.sound in
     let V : ℕ → ℕ → ℕ = λ c t. get_or weights (get_or row t 0) 0 in

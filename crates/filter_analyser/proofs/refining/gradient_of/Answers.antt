@@ -30,8 +30,10 @@ loop-c-preserved c =
     record {
       gradient = λ j h.
           c.add_channel.ensures.gradient j h
-          ∙ ap (λ z. z +ℤ weighted_agreement f c.loop-c.predictions.sound (W c.loop-c.predictions.sound) (length coefs) (a + n) j) (c.loop-c.invariant.gradient j h)
-          ∙ ap (λ s. gradient f sound (W sound) (length coefs) (range_with_len a n) j +ℤ weighted_agreement f s (W s) (length coefs) (a + n) j) c.loop-c.invariant.sound
+          ∙ ap (λ z. z +ℤ weighted_agreement f c.loop-c.predictions.sound (W c.loop-c.predictions.sound) (length coefs) (a + n) j)
+          (c.loop-c.invariant.gradient j h)
+          ∙ ap (λ s. gradient f sound (W sound) (length coefs) (range_with_len a n) j +ℤ weighted_agreement f s (W s) (length coefs)
+          (a + n) j) c.loop-c.invariant.sound
           ∙ sym (gradient-push f sound (W sound) (length coefs) a n j);
       small = λ j. omega (arith, c.add_channel.ensures.most j, c.loop-c.invariant.small j);
       sound = c.add_channel.ensures.sound ∙ c.loop-c.invariant.sound;

@@ -20,7 +20,8 @@ returns-then-agree_little-clause-none c =
     let members = range_with_len c.args.members.first c.args.members.count in
     let coefs = c.args.filter.now in
     let sums = c.sums_of-sums.result in
-    let G : ℕ → ℤ = gradient f sound (λ c t. weight (total f sound members coefs) (wrong f sound members coefs) (place f sound c coefs t) (is_wrong f sound c coefs t)) (length coefs) members in
+    let G : ℕ → ℤ = gradient f sound (λ c t. weight (total f sound members coefs) (wrong f sound members coefs) (place f sound c coefs t)
+    (is_wrong f sound c coefs t)) (length coefs) members in
     sym (moved-is f sound members coefs c.args.r0 sums.agreement sums.power c.args.rows.now G c.requires.r0 c.requires.rows
     (c.sums_of-sums.ensures.agreement ∙ agreement-is f sound members coefs c.args.counts.now c.requires.counts)
     (c.sums_of-sums.ensures.power ∙ power-is f sound members coefs c.args.counts.now c.requires.counts) (λ j h. refl))
@@ -98,5 +99,6 @@ returns-in-Some-clause-some c =
     let test : int_le (sums.agreement *ℤ pos (2 ^ 13)) sums.power ≡ false = sym c.agree_little.ensures ∙ c.if-agree_little.false in
     let n = length c.args.rows.now in
     let moves = c.in-Some.moves in
-    sym is ∙ moved-solved r c.args.rows.now sums.agreement sums.power g coefs c.pulls.result (Some (take n moves)) test c.pulls.ensures.pulls c.in-Some.ensures.some
+    sym is ∙ moved-solved r c.args.rows.now sums.agreement sums.power g coefs c.pulls.result
+    (Some (take n moves)) test c.pulls.ensures.pulls c.in-Some.ensures.some
     ∙ ap (λ t. Some (fitted c.args.rows.now t)) (target-cut coefs moves n c.in-Some.ensures.rest ∙ sym c.target.ensures.target) ∙ ap Some (sym c.fit.ensures)

@@ -31,7 +31,8 @@ loop-step-init c =
           ∙ ap (λ l. refine next sizes c.args.steps (pair c.args.first.now l)) c.copy-last.ensures;
       counts = λ q h. c.count_members-counts.ensures.counts q h ∙ ap (λ l. Count sound l q) (sym c.copy-last.ensures);
       most = c.count_members-counts.ensures.most;
-      least = c.size_of-least.ensures ∙ size-is f sound members c.args.first.now c.count_members-counts.result c.args.members.count c.count_members-counts.ensures.counts long
+      least = c.size_of-least.ensures
+          ∙ size-is f sound members c.args.first.now c.count_members-counts.result c.args.members.count c.count_members-counts.ensures.counts long
           ∙ ap sizes (sym c.copy-best.ensures);
       sound = c.count_members-counts.ensures.sound;
       channels = c.count_members-counts.ensures.channels ∙ c.requires.channels;
@@ -100,26 +101,32 @@ loop-step-preserved c =
     let q = c.in-Some.next in
     let n = c.loop-step._step in
     let heard : c.next_filter.new.predictions.sound ≡ sound = c.next_filter.ensures.sound ∙ c.loop-step.invariant.sound in
-    let before : refine next sizes (c.args.steps - n) (pair c.loop-step.best c.loop-step.last) ≡ refine next sizes c.args.steps start = c.loop-step.invariant.whole in
+    let before : refine next sizes (c.args.steps - n) (pair c.loop-step.best c.loop-step.last) ≡ refine next sizes c.args.steps start =
+    c.loop-step.invariant.whole in
     let taken : next c.loop-step.last ≡ Some q =
     ap (λ s. next_filter f s members c.loop-step.last) (sym c.loop-step.invariant.sound) ∙ c.in-Some.ensures.some in
     let one : c.args.steps - n ≡ c.args.steps - (n + 1) + 1 = omega (arith, c.loop-step-test.true) in
-    let moved : refine next sizes (c.args.steps - (n + 1)) (pair (cond (nat_lt (sizes q) (sizes c.loop-step.best)) q c.loop-step.best) q) ≡ refine next sizes c.args.steps start =
+    let moved : refine next sizes (c.args.steps - (n + 1)) (pair (cond (nat_lt (sizes q) (sizes c.loop-step.best)) q c.loop-step.best) q)
+    ≡ refine next sizes c.args.steps start =
     sym (refine-some next sizes (c.args.steps - n) (c.args.steps - (n + 1)) (pair c.loop-step.best c.loop-step.last) q one taken) ∙ before in
     let counted : (p : ℕ) → p < 128 → get_or c.count_members-counts-in-loop-step.result p 0 ≡ Count sound q p = λ p h.
     c.count_members-counts-in-loop-step.ensures.counts p h ∙ ap (λ s. Count s q p) heard in
     let size : c.size_of-size.result ≡ sizes q = c.size_of-size.ensures
     ∙ size-is f sound members q c.count_members-counts-in-loop-step.result c.args.members.count counted long in
     let chosen = pick-best next sizes (c.args.steps - (n + 1)) q c.loop-step.best (refine next sizes c.args.steps start) moved in
-    let parts : (refine next sizes (c.args.steps - (n + 1)) (pair c.if-size-least.best q) ≡ refine next sizes c.args.steps start) × (c.if-size-least.least ≡ sizes c.if-size-least.best) =
+    let parts : (refine next sizes (c.args.steps - (n + 1)) (pair c.if-size-least.best q) ≡ refine next sizes c.args.steps start) ×
+    (c.if-size-least.least ≡ sizes c.if-size-least.best) =
     elim c.if-size-least.branch [
       | then-size-least w ↦
           let is : c.if-size-least.best ≡ q = w.best-is ∙ w.copy-best-then-size-least.ensures in
           let less : sizes q < sizes c.loop-step.best = omega (arith, w.if-size-least.true, size, c.loop-step.invariant.least) in
           (ap (λ b. refine next sizes (c.args.steps - (n + 1)) (pair b q)) is ∙ chosen.0 less, w.least-is ∙ size ∙ ap sizes (sym is))
       | else-size-least w ↦
-          let more : sizes c.loop-step.best ≤ sizes q = omega (arith, w.if-size-least.false, size, c.loop-step.invariant.least) in
-          (ap (λ b. refine next sizes (c.args.steps - (n + 1)) (pair b q)) w.best-is ∙ chosen.1 more, w.least-is ∙ c.loop-step.invariant.least ∙ ap sizes (sym w.best-is))
+          let more : sizes c.loop-step.best ≤ sizes q = omega (arith, w.if-size-least.false, size, c.loop-step.invariant.least) in (
+            ap (λ b. refine next sizes (c.args.steps - (n + 1)) (pair b q)) w.best-is ∙ chosen.1 more,
+            w.least-is ∙ c.loop-step.invariant.least
+                ∙ ap sizes (sym w.best-is),
+          )
     ] in
     record {
       whole = parts.0;

@@ -9,9 +9,11 @@ abbrev pub invariant-loop-step : goal.invariant-loop-step
 invariant-loop-step l = record {
   whole : ◌≡◌ {A = Refined}
       (refine (next_filter l.fn.channels l.fn.predictions.sound (range_with_len l.fn.members.first l.fn.members.count))
-      (filter_size l.fn.channels l.fn.predictions.sound (range_with_len l.fn.members.first l.fn.members.count)) (l.steps - l._step) (record { best = l.best; last = l.last }))
+      (filter_size l.fn.channels l.fn.predictions.sound (range_with_len l.fn.members.first l.fn.members.count)) (l.steps - l._step)
+      (record { best = l.best; last = l.last }))
       (refine (next_filter l.fn.channels l.fn.predictions.sound (range_with_len l.fn.members.first l.fn.members.count))
-      (filter_size l.fn.channels l.fn.predictions.sound (range_with_len l.fn.members.first l.fn.members.count)) l.steps (record { best = l.first; last = l.first }));
+      (filter_size l.fn.channels l.fn.predictions.sound (range_with_len l.fn.members.first l.fn.members.count)) l.steps
+      (record { best = l.first; last = l.first }));
   counts : (q : ℕ) → q < 128 → get_or l.counts q 0 ≡ count_from (length l.last) l.fn.channels
       (λ c t. code_at l.fn.channels l.fn.predictions.sound c l.last t == q) (range_with_len l.fn.members.first l.fn.members.count);
   most : (q : ℕ) → get_or l.counts q 0 ≤ 6 * 150528;

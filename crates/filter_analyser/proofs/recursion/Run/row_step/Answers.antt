@@ -1,4 +1,5 @@
-use Rattle.std.proofs.Common.{◌≡◌, ◌+◌, ◌^◌, ◌<◌, ◌≤◌, ℤ, pos, nat_abs, nat_lt, int_lt, ◌||◌, to_z, of_z, List, length, get_or, take, length-take, cond, ap, sym, ◌∙◌, subst, arith}
+use Rattle.std.proofs.Common.{◌≡◌, ◌+◌, ◌^◌, ◌<◌, ◌≤◌, ℤ, pos, nat_abs, nat_lt, int_lt, ◌||◌, to_z, of_z, List, length, get_or, take, length-take, cond, ap}
+use Rattle.std.proofs.Common.{sym, ◌∙◌, subst, arith}
 use mir.Syntax.{w64, w128}
 use Rattle.std.proofs.lemmas.Int.{ints}
 use Rattle.std.specs.List.{list_any}
@@ -61,7 +62,8 @@ returns-then-is_past-clause-state c =
     let kept : to_z w64 (of_z w64 r) ≡ r = omega (arith, ints) in
     let test : c.is_past.result ≡ (int_lt (fallen error F) (lag lags 0) || list_any (λ b. nat_lt (2 ^ 32) (nat_abs b)) (moved values F n)) =
     c.is_past.ensures
-    ∙ ap (λ e. int_lt e (to_z w64 (of_z w64 r)) || list_any (λ b. nat_lt (2 ^ 32) (nat_abs b)) (take (c.self.inside.steps + 1) c.moved-next.result)) (back ∙ fell)
+    ∙ ap (λ e. int_lt e (to_z w64 (of_z w64 r)) || list_any (λ b. nat_lt (2 ^ 32) (nat_abs b)) (take (c.self.inside.steps + 1) c.moved-next.result))
+    (back ∙ fell)
     ∙ ap (λ z. int_lt (fallen error F) z || list_any (λ b. nat_lt (2 ^ 32) (nat_abs b)) (take (c.self.inside.steps + 1) c.moved-next.result)) kept
     ∙ ap (λ v. int_lt (fallen error F) r || list_any (λ b. nat_lt (2 ^ 32) (nat_abs b)) v) next in
     let stop = row-step-by_test lags s F c.is_past.result is small test in
@@ -119,7 +121,8 @@ returns-clause-state c =
     let kept : to_z w64 (of_z w64 r) ≡ r = omega (arith, ints) in
     let test : c.is_past.result ≡ (int_lt (fallen error F) (lag lags 0) || list_any (λ b. nat_lt (2 ^ 32) (nat_abs b)) (moved values F n)) =
     c.is_past.ensures
-    ∙ ap (λ e. int_lt e (to_z w64 (of_z w64 r)) || list_any (λ b. nat_lt (2 ^ 32) (nat_abs b)) (take (c.self.inside.steps + 1) c.moved-next.result)) (back ∙ fell)
+    ∙ ap (λ e. int_lt e (to_z w64 (of_z w64 r)) || list_any (λ b. nat_lt (2 ^ 32) (nat_abs b)) (take (c.self.inside.steps + 1) c.moved-next.result))
+    (back ∙ fell)
     ∙ ap (λ z. int_lt (fallen error F) z || list_any (λ b. nat_lt (2 ^ 32) (nat_abs b)) (take (c.self.inside.steps + 1) c.moved-next.result)) kept
     ∙ ap (λ v. int_lt (fallen error F) r || list_any (λ b. nat_lt (2 ^ 32) (nat_abs b)) v) next in
     let stop = row-step-by_test lags s F c.is_past.result is small test in
