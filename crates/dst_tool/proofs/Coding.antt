@@ -24,7 +24,7 @@ coded_outcome level file frames bytes accepts f b =
     (inr (tt, ap (λ n. done out (coded_line n bytes ∷ [])) f ∙ ap (λ n. done out (coded_line (accepted file).frames n ∷ [])) b))
 
 -- what holds of what is told, of each answer
-abbrev OfTold : Option (List ℕ) → (List ℕ → Type 0) → Type 0
+abbrev pub OfTold : Option (List ℕ) → (List ℕ → Type 0) → Type 0
 OfTold bytes P = (file : List ℕ) → bytes ≡ Some file → P file
 
 pub encoded_whole : (d : Result Encoded EncodeFault) (level picker : ℕ) (file : List ℕ) (bytes old new : Option (List ℕ)) → picker ≡ level → bytes ≡ Some file →

@@ -106,7 +106,7 @@ pub(crate) fn run_command<E: Threads + Sync, S: Source, K: Sink, R: Sink>(
 
 // The picker of a level that there is.
 fn picker_of(level: u32) -> LevelPicker
-    requires { level ≤ 2 }
+    requires { level ≤ 3 }
     ensures { result ≡ level }
 {
     let Some(picker) = LevelPicker::new(level) else {

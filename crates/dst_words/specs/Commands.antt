@@ -34,11 +34,11 @@ HasFewWorkers t = (1 ≤ t.workers) × (t.workers ≤ 16)
 -- Numbers that the command allows: a level that there is, frames of which the first isn't behind the last, and no more made frames than
 -- are made, or made in memory.
 abbrev pub NumbersAreLawful : Command → Type 0
-NumbersAreLawful (Encode level) = level ≤ 2
+NumbersAreLawful (Encode level) = level ≤ 3
 NumbersAreLawful (Cut first last) = first ≤ last
 NumbersAreLawful (Make start frames channels) = frames ≤ 1000
 NumbersAreLawful (MakeRun start frames channels) = frames ≤ 100
-NumbersAreLawful (EncodeDsf level) = level ≤ 2
+NumbersAreLawful (EncodeDsf level) = level ≤ 3
 NumbersAreLawful c = ⊤
 
 abbrev pub HasLawfulNumbers : Task → Type 0

@@ -102,13 +102,13 @@ fn workers_value(word: &String) -> Option<u32>
     }
 }
 
-// A level, 0 to 2.
+// A level, 0 to 3.
 fn level_value(word: &String) -> Option<u32>
     ensures level { result ≡ allowed_value level (string_bytes word.now) }
-    ensures most { IfSome result (λ n. n ≤ 2) }
+    ensures most { IfSome result (λ n. n ≤ 3) }
 {
     let level = read_number(word)?;
-    if level <= 2 { Some(level) } else { None }
+    if level <= 3 { Some(level) } else { None }
 }
 
 // A rate, 64, 128 or 256 times 44.1 kHz.
@@ -163,7 +163,7 @@ pub(crate) fn read_workers(options: &[String]) -> Option<u32>
 #[tactic(auto, unfolding(crate::specs::RowWords::level_and_workers_in))]
 pub(crate) fn read_level_and_workers(options: &[String]) -> Option<(u32, u32)>
     ensures set { result ≡ level_and_workers_in (map string_bytes options.now) }
-    ensures level { IfSome result (λ r. r.0 ≤ 2) }
+    ensures level { IfSome result (λ r. r.0 ≤ 3) }
     ensures least { IfSome result (λ r. 1 ≤ r.1) }
     ensures most { IfSome result (λ r. r.1 ≤ 16) }
 {

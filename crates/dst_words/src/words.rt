@@ -14,7 +14,7 @@ use dst_num::Channels;
 /// What is asked for. The names of files stay in words 1 and 2, word 0 being the command's name. Frames are numbered from 0.
 #[derive(Clone, Copy, Debug, Drop, PartialEq, Eq)]
 pub enum Command {
-    /// `encode IN OUT [--level L] [--workers W]`: code a plain file at a level, 0 to 2.
+    /// `encode IN OUT [--level L] [--workers W]`: code a plain file at a level, 0 to 3.
     Encode {
         level: u32,
     },
@@ -55,7 +55,7 @@ pub enum Command {
         frames: u32,
         channels: Channels,
     },
-    /// `encode-dsf IN OUT [--level L] [--workers W]`: code a DSF file at a level, 0 to 2.
+    /// `encode-dsf IN OUT [--level L] [--workers W]`: code a DSF file at a level, 0 to 3.
     EncodeDsf {
         level: u32,
     },

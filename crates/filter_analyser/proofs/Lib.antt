@@ -11,3 +11,7 @@ pub mod Scaling
 pub mod Counting
 pub mod Picking
 pub mod Writing
+pub mod RowStepping
+pub mod Pulled
+pub mod Stepped
+pub mod Joining

@@ -19,7 +19,7 @@ use Rattle.filter_analyser.specs.Run.{padded}
 use Rattle.filter_analyser.proofs.Shares.{each-most}
 use Rattle.filter_analyser.proofs.Counting.{counted-is}
 
-zeros-small : (n m : ℕ) → AllByRecursion (λ a. nat_abs a ≤ m) (replicate n (pos 0))
+pub zeros-small : (n m : ℕ) → AllByRecursion (λ a. nat_abs a ≤ m) (replicate n (pos 0))
 zeros-small zero m = tt
 zeros-small (suc n) m = (omega arith, zeros-small n m)
 

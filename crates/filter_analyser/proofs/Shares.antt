@@ -67,8 +67,8 @@ shifted (pos a) = refl
 shifted (negsuc a) = refl
 
 -- a part of a number, in the product's bits
-pub share-is : (a b p : ℤ) → nat_abs a ≤ 2 ^ 24 → nat_abs b ≤ 2 ^ 44 → p ≡ to_z w64 (of_z w64 a) *ℤ to_z w64 (of_z w64 b) →
-    (shr_z (to_z w128 (of_z w128 p)) 16777216 ≡ whole (a *ℤ b)) × (nat_abs (whole (a *ℤ b)) ≤ nat_abs b) × (nat_abs (whole (a *ℤ b)) ≤ 2 ^ 44)
+pub share-is : (a b p : ℤ) → nat_abs a ≤ 2 ^ 24 → nat_abs b ≤ 2 ^ 45 → p ≡ to_z w64 (of_z w64 a) *ℤ to_z w64 (of_z w64 b) →
+    (shr_z (to_z w128 (of_z w128 p)) 16777216 ≡ whole (a *ℤ b)) × (nat_abs (whole (a *ℤ b)) ≤ nat_abs b) × (nat_abs (whole (a *ℤ b)) ≤ 2 ^ 45)
 share-is a b p h k e =
     let is : p ≡ a *ℤ b = e ∙ ap (λ z. z *ℤ to_z w64 (of_z w64 b)) (same_64 a (omega arith)) ∙ ap (λ z. a *ℤ z) (same_64 b (omega arith)) in
     let size : nat_abs (a *ℤ b) ≤ 2 ^ 24 * nat_abs b = product-most a b (2 ^ 24) (nat_abs b) h (omega arith) in

@@ -3,10 +3,10 @@ use Rattle.std.specs.Prelude.{◌-◌, ◌^◌, ◌≤◌, ℤ, pos, ◌≤ℤ�
 use Rattle.std.specs.List.{AllByRecursion}
 use Rattle.level_spec.specs.Recursion.{State}
 
--- the error is from 1 to 2 ^ 44, and there are at most 128 values of at most 40 bits
+-- the error is from 1 to 2 ^ 45, and there are at most 128 values of at most 40 bits
 pub record IsRun (s : State) : Type 0 where
   pub positive : pos 1 ≤ℤ s.error
-  pub most : s.error ≤ℤ pos (2 ^ 44)
+  pub most : s.error ≤ℤ pos (2 ^ 45)
   pub few : length s.values ≤ 128
   pub small : AllByRecursion (λ a. nat_abs a ≤ 2 ^ 40) s.values
 

@@ -15,6 +15,8 @@ mod lags;
 mod picker;
 mod picks;
 mod recursion;
+mod refined;
+mod refining;
 mod scale;
 #[cfg(test)]
 mod tests;

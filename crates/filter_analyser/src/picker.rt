@@ -10,6 +10,7 @@ ghost use Rattle.filter_analyser.specs.Run.{padded};
 use crate::lags::correlate;
 use crate::picks::{per_channel, shared};
 use crate::recursion::{solve_all, solve_filter};
+use crate::refined::refined_picks;
 use dst_num::Channels;
 use frame_predictions::Predictions;
 use frame_store::{Candidates, Picker};
@@ -19,7 +20,8 @@ use std::marker::Model;
 const ORDERS: [usize; 4] = [16, 32, 64, 128];
 
 /// Picks the parameters of a level: none at level 0, filters of order 32 for each channel at level 1, filters of the orders 16, 32,
-/// 64 and 128, for each channel and then shared, at level 2.
+/// 64 and 128, for each channel and then shared, at level 2, and those and then refined filters, shared and then for each channel
+/// with one table each and with one for all, at level 3.
 #[derive(Drop)]
 pub struct LevelPicker {
     level: u32,
@@ -32,19 +34,19 @@ impl Model for LevelPicker {
 
     ghost view = { λ p. p.level };
 
-    ghost invariant = { λ p. p.level ≤ 2 };
+    ghost invariant = { λ p. p.level ≤ 3 };
 
     ghost inverse = { λ n. record { level = n } };
 }
 
 impl LevelPicker {
-    /// There is none unless the level is 0, 1 or 2.
+    /// There is none unless the level is 0, 1, 2 or 3.
     pub fn new(level: u32) -> Option<LevelPicker>
-        ensures none { IfNone result (2 < level) }
+        ensures none { IfNone result (3 < level) }
         ensures level { IfSome result (λ p. p ≡ level) }
-        ensures most { IfSome result (λ p. p ≤ 2) }
+        ensures most { IfSome result (λ p. p ≤ 3) }
     {
-        if level > 2 {
+        if level > 3 {
             return None;
         }
         Some(LevelPicker { level })
@@ -68,7 +70,8 @@ impl Picker for LevelPicker {
         match self.level {
             0 => {}
             1 => pick_one(sound, channels, predictions, found),
-            _ => pick_all(sound, channels, predictions, found),
+            2 => pick_all(sound, channels, predictions, found),
+            _ => pick_refined(sound, channels, predictions, found),
         }
     }
 }
@@ -115,8 +118,30 @@ fn pick_all(sound: &[u8], channels: Channels, predictions: &mut Predictions, fou
     }
 }
 
+// The parameters of level 3.
+fn pick_refined(
+    sound: &[u8],
+    channels: Channels,
+    predictions: &mut Predictions,
+    found: &mut Candidates,
+)
+    requires sound { length sound.now ≡ sound_bytes channels }
+    requires begun { predictions.old.sound ≡ sound.now }
+    requires channels { predictions.old.channels ≡ channels }
+    requires empty { found.old.items ≡ [] }
+    ensures found { found.new.items ≡ level_picks 3 sound.now channels }
+    ensures sound { predictions.new.sound ≡ predictions.old.sound }
+    ensures channels { predictions.new.channels ≡ predictions.old.channels }
+{
+    let refined = refined_picks(sound, channels, predictions);
+    pick_all(sound, channels, predictions, found);
+    found.push(refined.shared);
+    found.push(refined.own);
+    found.push(refined.own_with_one_table);
+}
+
 // Solves each channel's correlations for all orders, and adds them up.
-fn solve_channels(
+pub(crate) fn solve_channels(
     sound: &[u8],
     channels: Channels,
     solved: &mut [[[i64; 128]; 4]; 6],

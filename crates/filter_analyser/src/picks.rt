@@ -43,7 +43,13 @@ pub(crate) fn per_channel(
         probs.push(channel_table(predictions, c, &filter));
         filters.push(filter);
     }
-    parameters(&[0, 1, 2, 3, 4, 5], channels, filters, probs)
+    parameters(
+        &[0, 1, 2, 3, 4, 5],
+        &[0, 1, 2, 3, 4, 5],
+        channels,
+        filters,
+        probs,
+    )
 }
 
 /// Parameters with one filter and one table for all channels.
@@ -67,7 +73,7 @@ pub(crate) fn shared(
     probs.push(joint_table(predictions, channels, &filter));
     let mut filters = ArrayVec::new();
     filters.push(filter);
-    parameters(&[0; 6], channels, filters, probs)
+    parameters(&[0; 6], &[0; 6], channels, filters, probs)
 }
 
 // The probabilities of a filter's guesses in one channel.
@@ -99,7 +105,7 @@ fn joint_table(predictions: &mut Predictions, channels: Channels, filter: &Filte
 }
 
 // Counts the codes of a channel with a filter, but for the first ones, as many as the filter is long.
-fn count_row(
+pub(crate) fn count_row(
     counts: &mut [u32; 128],
     predictions: &mut Predictions,
     channel: usize,
@@ -122,15 +128,16 @@ fn count_row(
 }
 
 // Parameters with half bits 1 whose two maps begin as these elements.
-fn parameters(
-    elements: &[u8; 6],
+pub(crate) fn parameters(
+    filter_elements: &[u8; 6],
+    prob_elements: &[u8; 6],
     channels: Channels,
     filters: ArrayVec<FilterTable, 6>,
     probs: ArrayVec<ProbTable, 6>,
 ) -> Params
     requires lawful { IsParams channels.channels
-        (params_of (take channels.channels elements.now) (take channels.channels elements.now) (replicate channels.channels true) filters.items probs.items) }
-    ensures { result ≡ params_of (take channels.channels elements.now) (take channels.channels elements.now) (replicate channels.channels true) filters.items probs.items }
+        (params_of (take channels.channels filter_elements.now) (take channels.channels prob_elements.now) (replicate channels.channels true) filters.items probs.items) }
+    ensures { result ≡ params_of (take channels.channels filter_elements.now) (take channels.channels prob_elements.now) (replicate channels.channels true) filters.items probs.items }
 {
     let count = channels.count();
     let mut half_prob = ArrayVec::new();
@@ -138,8 +145,8 @@ fn parameters(
         half_prob.push(true);
     }
     let (Some(filter_map), Some(prob_map)) = (
-        Map::new(&elements[..count]),
-        Map::new(&elements[..count]),
+        Map::new(&filter_elements[..count]),
+        Map::new(&prob_elements[..count]),
     ) else {
         unreachable!()
     };

@@ -1,11 +1,13 @@
 // From correlations to the values of filters, all orders in one run.
-ghost use Rattle.std.specs.Prelude.{◌≡◌, ℕ, ◌+◌, ◌-◌, ◌*◌, ◌^◌, ◌<◌, ◌≤◌, ℤ, pos, ◌*ℤ◌, ◌≤ℤ◌, nat_abs, nat_lt, false, [], length, map, get_or, take};
+ghost use Rattle.std.specs.Prelude.{◌≡◌, ℕ, ◌+◌, ◌-◌, ◌*◌, ◌^◌, ◌<◌, ◌≤◌, ℤ, pos, ◌*ℤ◌, ◌≤ℤ◌, nat_abs, nat_lt, int_lt, ◌||◌, true, false, [], length, map, get_or, take};
 ghost use Rattle.std.specs.List.{list_any};
 ghost use Rattle.level_spec.specs.Recursion.{whole, left_over as left_over_of, reflection, moved as moved_of, begin, step as step_of, fallen as fallen_of, after, solution};
+ghost use Rattle.level_spec.specs.Rows.{first_row, next_row, rows as rows_of, row_solution};
 ghost use Rattle.level_spec.specs.Laws.{AreCorrelations};
 ghost use Rattle.level_spec.specs.Picks.{orders};
 ghost use Rattle.filter_analyser.specs.Run.{padded};
 
+use filter_refiner::Rows;
 use std::marker::Model;
 
 // 1 with 24 fraction bits.
@@ -39,6 +41,23 @@ pub fn solve_all(lags: &[i64; 129]) -> [[i64; 128]; 4]
     run.advance(lags, 64, 128);
     solutions[3] = run.padded();
     solutions
+}
+
+/// The rows of the recursion with a ridge, and its values behind the last step, with zeros behind them.
+pub fn keep_rows(lags: &[i64; 129]) -> (Rows, [i64; 128])
+    requires { AreCorrelations lags.now }
+    ensures rows { result.0 ≡ rows_of lags.now 128 }
+    ensures solution { result.1 ≡ row_solution lags.now 128 }
+{
+    let mut rows = Rows::new();
+    let mut run = Run::begin_with_ridge(lags);
+    for _step in 0..128usize {
+        rows.push(run.error, &run.values[..run.steps]);
+        if !run.row_step(lags) {
+            break;
+        }
+    }
+    (rows, run.padded())
 }
 
 /// The state of the recursion after some steps.
@@ -112,6 +131,43 @@ impl Run {
         true
     }
 
+    // The first row of the recursion with a ridge.
+    fn begin_with_ridge(lags: &[i64; 129]) -> Run
+        requires { AreCorrelations lags.now }
+        ensures { result ≡ first_row lags.now }
+    {
+        Run {
+            error: lags[0] * (ONE + 64),
+            values: [0; 128],
+            steps: 0,
+        }
+    }
+
+    // One step of the recursion with a ridge, and whether it was made. Where it stops, all is as it was.
+    fn row_step(&mut self, lags: &[i64; 129]) -> bool
+        requires correlations { AreCorrelations lags.now }
+        requires room { length self.old.values < 128 }
+        ensures state { self.new ≡ next_row lags.now self.old }
+        ensures stop { result ≡ false → self.new ≡ self.old }
+        ensures made { result ≡ true → length self.new.values ≡ length self.old.values + 1 }
+    {
+        let place = self.steps + 1;
+        let added = next_value(lags, &self.values[..self.steps], self.error);
+        if added.unsigned_abs() >= 1 << 24 {
+            return false;
+        }
+        let reflection = added as i64;
+        let next = moved(&self.values[..self.steps], reflection);
+        let error = fallen(self.error, reflection);
+        if is_past(error, lags[0], &next[..place]) {
+            return false;
+        }
+        self.error = error;
+        self.values = next;
+        self.steps = place;
+        true
+    }
+
     // The values, and zeros behind them.
     fn padded(&self) -> [i64; 128]
         ensures { result ≡ padded self.now.values }
@@ -133,7 +189,7 @@ fn product(a: i64, b: i64) -> i128
 // A part of a number, at most the whole one, rounded down.
 fn share(part: i64, number: i64) -> i64
     requires part { nat_abs part ≤ 2 ^ 24 }
-    requires number { nat_abs number ≤ 2 ^ 44 }
+    requires number { nat_abs number ≤ 2 ^ 45 }
     ensures share { result ≡ whole (part *ℤ number) }
     ensures most { nat_abs result ≤ nat_abs number }
 {
@@ -194,6 +250,22 @@ fn fill_moved(next: &mut [i64], values: &[i64], reflection: i64)
     next[place - 1] = reflection;
 }
 
+// Whether less is left than R(0), or a value has more than 32 bits.
+fn is_past(error: i64, r0: i64, values: &[i64]) -> bool
+    requires error { nat_abs error ≤ 2 ^ 60 }
+    requires r0 { nat_abs r0 ≤ 2 ^ 60 }
+    ensures { result ≡ (int_lt error r0 || list_any (λ b. nat_lt (2 ^ 32) (nat_abs b)) values.now) }
+{
+    error < r0 || has_greater(values)
+}
+
+// Whether a value has more than 32 bits.
+fn has_greater(values: &[i64]) -> bool
+    ensures { result ≡ list_any (λ b. nat_lt (2 ^ 32) (nat_abs b)) values.now }
+{
+    values.iter().any(|value| value.unsigned_abs() > 1 << 32)
+}
+
 // Whether a value has more than 40 bits.
 fn has_large(values: &[i64]) -> bool
     ensures { result ≡ list_any (λ b. nat_lt (2 ^ 40) (nat_abs b)) values.now }
@@ -204,7 +276,7 @@ fn has_large(values: &[i64]) -> bool
 // The error behind a step.
 fn fallen(error: i64, reflection: i64) -> i64
     requires least { pos 1 ≤ℤ error }
-    requires most { error ≤ℤ pos (2 ^ 44) }
+    requires most { error ≤ℤ pos (2 ^ 45) }
     requires reflection { nat_abs reflection < 2 ^ 24 }
     ensures fallen { result ≡ fallen_of error reflection }
     ensures least { pos 1 ≤ℤ result }

@@ -1,4 +1,4 @@
-// Values worked out apart, plain sums, and the picks of sounds for which the recursion stops early.
+// Values worked out apart, plain sums, and the picks of sounds for which the recursion stops early, or no step makes a filter smaller.
 ghost use Rattle.std.specs.Prelude.{ℕ, ◌≤◌, ◌^◌, pos, nat_abs, get_or};
 ghost use Rattle.level_spec.specs.Laws.{AreCorrelations};
 
@@ -168,6 +168,25 @@ fn recursions_that_stop_give_short_filters(rt: HostRuntime) -> Result<(), Fail> 
     Ok(())
 }
 
+#[test]
+fn refined_filters_are_those_worked_out(rt: HostRuntime) -> Result<(), Fail> {
+    // the byte, the length of the filter of all channels, and how it begins
+    let cases: [(u8, usize, &[i16]); 3] = [
+        (0xff, 63, &[168, 23, 13, 12]),
+        (0x00, 63, &[168, 23, 13, 12]),
+        (0xaa, 127, &[-255, 16, -1, 0]),
+    ];
+    for (byte, length, front) in cases {
+        let all = candidates(rt.alloc(), byte, 3)?;
+        assert_eq!(rt; all.len(), 11);
+        let shared = all.get(8).ok_or("no refined parameters")?;
+        let filter = shared.filters.first().ok_or("no filter")?;
+        assert_eq!(rt; filter.coefs().len(), length);
+        assert_eq!(rt; filter.coefs().get(..4).ok_or("a short filter")?, front);
+    }
+    Ok(())
+}
+
 // How many bytes a sound of three channels has, stored at a level.
 fn stored_length(alloc: Global, sound: &[u8], level: u32) -> Result<usize, Fail> {
     let three = Channels::new(3).ok_or("three channels")?;
@@ -198,14 +217,16 @@ fn a_higher_level_is_never_longer(rt: HostRuntime) -> Result<(), Fail> {
     assert_eq!(rt; plain, 14_113);
     assert!(rt; one < plain);
     assert!(rt; two <= one);
+    let three = stored_length(rt.alloc(), sound.as_slice(), 3)?;
+    assert!(rt; three <= two);
     Ok(())
 }
 
 #[test]
-fn there_are_three_levels(rt: HostRuntime) -> Result<(), Fail> {
-    for level in 0..3u32 {
+fn there_are_four_levels(rt: HostRuntime) -> Result<(), Fail> {
+    for level in 0..4u32 {
         assert!(rt; LevelPicker::new(level).is_some());
     }
-    assert!(rt; LevelPicker::new(3).is_none());
+    assert!(rt; LevelPicker::new(4).is_none());
     Ok(())
 }

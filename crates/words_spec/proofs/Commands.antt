@@ -22,6 +22,10 @@ pub least_level : task_of (words ("encode" ∷ "a" ∷ "b" ∷ "--level" ∷ "0"
 unfolding task_of
 least_level = refl
 
+pub greatest_level : task_of (words ("encode" ∷ "a" ∷ "b" ∷ "--level" ∷ "3" ∷ [])) ≡ Some ((encode 3) by 1)
+unfolding task_of
+greatest_level = refl
+
 pub level_and_workers : task_of (words ("encode" ∷ "a" ∷ "b" ∷ "--level" ∷ "2" ∷ "--workers" ∷ "4" ∷ [])) ≡ Some ((encode 2) by 4)
 unfolding task_of
 level_and_workers = refl
@@ -126,7 +130,7 @@ pub level_one_does_else_of_dsf : task_of (words ("encode-dsf" ∷ "a.dsf" ∷ "b
 unfolding task_of
 level_one_does_else_of_dsf = refl
 
-pub level_and_workers_of_dsf : task_of (words ("encode-dsf" ∷ "a" ∷ "b" ∷ "--workers" ∷ "16" ∷ "--level" ∷ "2" ∷ [])) ≡ Some ((encode_dsf 2) by 16)
+pub level_and_workers_of_dsf : task_of (words ("encode-dsf" ∷ "a" ∷ "b" ∷ "--workers" ∷ "16" ∷ "--level" ∷ "3" ∷ [])) ≡ Some ((encode_dsf 3) by 16)
 unfolding task_of
 level_and_workers_of_dsf = refl
 
@@ -231,7 +235,7 @@ pub two_files_are_needed_to_encode : task_of (words ("encode" ∷ "a" ∷ [])) �
 unfolding task_of
 two_files_are_needed_to_encode = refl
 
-pub level_past_the_greatest : task_of (words ("encode" ∷ "a" ∷ "b" ∷ "--level" ∷ "3" ∷ [])) ≡ None
+pub level_past_the_greatest : task_of (words ("encode" ∷ "a" ∷ "b" ∷ "--level" ∷ "4" ∷ [])) ≡ None
 unfolding task_of
 level_past_the_greatest = refl
 
@@ -363,7 +367,7 @@ pub help_is_no_row : task_of (words ("--help" ∷ [])) ≡ None
 unfolding task_of
 help_is_no_row = refl
 
-pub level_of_dsf_past_the_greatest : task_of (words ("encode-dsf" ∷ "a" ∷ "b" ∷ "--level" ∷ "3" ∷ [])) ≡ None
+pub level_of_dsf_past_the_greatest : task_of (words ("encode-dsf" ∷ "a" ∷ "b" ∷ "--level" ∷ "4" ∷ [])) ≡ None
 unfolding task_of
 level_of_dsf_past_the_greatest = refl
 

@@ -63,7 +63,7 @@ abbrev pub workers : Setting
 workers = record { name = "--workers"; has_value = true; allows = λ n. not (outside 1 16 n) }
 
 abbrev pub level : Setting
-level = record { name = "--level"; has_value = true; allows = λ n. not (n above 2) }
+level = record { name = "--level"; has_value = true; allows = λ n. not (n above 3) }
 
 abbrev pub by_index : Setting
 by_index = record { name = "--by-index"; has_value = false; allows = λ n. false }

@@ -17,7 +17,7 @@ returns c =
     let e : to_z w64 (of_z w64 error) ≡ error = omega (arith, ints) in
     let is : c.share.result ≡ whole (whole (f *ℤ f) *ℤ error) = c.share.ensures.share
     ∙ ap (λ z. whole (z *ℤ to_z w64 (of_z w64 error))) (same_64 c.share-square.result (omega arith) ∙ square) ∙ ap (λ z. whole (whole (f *ℤ f) *ℤ z)) e in
-    let less : nat_abs c.share.result ≤ 2 ^ 44 = let m = c.share.ensures.most in omega (arith, ints) in
+    let less : nat_abs c.share.result ≤ 2 ^ 45 = let m = c.share.ensures.most in omega (arith, ints) in
     let new : to_z w64 (of_z w64 (to_z w64 (of_z w64 error) -ℤ to_z w64 (of_z w64 c.share.result))) ≡ error -ℤ c.share.result = omega (arith, ints) in
     let all = new ∙ ap (λ z. error -ℤ z) is in
     record { fallen = all; least = rw all bounds.0; most = rw all bounds.1 }

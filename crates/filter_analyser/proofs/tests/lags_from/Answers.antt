@@ -20,7 +20,8 @@ loop-lag-preserved c =
     let least = c.loop-lag.invariant.2 in
     let most = c.loop-lag.invariant.3 in (
       omega (arith, length-set {A = ℤ}, c.loop-lag.invariant.0),
-      set-most c.loop-lag.lags c.loop-lag.lag (nat_abs (to_z w64 (of_z w64 c.min-first.result))) (to_z w64 (of_z w64 c.min-value.result)) (omega (arith, c.loop-lag.invariant.0)) c.loop-lag.invariant.1 (omega (arith, ints, clamps)),
+      set-most c.loop-lag.lags c.loop-lag.lag (nat_abs (to_z w64 (of_z w64 c.min-first.result))) (to_z w64 (of_z w64 c.min-value.result))
+          (omega (arith, c.loop-lag.invariant.0)) c.loop-lag.invariant.1 (omega (arith, ints, clamps)),
       least,
       most,
     )

@@ -1,0 +1,74 @@
+use Rattle.std.proofs.Common.{◌≡◌, ℕ, ◌+◌, ◌<◌, ◌==◌, List, ℤ, [], ◌∷◌, ◌++◌, length, map, take, ap, sym, ◌∙◌, subst, arith}
+use Rattle.std.proofs.lemmas.List.FromFn.{length-map-range_with_len, map-range_with_len_more}
+use Rattle.std.specs.List.{range_with_len}
+use Rattle.dst_spec.specs.Header.{IsParams}
+use Rattle.level_spec.specs.Counts.{count_from}
+use Rattle.level_spec.specs.Refining.{short_table}
+use Rattle.level_spec.specs.Picks.{refined_alone}
+use Rattle.level_spec.proofs.RefinedPicks.{IsParams-refined_own}
+use Rattle.frame_predictions.specs.Codes.{code_at}
+use Rattle.filter_analyser.proofs.Picking.{first_numbers}
+use Rattle.filter_analyser.proofs.Joining.{short-is, refined_own-is, each-long, each-at}
+use Rattle.filter_analyser.proofs.refined.own_picks.Goals as goal
+
+pub bounds-own-c : goal.bounds-own-c
+bounds-own-c c =
+    let long = each-long c.args.channels c.args.predictions.now.sound c.args.own.now c.requires.own in
+    omega (arith, c.count-c-end.ensures.count)
+
+pub push-requires : goal.push-requires
+push-requires c =
+    let f = c.args.channels in
+    let G : ℕ → List ℕ = λ k. short_table f c.args.predictions.now.sound (k ∷ []) (refined_alone f c.args.predictions.now.sound k) in
+    let long = ap length c.loop-c.invariant.probs ∙ length-map-range_with_len G 0 c.loop-c.c in
+    let few = c.count-c-end.ensures.shape.most in
+    omega (arith, c.count-c-end.ensures.count)
+
+pub loop-c-preserved : goal.loop-c-preserved
+loop-c-preserved c =
+    let f = c.args.channels in
+    let sound = c.args.predictions.now.sound in
+    let n = c.loop-c.c in
+    let G : ℕ → List ℕ = λ k. short_table f sound (k ∷ []) (refined_alone f sound k) in
+    let z : 0 + n ≡ n = omega arith in
+    let inside : n < f.channels = omega (arith, c.count-c-end.ensures.count) in
+    let filter : List ℤ = c.index-own-c.result in
+    let table : c.short_table.result ≡ G n =
+    c.short_table.ensures ∙ short-is f sound (n ∷ []) filter c.count_members.result (λ q h. c.count_members.ensures.counts q h
+    ∙ ap (λ s. count_from (length filter) f (λ c t. code_at f s c filter t == q) (n ∷ [])) c.loop-c.invariant.sound)
+    ∙ ap (short_table f sound (n ∷ [])) (c.index-own-c.is ∙ each-at f sound c.args.own.now n filter c.requires.own inside) in
+    record {
+      sound = c.count_members.ensures.sound ∙ c.loop-c.invariant.sound;
+      channels = c.count_members.ensures.channels ∙ c.loop-c.invariant.channels;
+      probs =
+          c.push.ensures.items ∙ ap (λ xs. xs ++ c.short_table.result ∷ []) c.loop-c.invariant.probs ∙ ap (λ x. map G (range_with_len 0 n) ++ x ∷ []) table
+          ∙ sym (map-range_with_len_more G 0 n n z);
+    }
+
+pub copies-requires : goal.copies-requires
+copies-requires c =
+    let long = each-long c.args.channels c.args.predictions.now.sound c.args.own.now c.requires.own in
+    let few = c.count-c-end.ensures.shape.most in
+    omega arith
+
+pub parameters-requires : goal.parameters-requires
+parameters-requires c =
+    let f = c.args.channels in
+    let sound = c.args.predictions.now.sound in
+    let all : c.loop-c.c ≡ f.channels = omega (arith, c.count-c-end.ensures.count) in
+    let G : ℕ → List ℕ = λ k. short_table f sound (k ∷ []) (refined_alone f sound k) in
+    let is = refined_own-is f sound (take {A = ℕ} f.channels (0 ∷ 1 ∷ 2 ∷ 3 ∷ 4 ∷ 5 ∷ [])) c.copies.result.items c.loop-c.probs.items
+    (first_numbers f.channels c.count-c-end.ensures.shape.most) (c.copies.ensures ∙ c.requires.own) (c.loop-c.invariant.probs
+    ∙ ap (λ n. map G (range_with_len 0 n)) all) in
+    record { lawful = subst (IsParams f.channels) (sym is) (IsParams-refined_own f sound) }
+
+pub returns-clause-params : goal.returns-clause-params
+returns-clause-params c =
+    let f = c.args.channels in
+    let sound = c.args.predictions.now.sound in
+    let all : c.loop-c.c ≡ f.channels = omega (arith, c.count-c-end.ensures.count) in
+    let G : ℕ → List ℕ = λ k. short_table f sound (k ∷ []) (refined_alone f sound k) in
+    c.parameters.ensures
+    ∙ refined_own-is f sound (take {A = ℕ} f.channels (0 ∷ 1 ∷ 2 ∷ 3 ∷ 4 ∷ 5 ∷ [])) c.copies.result.items c.loop-c.probs.items
+    (first_numbers f.channels c.count-c-end.ensures.shape.most) (c.copies.ensures ∙ c.requires.own) (c.loop-c.invariant.probs
+    ∙ ap (λ n. map G (range_with_len 0 n)) all)
