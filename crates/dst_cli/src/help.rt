@@ -127,7 +127,7 @@ IN and OUT are files; OUT must not be there yet. A name doesn't begin with -.
 Frames are numbered from 0. Options stand last, each at most once.
 
   --level L      0 keeps frames as they are, 1 tries one filter a channel,
-                 2 tries more and keeps the shortest; 1 without this option
+                 2 tries more, 3 refines them; the shortest is kept; else 1
   --workers W    so many frames at a time, 1 to 16; 1 without this option
   --by-index     find the frame by the file's index, not by its chunks
   --rate Q       64, 128 or 256 times 44.1 kHz; 64 without this option
@@ -150,9 +150,11 @@ Writes the coded file of a plain one. `decode` of it gives back every bit of IN,
 and no frame is longer than its plain form and a byte.
 
   --level L      0 keeps frames as they are, 1 tries one filter a channel,
-                 2 tries eight sets of filters and keeps the shortest; 1 without
-                 this option. Music takes 54 to 64 percent of its plain size at
-                 level 1, and 40 to 50 at level 2 in three times the time
+                 2 tries eight sets of filters and keeps the shortest, 3 refines
+                 filters beside them; 1 without this option. Music takes 54 to
+                 64 percent of its plain size at level 1, 40 to 50 at level 2 in
+                 three times the time, and at level 3 a tenth to a seventh less
+                 than at level 2, in several times its time
   --workers W    so many frames at a time, 1 to 16; 1 without this option. It
                  changes no byte
 
@@ -271,8 +273,8 @@ Writes the coded file of a DSF file: one to six channels, 64, 128 or 256 times
 sample. What stands behind the samples, as a tag does, is left out.
 
   --level L      0 keeps frames as they are, 1 tries one filter a channel,
-                 2 tries eight sets of filters and keeps the shortest; 1 without
-                 this option
+                 2 tries eight sets of filters and keeps the shortest, 3 refines
+                 filters beside them; 1 without this option
   --workers W    so many frames at a time, 1 to 16; 1 without this option. It
                  changes no byte
 
