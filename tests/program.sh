@@ -59,6 +59,15 @@ expect 0 show level2.dff
 expect 0 index level2.dff
 expect 0 cut level2.dff cut.dff 0 0
 prints 'cut 1 frames'
+expect 0 decode-dsf "$coded" sound.dsf --workers 2
+prints 'decoded 1 frames into 4704 bytes'
+[ "$(wc -c <sound.dsf)" = 8284 ] || fail "the DSF file has $(wc -c <sound.dsf) bytes"
+expect 0 encode-dsf sound.dsf of-dsf.dff --level 2 --workers 3
+expect 0 decode-dsf of-dsf.dff again.dsf
+cmp sound.dsf again.dsf
+expect 5 encode-dsf plain.dff other.dff
+prints 'file refused: 29 DsfForm'
+absent other.dff
 expect 0 make 7 made.dff 2 1
 prints 'made 2 frames'
 expect 0 make 7 --run 2 1
@@ -82,7 +91,7 @@ fits_a_screen() {
   [ "$(wc -l <printed)" -le 50 ] || fail "the help has $(wc -l <printed) lines"
   [ "$(wc -L <printed)" -le 80 ] || fail "the help has lines of $(wc -L <printed) columns"
 }
-for command in encode decode cut frame check show index pipe make; do
+for command in encode decode cut frame check show index pipe encode-dsf decode-dsf make; do
   expect 1 "$command"
   tells "usage: dst_cli $command "
   expect 0 "$command" --help

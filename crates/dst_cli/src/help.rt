@@ -14,7 +14,7 @@ pub(crate) struct CommandHelp {
 }
 
 /// All commands.
-pub(crate) const COMMANDS: [CommandHelp; 9] = [
+pub(crate) const COMMANDS: [CommandHelp; 11] = [
     CommandHelp {
         name: "encode",
         usage: "encode IN OUT [--level L] [--workers W]",
@@ -72,6 +72,20 @@ pub(crate) const COMMANDS: [CommandHelp; 9] = [
         text: PIPE,
     },
     CommandHelp {
+        name: "encode-dsf",
+        usage: "encode-dsf IN OUT [--level L] [--workers W]",
+        places: &["IN", "OUT"],
+        options: &["--level", "--workers"],
+        text: ENCODE_DSF,
+    },
+    CommandHelp {
+        name: "decode-dsf",
+        usage: "decode-dsf IN OUT [--workers W]",
+        places: &["IN", "OUT"],
+        options: &["--workers"],
+        text: DECODE_DSF,
+    },
+    CommandHelp {
         name: "make",
         usage: "make START OUT|--run FRAMES CHANNELS [--rate Q]",
         places: &["START", "OUT or --run", "FRAMES", "CHANNELS"],
@@ -97,6 +111,10 @@ Direct Stream Transfer, the lossless coding of Super Audio CD, in DSDIFF files.
   dst_cli show IN K                      print the header of frame K
   dst_cli index IN                       print place and size of each frame
   dst_cli pipe OUT                       decode standard input as it comes
+  dst_cli encode-dsf IN OUT [--level L] [--workers W]
+                                         write the coded file of a DSF file
+  dst_cli decode-dsf IN OUT [--workers W]
+                                         write the DSF file of a coded file
   dst_cli make START OUT FRAMES CHANNELS [--rate Q]
                                          write a plain file of made sound
   dst_cli make START --run FRAMES CHANNELS [--rate Q]
@@ -109,7 +127,7 @@ IN and OUT are files; OUT must not be there yet. A name doesn't begin with -.
 Frames are numbered from 0. Options stand last, each at most once.
 
   --level L      0 keeps frames as they are, 1 tries one filter a channel,
-                 2 tries more and keeps the shortest; 1 without this option
+                 2 tries more, 3 refines them; the shortest is kept; else 1
   --workers W    so many frames at a time, 1 to 16; 1 without this option
   --by-index     find the frame by the file's index, not by its chunks
   --rate Q       64, 128 or 256 times 44.1 kHz; 64 without this option
@@ -132,9 +150,11 @@ Writes the coded file of a plain one. `decode` of it gives back every bit of IN,
 and no frame is longer than its plain form and a byte.
 
   --level L      0 keeps frames as they are, 1 tries one filter a channel,
-                 2 tries eight sets of filters and keeps the shortest; 1 without
-                 this option. Music takes 54 to 64 percent of its plain size at
-                 level 1, and 40 to 50 at level 2 in three times the time
+                 2 tries eight sets of filters and keeps the shortest, 3 refines
+                 filters beside them; 1 without this option. Music takes 54 to
+                 64 percent of its plain size at level 1, 40 to 50 at level 2 in
+                 three times the time, and at level 3 a tenth to a seventh less
+                 than at level 2, in several times its time
   --workers W    so many frames at a time, 1 to 16; 1 without this option. It
                  changes no byte
 
@@ -243,6 +263,41 @@ Status: 0, 1, 2, 3, 4, 5, 6 or 7. Behind 5 and 6 OUT ends behind the last frame
 that came or isn't refused.
 
   curl -s https://example.org/master.dff | dst_cli pipe plain.dff
+";
+
+const ENCODE_DSF: &str = "\
+dst_cli encode-dsf IN OUT [--level L] [--workers W]
+
+Writes the coded file of a DSF file: one to six channels, 64, 128 or 256 times
+44.1 kHz, 1 or 8 bits in a sample's order. `decode-dsf` of it gives back every
+sample. What stands behind the samples, as a tag does, is left out.
+
+  --level L      0 keeps frames as they are, 1 tries one filter a channel,
+                 2 tries eight sets of filters and keeps the shortest, 3 refines
+                 filters beside them; 1 without this option
+  --workers W    so many frames at a time, 1 to 16; 1 without this option. It
+                 changes no byte
+
+Prints: coded F frames into B bytes
+Status: 0, 1, 2, 3, 4, 5 or 7. Only behind 0 is OUT whole, and on its disk.
+
+  dst_cli encode-dsf music.dsf music.dff --level 2 --workers 4
+";
+
+const DECODE_DSF: &str = "\
+dst_cli decode-dsf IN OUT [--workers W]
+
+Writes the DSF file of a coded one, also of one that never was a DSF file: it
+has the sound alone, without tags.
+
+  --workers W    so many frames at a time, 1 to 16; 1 without this option. It
+                 changes no byte
+
+Prints: decoded F frames into B bytes
+Status: 0, 1, 2, 3, 4, 5, 6 or 7. Behind 6 OUT ends behind the last row of
+blocks that the frames before the refused one fill.
+
+  dst_cli decode-dsf music.dff music.dsf --workers 4
 ";
 
 const MAKE: &str = "\
