@@ -100,13 +100,14 @@ fn a_stream_is_decoded_in_pieces_of_any_size(rt: HostRuntime) -> Result<(), Fail
 
 // The file of the frame twice.
 fn two_frames(alloc: Global) -> Result<Vec<u8>, AllocError> {
+    let mut first = *FILE;
+    first[11] = 0xa4;
+    first[121] = 0x36;
+    first[137] = 2;
     let mut two = Vec::new(alloc);
-    for byte in FILE {
+    for byte in &first {
         two.push(*byte)?;
     }
-    two[11] = 0xa4;
-    two[121] = 0x36;
-    two[137] = 2;
     for byte in SECOND {
         two.push(*byte)?;
     }
