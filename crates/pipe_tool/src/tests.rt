@@ -14,6 +14,14 @@ CMPR\0\0\0\0\0\0\0\x10DST \x0bDST Encoded\
 DST \0\0\0\0\0\0\0\x24FRTE\0\0\0\0\0\0\0\x06\0\0\0\x01\0\x4b\
 DSTF\0\0\0\0\0\0\0\x06\xfc\0\0\x05\xff\xf8";
 
+// A plain file without sound.
+const PLAIN: &[u8; 126] = b"FRM8\0\0\0\0\0\0\0\x72DSD \
+FVER\0\0\0\0\0\0\0\x04\x01\x05\0\0\
+PROP\0\0\0\0\0\0\0\x46SND FS  \0\0\0\0\0\0\0\x04\0\x2b\x11\0\
+CHNL\0\0\0\0\0\0\0\x06\0\x01C000\
+CMPR\0\0\0\0\0\0\0\x13DSD \x0enot compressed\0\
+DSD \0\0\0\0\0\0\0\0";
+
 // A second frame, the same one again.
 const SECOND: &[u8; 18] = b"DSTF\0\0\0\0\0\0\0\x06\xfc\0\0\x05\xff\xf8";
 
@@ -60,7 +68,9 @@ fn a_stream_is_decoded_in_pieces_of_any_size(rt: HostRuntime) -> Result<(), Fail
     let alloc = rt.alloc();
     let two = two_frames(alloc)?;
     let file = FILE.as_slice();
-    let cases: [(&str, &[u8], u8, usize, &str); 6] = [
+    let mut refused = *FILE;
+    refused[157] = 0xfc;
+    let cases: [(&str, &[u8], u8, usize, &str); 8] = [
         (
             "pipe out.dff",
             file,
@@ -89,6 +99,14 @@ fn a_stream_is_decoded_in_pieces_of_any_size(rt: HostRuntime) -> Result<(), Fail
             0,
             "file refused: 1 NotForm\n",
         ),
+        (
+            "pipe out.dff",
+            &refused,
+            6,
+            126,
+            "frame 0 refused: 9 FirstCodeBit at bit 45\n",
+        ),
+        ("pipe out.dff", PLAIN, 5, 0, "file refused: 27 NotCoded\n"),
         ("pipe", file, 1, 0, "words not understood\n"),
         ("pipe in.dff out.dff", file, 1, 0, "words not understood\n"),
     ];
