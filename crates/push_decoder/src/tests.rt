@@ -50,6 +50,16 @@ fn feed(decoder: &mut PushDecoder, size: usize, tape: &mut Tape) -> Result<bool,
     Ok(ended)
 }
 
+// Feeds the file in two pieces, the first of so many bytes.
+fn feed_two(decoder: &mut PushDecoder, cut: usize, tape: &mut Tape) -> Result<bool, FileFault> {
+    let file = FILE.as_slice();
+    let end = cut.min(158);
+    match play_piece(decoder, &file[..end], tape) {
+        Ok(_) => play_piece(decoder, &file[end..158], tape),
+        Err(fault) => Err(fault),
+    }
+}
+
 // What is told of the first event of the file: the bytes that were taken, the channels, their rate and the frames.
 fn head_of_file(decoder: &mut PushDecoder) -> (usize, u32, u32, u32) {
     let (count, step) = match decoder.take(FILE) {
@@ -74,6 +84,20 @@ fn a_file_in_pieces_of_any_size_has_one_frame(rt: HostRuntime) -> Result<(), Fai
         let ended = feed(&mut decoder, size, &mut tape);
         assert_eq!(rt; ended, Ok(true));
         assert_eq!(rt; tape.frames, 1);
+        assert_eq!(rt; tape.bytes, *b"\xfc\0\0\x05\xff\xf8");
+        assert_eq!(rt; decoder.close(), Ok(()));
+    }
+    Ok(())
+}
+
+#[test]
+fn a_file_cut_in_two_at_any_place_has_one_frame(rt: HostRuntime) -> Result<(), Fail> {
+    for cut in 0..159usize {
+        let mut decoder = PushDecoder::new(rt.alloc())?;
+        let mut tape = empty_tape();
+        let ended = feed_two(&mut decoder, cut, &mut tape);
+        assert_eq!(rt; ended, Ok(true), "cut at {cut}");
+        assert_eq!(rt; tape.frames, 1, "cut at {cut}");
         assert_eq!(rt; tape.bytes, *b"\xfc\0\0\x05\xff\xf8");
         assert_eq!(rt; decoder.close(), Ok(()));
     }
