@@ -75,7 +75,7 @@ unfoldable pub fitting_open : ⊤
 unfolding greatest fed_back fit_down fitted last_place
 fitting_open = tt
 
--- the error of 28 is fed back by row 1, where there is one
+-- the error of 28 is fed back by the second row, where there is one
 pub errors_are_fed_back : fitted (record { error = pos 0; values = [] } ∷ record { error = pos 0; values = pos 16777216 ∷ [] }
     ∷ record { error = pos 0; values = pos 0 ∷ pos 0 ∷ [] } ∷ []) (pos 26 ∷ pos 7 ∷ pos 64 ∷ []) ≡ pos 103 ∷ pos 28 ∷ pos 255 ∷ []
 unfolding fitting_open
