@@ -2,4 +2,3 @@
 mod calls;
 mod crew;
 mod devices;
-mod files;

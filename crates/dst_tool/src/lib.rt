@@ -32,6 +32,3 @@ pub use dst_write::{
 };
 pub use making::{RunFault, make_run};
 pub use run::dst_run;
-
-#[cfg(test)]
-mod tests;

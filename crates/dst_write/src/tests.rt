@@ -9,9 +9,8 @@ use crate::{EncodeFault, Encoded, encode_file};
 use dsdiff_chunks::{FileFault, OpenFault};
 use dst_num::Channels;
 use dst_streams::{HonestSource, MemorySink};
-use files::{
-    CODED_SILENT, CODED_SILENT_AND_THREE, SILENT, SILENT_AND_THREE, odd_plain, two_frames,
-};
+use example_files::{SILENT, odd_plain, two_frames};
+use files::{CODED_SILENT, CODED_SILENT_AND_THREE, SILENT_AND_THREE};
 use frame_crew::OpenGate;
 use frame_predictions::Predictions;
 use frame_store::{Candidates, Picker};

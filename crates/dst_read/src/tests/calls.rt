@@ -1,10 +1,10 @@
 // The calls that list and show a file, and give one frame: each by itself, and over devices that fail.
-use super::files::two_frames;
 use crate::{
     DecodeFault, FrameWritten, ListFault, Reported, ShowFault, frame_out, index_file, show_file,
 };
 use dsdiff_chunks::OpenFault;
 use dst_streams::{HonestSource, MemorySink, MemorySource};
+use example_files::two_frames;
 use std::test::Fail;
 
 const REPORTED: Reported = Reported { frames: 2 };

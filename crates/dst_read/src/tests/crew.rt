@@ -1,9 +1,9 @@
 // Frames that several workers decode and check.
-use super::files::{SILENT, chunk, coded, frame, odd_plain, one_frame, two_frames, with_bytes};
 use crate::{CheckFault, Checked, DecodeFault, Decoded, check_file, decode_file};
 use dsdiff_chunks::{FileFault, OpenFault};
 use dst_spec::{FrameFault, Reason};
 use dst_streams::{HonestSource, MemorySink};
+use example_files::{SILENT, chunk, coded, frame, odd_plain, one_frame, two_frames, with_bytes};
 use frame_crew::{Gate, OpenGate};
 use std::alloc::{AllocError, Global};
 use std::sync::atomic::{AtomicBool, Ordering};

@@ -1,8 +1,8 @@
 // Devices that fail at each of their calls, or whose room ends at each byte.
-use super::files::{SILENT, coded, odd_plain, two_frames};
 use crate::{DecodeFault, Decoded, decode_file};
 use dsdiff_chunks::OpenFault;
 use dst_streams::{HonestSource, MemorySink, MemorySource, ShortFlowSink};
+use example_files::{SILENT, coded, odd_plain, two_frames};
 use frame_crew::OpenGate;
 use std::alloc::{AllocError, Global};
 use std::process::Abort;

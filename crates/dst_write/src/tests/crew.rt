@@ -1,8 +1,8 @@
 // Frames that several workers store at once.
 use super::NoPick;
-use super::files::{odd_plain, two_frames};
 use crate::{Encoded, encode_file};
 use dst_streams::{HonestSource, MemorySink};
+use example_files::{odd_plain, two_frames};
 use frame_crew::Gate;
 use std::sync::atomic::{AtomicBool, AtomicU64, Ordering};
 use std::test::Fail;

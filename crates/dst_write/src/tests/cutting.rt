@@ -1,8 +1,8 @@
 // Frames that are cut out of a file of two, by their bytes. No frame is decoded, so that theirs may be any.
-use super::files::{SILENT, joined};
 use crate::{Cut, CutFault, cut_file};
 use dsdiff_chunks::{FileFault, OpenFault};
 use dst_streams::{HonestSource, MemorySink, MemorySource};
+use example_files::{SILENT, joined};
 use std::alloc::{AllocError, Global};
 use std::process::Abort;
 use std::test::Fail;

@@ -1,11 +1,12 @@
 // Words, files and frames that are refused.
-use super::files::{
+use super::gives;
+use crate::split;
+use dst_streams::{HonestSource, MemorySink, MemorySource};
+use dst_tool::dst_run;
+use example_files::{
     EXAMPLE, PLAIN_PROP, SILENT, VERSION, chunk, odd_plain, one_frame, plain, two_frames,
     with_bytes,
 };
-use super::{gives, split};
-use crate::dst_run;
-use dst_streams::{HonestSource, MemorySink, MemorySource};
 use std::alloc::{AllocError, Global};
 use std::process::Abort;
 use std::test::Fail;

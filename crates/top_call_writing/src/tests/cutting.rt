@@ -1,12 +1,13 @@
 // Frames that are cut out of the coded file of two frames: of 4,704 counting bytes, and of one byte with its filling.
-use super::files::{
+use super::{answers, gives};
+use dst_streams::{HonestSource, MemorySink, MemorySource};
+use dst_tool::dst_run;
+use example_files::{
     EXAMPLE, PLAIN_CMPR, SILENT, coded, counting, frame, joined, plain, two_frames, with_bytes,
 };
-use super::{answers, gives, split};
-use crate::dst_run;
-use dst_streams::{HonestSource, MemorySink, MemorySource};
 use std::alloc::{AllocError, Global};
 use std::test::Fail;
+use top_call::split;
 
 // A file of one frame, whose sound has this size and pad byte.
 fn alone(

@@ -1,8 +1,8 @@
 // Several workers give what one gives.
-use super::files::{coded, counting, frame, odd_plain, two_frames};
-use super::split;
-use crate::dst_run;
+use crate::split;
 use dst_streams::{HonestSource, MemorySink, MemorySource};
+use dst_tool::dst_run;
+use example_files::{coded, counting, frame, odd_plain, two_frames};
 use std::alloc::{AllocError, Global};
 use std::test::Fail;
 use std::thread;

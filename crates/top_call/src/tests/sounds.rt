@@ -1,11 +1,11 @@
 // Files whose sound comes back.
-use super::files::{
+use super::{decode_words, gives};
+use dst_streams::{HonestSource, MemorySink};
+use dst_tool::dst_run;
+use example_files::{
     NOTHING_KEPT, SILENT, THREE_KEPT, coded, coded_silent, frame, joined, odd_plain, one_frame,
     plain, two_frames, with_bytes,
 };
-use super::{decode_words, gives};
-use crate::dst_run;
-use dst_streams::{HonestSource, MemorySink};
 use std::test::Fail;
 
 #[test]

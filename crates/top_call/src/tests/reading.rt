@@ -1,10 +1,11 @@
 // The commands that read besides decoding: a frame, a check, a summary, a frame's header, the places of frames.
-use super::files::{
+use super::answers;
+use crate::split;
+use dst_streams::{HonestSource, MemorySink, MemorySource};
+use dst_tool::dst_run;
+use example_files::{
     EXAMPLE, SILENT, coded, counting, frame, joined, odd_plain, one_frame, two_frames, with_bytes,
 };
-use super::{answers, split};
-use crate::dst_run;
-use dst_streams::{HonestSource, MemorySink, MemorySource};
 use std::alloc::{AllocError, Global};
 use std::test::Fail;
 

@@ -1,8 +1,9 @@
 // Devices that fail: the statuses and the lines.
-use super::files::{odd_plain, two_frames, with_bytes};
-use super::{decode_words, split};
-use crate::dst_run;
+use super::decode_words;
+use crate::split;
 use dst_streams::{HonestSource, MemorySink, MemorySource, ShortFlowSink};
+use dst_tool::dst_run;
+use example_files::{odd_plain, two_frames, with_bytes};
 use std::alloc::{AllocError, Global};
 use std::test::Fail;
 

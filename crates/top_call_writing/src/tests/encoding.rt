@@ -1,17 +1,18 @@
 // Files that are coded: known byte for byte, or decoded again.
-use super::files::{
+use super::{answers, gives};
+use dst_num::Channels;
+use dst_streams::{HonestSource, MemorySink, MemorySource};
+use dst_tool::dst_run;
+use dst_write::make_file;
+use example_files::{
     EXAMPLE, NOTHING_KEPT, PLAIN_CMPR, PLAIN_PROP, SILENT, THREE_KEPT, VERSION, chunk, coded,
     coded_silent, counting, frame, joined, odd_plain, two_frames, with_bytes,
 };
-use super::{answers, gives, split};
-use crate::dst_run;
-use dst_num::Channels;
-use dst_streams::{HonestSource, MemorySink, MemorySource};
-use dst_write::make_file;
 use std::alloc::{AllocError, Global};
 use std::process::Abort;
 use std::test::Fail;
 use std::thread::Threads;
+use top_call::split;
 
 // The rate of 128 times 44.1 kHz.
 const DOUBLE: &[u8; 4] = b"\0\x56\x22\0";

@@ -1,15 +1,16 @@
 // Made sound: files, and runs in memory.
-use super::files::{SILENT, joined};
-use super::{answers, split};
-use crate::{dst_run, make_run};
+use super::answers;
 use dst_num::Channels;
 use dst_streams::{HonestSource, MemorySink, MemorySource};
+use dst_tool::{dst_run, make_run};
+use example_files::{SILENT, joined};
 use frame_crew::Gate;
 use std::alloc::{AllocError, Global};
 use std::process::Abort;
 use std::sync::atomic::{AtomicU64, Ordering};
 use std::test::Fail;
 use std::thread::Threads;
+use top_call::split;
 
 // What stands in front of the sound of three frames of six channels.
 const THREE_OF_SIX: &[u8; 146] = b"FRM8\0\0\0\0\0\x01\x4b\x46DSD \
