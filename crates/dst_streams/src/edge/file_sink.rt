@@ -16,6 +16,8 @@ pub struct FileSink<'p, R: Files> {
     path: &'p str,
     file: Option<R::File>,
     appended: u64,
+    /// Whether the system writes on at the file's end by itself.
+    at_end: bool,
     faults: u64,
     /// Whether nothing was written since the file was last synchronised.
     is_settled: bool,
@@ -34,6 +36,7 @@ impl<'p, R: Files> FileSink<'p, R> {
             path,
             file: None,
             appended: 0,
+            at_end: false,
             faults: 0,
             is_settled: false,
             reason: None,
@@ -52,12 +55,12 @@ impl<'p, R: Files> FileSink<'p, R> {
     }
 }
 
-// Makes the file where it isn't made, and writes the whole piece where `to` says.
+// Makes the file where it isn't made, and writes the whole piece where `to` says, or on from where the last one ended.
 fn write_there<R: Files>(
     rt: &R,
     path: &str,
     file: &mut Option<R::File>,
-    to: SeekFrom,
+    to: Option<SeekFrom>,
     piece: &[u8],
 ) -> io::Result<()> {
     if file.is_none() {
@@ -65,7 +68,9 @@ fn write_there<R: Files>(
     }
     match file.as_mut() {
         Some(file) => {
-            file.seek(to)?;
+            if let Some(to) = to {
+                file.seek(to)?;
+            }
             file.write_all(piece)
         }
         None => Err(ErrorKind::NotFound.into()),
@@ -98,13 +103,21 @@ impl<'p, R: Files> Sink for FileSink<'p, R> {
     fn append(&mut self, piece: &[u8]) -> Result<(), Failed> {
         self.is_settled = false;
         if let Some(after) = self.appended.checked_add(piece.len() as u64) {
-            let end = SeekFrom::End(0);
+            let end = if self.at_end {
+                None
+            } else {
+                Some(SeekFrom::End(0))
+            };
             match write_there(self.rt, self.path, &mut self.file, end, piece) {
                 Ok(()) => {
                     self.appended = after;
+                    self.at_end = true;
                     return Ok(());
                 }
-                Err(reason) => self.reason = Some(reason),
+                Err(reason) => {
+                    self.at_end = false;
+                    self.reason = Some(reason);
+                }
             }
         }
         self.faults = self.faults.saturating_add(1);
@@ -113,7 +126,8 @@ impl<'p, R: Files> Sink for FileSink<'p, R> {
 
     fn overwrite(&mut self, place: u64, piece: &[u8]) -> Result<(), Failed> {
         self.is_settled = false;
-        let there = SeekFrom::Start(place);
+        self.at_end = false;
+        let there = Some(SeekFrom::Start(place));
         match write_there(self.rt, self.path, &mut self.file, there, piece) {
             Ok(()) => Ok(()),
             Err(reason) => {

@@ -15,6 +15,8 @@ pub struct FileSource<'p, R: Files> {
     path: &'p str,
     file: Option<R::File>,
     size: Option<u64>,
+    /// The place behind the last bytes that were read, from where the system reads on by itself.
+    next: Option<u64>,
     faults: u64,
     given: u64,
     reason: Option<io::Error>,
@@ -32,6 +34,7 @@ impl<'p, R: Files> FileSource<'p, R> {
             path,
             file: None,
             size: None,
+            next: None,
             faults: 0,
             given: 0,
             reason: None,
@@ -55,14 +58,20 @@ fn opened<R: Files>(rt: &R, path: &str, file: &mut Option<R::File>) -> io::Resul
     }
 }
 
-// Reads from place on. That nothing comes is a failure.
-fn read_some<F: Read + Seek>(file: &mut Option<F>, place: u64, out: &mut [u8]) -> io::Result<usize>
+// Reads from a place on, or on from where the last read ended. That nothing comes is a failure.
+fn read_some<F: Read + Seek>(
+    file: &mut Option<F>,
+    place: Option<u64>,
+    out: &mut [u8],
+) -> io::Result<usize>
     ensures { IfOk result (λ n. (0 < n) × (n ≤ length out.new)) }
 {
     let Some(file) = file.as_mut() else {
         return Err(ErrorKind::NotFound.into());
     };
-    file.seek(SeekFrom::Start(place))?;
+    if let Some(place) = place {
+        file.seek(SeekFrom::Start(place))?;
+    }
     let count = file.read(out)?;
     if count == 0 {
         Err(io::Error::new(ErrorKind::UnexpectedEof, "ends below its size"))
@@ -113,12 +122,19 @@ impl<'p, R: Files> Source for FileSource<'p, R> {
             return Ok(0);
         }
         let want = left.min(out.len() as u64) as usize;
-        match read_some(&mut self.file, place, &mut out[..want]) {
+        let elsewhere = if self.next == Some(place) {
+            None
+        } else {
+            Some(place)
+        };
+        match read_some(&mut self.file, elsewhere, &mut out[..want]) {
             Ok(count) => {
+                self.next = place.checked_add(count as u64);
                 self.given = self.given.saturating_add(count as u64);
                 Ok(count)
             }
             Err(reason) => {
+                self.next = None;
                 self.reason = Some(reason);
                 self.faults = self.faults.saturating_add(1);
                 Err(Failed)
