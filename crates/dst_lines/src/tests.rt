@@ -3,6 +3,7 @@ use super::*;
 use dsdiff_spec::FileFault;
 use dst_spec::{FrameFault, Reason};
 use std::process::Abort;
+use std::test::Fail;
 
 fn assert_lines(rt: &impl Abort, cases: &[(lines::Line, &str)]) {
     for (line, text) in cases {
@@ -93,4 +94,82 @@ fn lines_of_what_is_done_are_those_of_reports(rt: HostRuntime) {
         (lines::with_bytes("sound ", 4705), "sound 4705 bytes\n"),
     ];
     assert_lines(&rt, &cases);
+}
+
+const FILE_FAULTS: [FileFault; 33] = [
+    FileFault::NotForm,
+    FileFault::FormType,
+    FileFault::Overrun { place: 110 },
+    FileFault::Version,
+    FileFault::PropMissing,
+    FileFault::PropTwice,
+    FileFault::PropType,
+    FileFault::PropTooLong,
+    FileFault::Rate,
+    FileFault::Channels,
+    FileFault::Compression,
+    FileFault::SoundMissing,
+    FileFault::SoundTwice,
+    FileFault::SoundUneven,
+    FileFault::FrameRate,
+    FileFault::CountDiffers { count: 2, found: 1 },
+    FileFault::FrameTooLong {
+        frame: 3,
+        length: 9411,
+    },
+    FileFault::TooManyFrames,
+    FileFault::TooManyChunks,
+    FileFault::NotPlain,
+    FileFault::KeptBad,
+    FileFault::Range {
+        asked: 5,
+        frames: 4,
+    },
+    FileFault::IndexMissing,
+    FileFault::IndexBad { entry: 6 },
+    FileFault::FormTooLarge,
+    FileFault::CodedChunk { place: 126 },
+    FileFault::NotCoded,
+    FileFault::TailTooLong { length: 65_537 },
+    FileFault::DsfForm,
+    FileFault::DsfFormat,
+    FileFault::DsfCount {
+        samples: 12,
+        size: 11,
+    },
+    FileFault::DsfKeptBad,
+    FileFault::RangePast { end: 8, groups: 7 },
+];
+
+const REASONS: [Reason; 10] = [
+    Reason::Truncated,
+    Reason::PlainStuffing,
+    Reason::MultiSegment,
+    Reason::MapSkips,
+    Reason::MethodReserved,
+    Reason::TableTooShort,
+    Reason::CoefRange,
+    Reason::ProbRange,
+    Reason::FirstCodeBit,
+    Reason::CodeRange,
+];
+
+#[test]
+fn faults_show_as_reports_have_them(rt: HostRuntime) -> Result<(), Fail> {
+    let alloc = rt.alloc();
+    for fault in &FILE_FAULTS {
+        let shown = format!(in alloc; "file refused: {fault}\n")?;
+        let line = lines::file_refused(*fault);
+        assert_eq!(rt; shown.as_str(), line.as_str());
+    }
+    for reason in &REASONS {
+        let fault = FrameFault {
+            reason: *reason,
+            bit: 40,
+        };
+        let shown = format!(in alloc; "frame 9 refused: {fault}\n")?;
+        let line = lines::frame_refused(9, fault);
+        assert_eq!(rt; shown.as_str(), line.as_str());
+    }
+    Ok(())
 }
