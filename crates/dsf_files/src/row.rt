@@ -133,6 +133,20 @@ pub(crate) fn fill_row<S: Source>(
     }
 }
 
+// The bytes of sound in a row of two channels from an octet of each on, in pairs.
+fn copy_pairs(row: &[u8], octet: usize, out: &mut [u8])
+    requires long { length row.now ≡ 8192 }
+    requires even { length out.old % 2 ≡ 0 }
+    requires inside { octet + length out.old / 2 ≤ 4096 }
+    ensures long { length out.new ≡ length out.old }
+    ensures sound { (k : ℕ) → k < length out.new → slice_index out.new k ≡ slice_index row.now (4096 * (k % 2) + (octet + k / 2)) }
+{
+    for pair in 0..out.len() / 2 {
+        out[2 * pair] = row[octet + pair];
+        out[2 * pair + 1] = row[4096 + (octet + pair)];
+    }
+}
+
 // The bytes of sound in a row from a place on, the channels' bytes in turn.
 pub(crate) fn copy_sound(row: &[u8], channels: usize, place: usize, out: &mut [u8])
     requires channels { 1 ≤ channels }
@@ -142,6 +156,10 @@ pub(crate) fn copy_sound(row: &[u8], channels: usize, place: usize, out: &mut [u
     ensures long { length out.new ≡ length out.old }
     ensures sound { (k : ℕ) → k < length out.new → slice_index out.new k ≡ slice_index row.now (4096 * ((place + k) % channels) + (place + k) / channels) }
 {
+    if channels == 2 && place % 2 == 0 && out.len() % 2 == 0 {
+        copy_pairs(row, place / 2, out);
+        return;
+    }
     let mut channel = place % channels;
     let mut octet = place / channels;
     for byte in out.iter_mut() {
