@@ -5,6 +5,7 @@ use Rattle.std.specs.List.{range_with_len}
 use Rattle.std.proofs.Math.Nat.{div-add-mod, lt-div-mul-add, div-mul-le_self, le-div_iff_mul-le}
 use Rattle.std.proofs.lemmas.Nat.{div-mul-add}
 use Rattle.std.proofs.lemmas.Bool.{ne_eqb, cases_lt}
+use Rattle.std.proofs.lemmas.List.Sums.{sum_by-cons}
 use Rattle.dsdiff_spec.specs.Bytes.{bytes_at, between}
 use Rattle.dsdiff_spec.specs.Ranges.{touched}
 use Rattle.dsdiff_spec.proofs.Sizes.{between-joined}
@@ -127,6 +128,9 @@ bytes_within sound n (suc most) a b some order le = elim (cases_lt a b) [
 pub bytes_are : (sound : List ℕ) (n a b : ℕ) → 0 < n → a ≤ b → bytes_of sound (parts_between n a b) ≡ between sound a b
 bytes_are sound n a b some order = bytes_within sound n (b - a) a b some order (omega arith)
 
+pub counts_first : (p : Part) (ps : List Part) → counts_of (p ∷ ps) ≡ p.count + counts_of ps
+counts_first p ps = sum_by-cons (λ (n : ℕ). n) p.count (map (λ (q : Part). q.count) ps)
+
 count_within : (n most a b : ℕ) → 0 < n → a ≤ b → b - a ≤ most → counts_of (parts_between n a b) ≡ b - a
 count_within n zero a b some order le =
     let same : a ≡ b = omega arith in
@@ -139,7 +143,8 @@ count_within n (suc most) a b some order le = elim (cases_lt a b) [
       let m = first_count n a b in
       let fits = first_fits n a b some h in
       let rest = count_within n most (a + m) b some fits.1 (omega (arith, fits.0)) in
-      ap counts_of (first_part n a b some h) ∙ omega (arith, rest, fits.1)
+      let both : counts_of (part (a / n) a m ∷ parts_between n (a + m) b) ≡ m + counts_of (parts_between n (a + m) b) = counts_first (part (a / n) a m) (parts_between n (a + m) b) in
+      ap counts_of (first_part n a b some h) ∙ both ∙ omega (arith, rest, fits.1)
 ]
 
 pub count_is : (n a b : ℕ) → 0 < n → a ≤ b → counts_of (parts_between n a b) ≡ b - a

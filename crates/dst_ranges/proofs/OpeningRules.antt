@@ -55,12 +55,14 @@ pair_inside form p some none =
 abbrev then_first : Option FileFault → Option FileFault → Option FileFault
 then_first o later = elim o [ Some y ↦ Some y | None ↦ later ]
 
+-- none of them is past it where the first isn't and none of the others is
+both_inside : (first later : Option FileFault) → then_first first later ≡ None → (first ≡ None) × (later ≡ None)
+both_inside (Some fault) later e = absurd cc
+both_inside None later e = (refl, e)
+
 pub all_inside : (form : Form) (pairs : List (ℕ × ℕ)) → 0 < form.channels → first_some (past_fault form) pairs ≡ None →
     AllByRecursion (λ p. (p.0 + p.1) * form.channels ≤ size_of_sound form) pairs
 all_inside form [] some none = tt
-all_inside form (p ∷ ps) some none = go (past_fault form p) refl none
-  where
-    go : (o : Option FileFault) → past_fault form p ≡ o → then_first o (first_some (past_fault form) ps) ≡ None →
-        AllByRecursion (λ p. (p.0 + p.1) * form.channels ≤ size_of_sound form) (p ∷ ps)
-    go (Some fault) is e = absurd cc
-    go None is e = (pair_inside form p some is, all_inside form ps some e)
+all_inside form (p ∷ ps) some none =
+    let both = both_inside (past_fault form p) (first_some (past_fault form) ps) none in
+    (pair_inside form p some both.0, all_inside form ps some both.1)

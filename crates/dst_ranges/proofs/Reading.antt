@@ -120,7 +120,7 @@ stopped_before fault r xs ys bytes old new room s file form sound told keeps of 
 
 -- it stops in some parts, behind some and in front of others
 pub stopped_among : (fault : DecodeFault) (r r' : Reader) (xs ys zs : List Part) (bytes : Option (List ℕ)) (g g' : ℕ) (old mid new : Option (List ℕ)) (room half : Option ℕ) →
-    Wrote r r' xs bytes g g' old mid room half → Stopped r' ys fault bytes mid new half → Stopped r (xs ++ ys ++ zs) fault bytes old new room
+    Wrote r r' xs bytes g g' old mid room half → Stopped r' ys fault bytes mid new half → Stopped r (xs ++ (ys ++ zs)) fault bytes old new room
 stopped_among fault r r' xs ys zs bytes g g' old mid new room half a s =
     stopped_behind fault r r' xs (ys ++ zs) bytes g g' old mid new room half a (stopped_before fault r' ys zs bytes mid new half s)
 

@@ -1,10 +1,11 @@
 -- Wanted frames: those of parts that are read aren't refused, and how far the output has come in front of the first one that is.
-use Rattle.std.proofs.Common.{◌≡◌, ℕ, zero, suc, ◌+◌, ◌*◌, ◌==◌, false, true, List, [], ◌∷◌, ◌++◌, length, map, take, refl, sym, ap, ap₂, subst, ◌∙◌, arith, eq-eqb}
+use Rattle.std.proofs.Common.{◌≡◌, ℕ, zero, suc, ◌+◌, ◌*◌, ◌==◌, ◌<◌, false, true, List, [], ◌∷◌, ◌++◌, length, map, take, refl, sym, ap, ap₂, subst, ◌∙◌, arith, eq-eqb}
 use Rattle.std.specs.Prelude.{sum, if◌then◌else◌}
 use Rattle.std.specs.List.{AllByRecursion}
 use Rattle.std.proofs.Math.Seq.{take-append-add}
 use Rattle.std.proofs.lemmas.Bool.{ne_eqb}
 use Rattle.std.proofs.lemmas.List.{map-append, length-map}
+use Rattle.std.proofs.lemmas.List.Sums.{sum_by-cons}
 use Rattle.dst_spec.specs.Sample.{IsShape}
 use Rattle.dst_spec.specs.Means.{Means}
 use Rattle.dst_spec.specs.Offends.{Offends}
@@ -16,6 +17,7 @@ use Rattle.dsdiff_spec.specs.Outcome.{nth_frame, NoneRefused}
 use Rattle.dsdiff_spec.specs.Ranges.{Want, wants, range_of, range_before, place_of}
 use Rattle.dst_ranges.specs.Parts.{Part, parts_of, counts_of, bytes_of}
 use Rattle.dst_ranges.specs.Reading.{AreRead}
+use Rattle.dst_ranges.proofs.Geometry.{counts_first}
 use Rattle.dst_ranges.proofs.Asking.{want_of, wants_are, range_is, bytes_append}
 
 -- the parts of pairs in a form
@@ -63,7 +65,10 @@ place_first k w ws e = ap (λ b. if b then 0 else 1 + place_of k ws) (eq-eqb w.f
 -- ---- the output in front of a want behind some parts that are read
 sum_of_wants : (xs : List Part) (ws : List Want) → sum (map (λ (w : Want). w.bytes) (map want_of xs ++ ws)) ≡ counts_of xs + sum (map (λ (w : Want). w.bytes) ws)
 sum_of_wants [] ws = omega arith
-sum_of_wants (x ∷ xs) ws = omega (arith, sum_of_wants xs ws)
+sum_of_wants (x ∷ xs) ws =
+    let here : sum (map (λ (w : Want). w.bytes) (map want_of (x ∷ xs) ++ ws)) ≡ x.count + sum (map (λ (w : Want). w.bytes) (map want_of xs ++ ws)) =
+    sum_by-cons (λ (n : ℕ). n) x.count (map (λ (w : Want). w.bytes) (map want_of xs ++ ws)) in
+    omega (arith, sum_of_wants xs ws, here, counts_first x xs)
 
 abbrev pub counts_in : ℕ → List Part → ℕ
 counts_in j ys = sum (map (λ (w : Want). w.bytes) (take j (map want_of ys)))

@@ -1,7 +1,7 @@
 -- What is opened for parts of the sound of a file.
-use Rattle.std.specs.Prelude.{◌≡◌, ℕ, ◌+◌, ◌*◌, ◌≤◌, List, [], length, None}
+use Rattle.std.specs.Prelude.{◌≡◌, ℕ, ◌+◌, ◌*◌, ◌<◌, ◌≤◌, List, [], length, None}
 use Rattle.std.specs.List.{AllByRecursion}
-use Rattle.dst_spec.specs.Sample.{sound_bytes}
+use Rattle.dst_spec.specs.Sample.{IsShape, sound_bytes}
 use Rattle.dsdiff_spec.specs.Rules.{accepted}
 use Rattle.dsdiff_spec.specs.Refusal.{refusal}
 use Rattle.dsdiff_spec.specs.Words as words
@@ -15,6 +15,8 @@ AreInside r c pairs = AllByRecursion (λ p. (p.0 + p.1) * c ≤ r.size) pairs
 -- a reader that keeps nothing yet, with room for sixteen frames, and a buffer for the sound of one frame
 pub record IsReady (pairs : List (ℕ × ℕ)) (o : OpenedParts) : Type 0 where
   pub shape_is : o.channels ≡ o.reader.shape
+  pub lawful : IsShape o.reader.shape
+  pub some : 0 < sound_bytes o.reader.shape
   pub buffer_is : length o.buffer.items ≡ sound_bytes o.reader.shape
   pub capacity_is : o.reader.capacity ≡ 16
   pub kept_is : o.reader.kept ≡ []
