@@ -11,13 +11,13 @@ use Rattle.dst_words.specs.RowWords.{of_settings, cut_words, make_words, span_in
 use Rattle.dst_words.proofs.Options.{or_none, set_behind}
 
 -- the numbers of one slot in front of those of the others
-abbrev then_slot : Option (List ℕ) → Option (List ℕ × List Word) → Option (List ℕ × List Word)
+abbrev pub then_slot : Option (List ℕ) → Option (List ℕ × List Word) → Option (List ℕ × List Word)
 then_slot o r = elim o [ None ↦ None | Some ns ↦ option_map (λ r. (ns ++ r.0, r.1)) r ]
 
-abbrev no_number : Bool → Option (List ℕ)
+abbrev pub no_number : Bool → Option (List ℕ)
 no_number b = if b then Some [] else None
 
-abbrev a_number : Option ℕ → Option (List ℕ)
+abbrev pub a_number : Option ℕ → Option (List ℕ)
 a_number o = option_map (λ n. n ∷ []) o
 
 abbrev behind : (List ℕ → List Word → Option Task) → Option (List ℕ × List Word) → Option Task
@@ -126,7 +126,7 @@ abbrev slots_read : Option ℕ → Bool → Option ℕ → Option ℕ → List W
 slots_read s place frames count options =
     then_slot (a_number s) (then_slot (no_number place) (then_slot (a_number frames) (then_slot (a_number count) (Some ([], options)))))
 
-abbrev or_else : Option Task → Option Task → Option Task
+abbrev pub or_else : Option Task → Option Task → Option Task
 or_else a b = elim a [ Some t ↦ Some t | None ↦ b ]
 
 abbrev made_or_run : Option ℕ → (is_file is_run : Bool) → (most_made most_run count : Option ℕ) → List Word → Option Task

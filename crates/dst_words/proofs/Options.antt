@@ -80,7 +80,7 @@ task_of_coding at words = go (read_settings 2 (level ∷ workers ∷ []) words)
 abbrev pub or_none : Option Task → Option Task
 or_none t = elim t [ Some t ↦ Some t | None ↦ None ]
 
-same_or_none : (t : Option Task) → or_none t ≡ t
+pub same_or_none : (t : Option Task) → or_none t ≡ t
 same_or_none None = refl
 same_or_none (Some t) = refl
 

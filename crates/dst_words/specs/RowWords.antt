@@ -1,7 +1,8 @@
 -- What the words behind a row's name ask for.
 use Rattle.std.specs.Prelude.{ℕ, Bool, ◌&&◌, if◌then◌else◌, List, [], ◌∷◌, length, Option, Some, None, option_map}
 use Rattle.dsdiff_spec.specs.Bytes.{◌is◌, ◌above◌}
-use Rattle.dsdiff_spec.specs.Words.{Word, Command, Task, show, index, encode, decode, cut, check, make, make_run, encode_dsf, decode_dsf}
+use Rattle.dsdiff_spec.specs.Origin.{outside}
+use Rattle.dsdiff_spec.specs.Words.{Word, Command, Task, show, index, encode, decode, cut, check, make, make_run, encode_dsf, decode_dsf, range}
 use Rattle.words_spec.specs.Slots.{Slot, file, number, is_file_word, number_word}
 use Rattle.words_spec.specs.Slots.{number_within, read_slots, Setting, level, workers, by_index, rate, read_settings}
 use Rattle.words_spec.specs.Rows.{level_of, workers_of, multiple_of, is_set, frame_of, show_frame_of, task_with}
@@ -38,6 +39,18 @@ span_in first last = elim (number_word first) [
 unfoldable pub channels_in : Word → List Word → Option (ℕ × ℕ)
 channels_in count options = elim (number_within 1 6 count) [ None ↦ None | Some n ↦ option_map (λ m. (n, m)) (multiple_in options) ]
 
+-- pairs of numbers, 1 to 16 of them
+abbrev pub number_pairs : List Word → Option (List (ℕ × ℕ))
+number_pairs [] = Some []
+number_pairs (from ∷ []) = None
+number_pairs (from ∷ count ∷ words) = elim (number_word from) [
+  | None ↦ None
+  | Some a ↦ elim (number_word count) [ None ↦ None | Some n ↦ option_map (λ pairs. (a, n) ∷ pairs) (number_pairs words) ]
+]
+
+unfoldable pub pairs_in : List Word → Option (List (ℕ × ℕ))
+pairs_in words = if outside 1 32 (length words) then None else number_pairs words
+
 -- a command at which one works
 abbrev pub alone : Command → Task
 alone c = record { command = c; workers = 1 }
@@ -62,6 +75,13 @@ abbrev pub cut_words : List Word → Option Task
 cut_words (input ∷ output ∷ first ∷ last ∷ []) =
     if is_file_word input && is_file_word output then option_map cutting_task (span_in first last) else None
 cut_words words = None
+
+abbrev pub parts_task : List (ℕ × ℕ) → Task
+parts_task pairs = alone (range pairs)
+
+abbrev pub range_words : List Word → Option Task
+range_words (input ∷ output ∷ numbers) = if is_file_word input && is_file_word output then option_map parts_task (pairs_in numbers) else None
+range_words words = None
 
 abbrev pub decode_words : List Word → Option Task
 decode_words = of_slots (file ∷ file ∷ []) (λ n. of_settings (workers ∷ []) (λ o. Some decode))

@@ -4,6 +4,7 @@
 //! match read_words(&words) {
 //!     Some(Task { command: Command::Decode, workers }) => .., // `decode IN OUT --workers 4`: words 1 and 2 name the files
 //!     Some(Task { command: Command::Frame { frame, .. }, .. }) => .., // `frame IN OUT 3`
+//!     Some(Task { command: Command::Range { pairs }, .. }) => .., // `range IN OUT 0 588 7 1`, pairs.as_slice() being [(0, 588), (7, 1)]
 //!     None => .., // the words are no command
 //!     ..
 //! }
@@ -12,9 +13,11 @@
 //! Nothing here takes memory.
 #![tactic(auto)]
 
+mod pairs;
 mod slots;
 #[cfg(test)]
 mod tests;
 mod words;
 
+pub use pairs::Pairs;
 pub use words::{Command, Task, read_words};

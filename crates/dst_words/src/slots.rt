@@ -1,11 +1,12 @@
 // Words of a kind: the names of files, numbers, options.
-ghost use Rattle.std.specs.Prelude.{◌≡◌, ◌⊎◌, ◌≤◌, map, option_map, IfSome};
+ghost use Rattle.std.specs.Prelude.{◌≡◌, ◌⊎◌, ◌≤◌, length, map, option_map, IfSome};
 ghost use Rattle.std.specs.List.{list_all};
 ghost use Rattle.std.specs.String.{string_bytes};
 ghost use Rattle.words_spec.specs.Slots.{is_file_word, is_digit, is_numeral, number_word, number_within, allowed_value, level, workers, rate};
 ghost use Rattle.dst_words.specs.Commands.{channels_seen};
-ghost use Rattle.dst_words.specs.RowWords.{level_and_workers_in, workers_in, by_index_in, multiple_in, span_in, channels_in};
+ghost use Rattle.dst_words.specs.RowWords.{level_and_workers_in, workers_in, by_index_in, multiple_in, span_in, channels_in, pairs_in};
 
+use crate::pairs::Pairs;
 use dst_num::Channels;
 
 // Whether a word may name a file: it isn't empty and doesn't begin with a dash.
@@ -86,6 +87,25 @@ pub(crate) fn read_span(first: &String, last: &String) -> Option<(u32, u32)>
     } else {
         None
     }
+}
+
+// One to sixteen pairs of numbers.
+pub(crate) fn read_pairs(words: &[String]) -> Option<Pairs>
+    ensures pairs { result ≡ pairs_in (map string_bytes words.now) }
+    ensures least { IfSome result (λ pairs. 1 ≤ length pairs) }
+    ensures most { IfSome result (λ pairs. length pairs ≤ 16) }
+{
+    let count = words.len() / 2;
+    if count < 1 || count > 16 || words.len() != 2 * count {
+        return None;
+    }
+    let mut pairs = Pairs::new();
+    for k in 0..count {
+        let from = read_number(&words[2 * k])?;
+        let count = read_number(&words[2 * k + 1])?;
+        pairs.push(from, count);
+    }
+    Some(pairs)
 }
 
 // A number of workers, 1 to 16.

@@ -190,3 +190,41 @@ fn words_of_dsf_files_are_tasks(rt: HostRuntime) -> Result<(), Fail> {
     }
     Ok(())
 }
+
+fn range(parts: &[(u32, u32)]) -> Option<Task> {
+    let mut pairs = Pairs::new();
+    for (from, count) in parts {
+        if pairs.as_slice().len() == 16 {
+            return None;
+        }
+        pairs.push(*from, *count);
+    }
+    task(Command::Range { pairs }, 1)
+}
+
+#[test]
+fn words_of_parts_are_tasks(rt: HostRuntime) -> Result<(), Fail> {
+    let cases = [
+        ("range a b 0 4294967295", range(&[(0, u32::MAX)])),
+        ("range a b 588 1 7 0", range(&[(588, 1), (7, 0)])),
+        (
+            "range a b 1 2 1 2 1 2 1 2 1 2 1 2 1 2 1 2 1 2 1 2 1 2 1 2 1 2 1 2 1 2 1 2",
+            range(&[(1, 2); 16]),
+        ),
+        (
+            "range a b 1 2 1 2 1 2 1 2 1 2 1 2 1 2 1 2 1 2 1 2 1 2 1 2 1 2 1 2 1 2 1 2 1 2",
+            None,
+        ),
+        ("range a b", None),
+        ("range a b 0", None),
+        ("range a b 0 1 2", None),
+        ("range a b 0 4294967296", None),
+        ("range a b 0 -1", None),
+        ("range a 0 1", None),
+    ];
+    for (text, expected) in cases {
+        let words = split(rt.alloc(), text)?;
+        assert_eq!(rt; read_words(words.as_slice()), expected, "{text}");
+    }
+    Ok(())
+}

@@ -3,11 +3,12 @@ ghost use Rattle.std.specs.Prelude.{◌≡◌, map, option_map, IfSome};
 ghost use Rattle.std.specs.String.{string_bytes};
 ghost use Rattle.words_spec.specs.Rows.{task_of};
 ghost use Rattle.dst_words.specs.Commands.{task_seen, HasFewWorkers, HasLawfulNumbers};
-ghost use Rattle.dst_words.specs.RowWords.{encode_words, decode_words, cut_words, frame_words, check_words, show_words, index_words, make_words, encode_dsf_words, decode_dsf_words};
+ghost use Rattle.dst_words.specs.RowWords.{encode_words, decode_words, cut_words, frame_words, check_words, show_words, index_words, make_words, encode_dsf_words, decode_dsf_words, range_words};
 
+use crate::pairs::Pairs;
 use crate::slots::{
-    is_file_word, read_by_index, read_channels, read_level_and_workers, read_number, read_span,
-    read_within, read_workers,
+    is_file_word, read_by_index, read_channels, read_level_and_workers, read_number, read_pairs,
+    read_span, read_within, read_workers,
 };
 use dst_num::Channels;
 
@@ -61,6 +62,10 @@ pub enum Command {
     },
     /// `decode-dsf IN OUT [--workers W]`: decode a coded file to a DSF file.
     DecodeDsf,
+    /// `range IN OUT FROM COUNT ..`: write 1 to 16 parts of the sound, each from a group on so many groups.
+    Range {
+        pairs: Pairs,
+    },
 }
 
 /// What words ask for: a command, and how many workers, 1 to 16, work at it side by side; one unless words say otherwise. What
@@ -72,7 +77,6 @@ pub struct Task {
 }
 
 /// What these words ask for, or nothing where no command has them.
-#[tactic(auto, unfolding(words_spec::specs::Rows::task_of))]
 pub fn read_words(words: &[String]) -> Option<Task>
     ensures task { option_map task_seen result ≡ task_of (map string_bytes words.now) }
     ensures workers { IfSome result HasFewWorkers }
@@ -92,6 +96,7 @@ pub fn read_words(words: &[String]) -> Option<Task>
         "make" => read_make(rest),
         "encode-dsf" => read_encode_dsf(rest),
         "decode-dsf" => read_decode_dsf(rest),
+        "range" => read_range(rest),
         _ => None,
     }
 }
@@ -281,6 +286,21 @@ fn read_decode_dsf(words: &[String]) -> Option<Task>
         command: Command::DecodeDsf,
         workers,
     })
+}
+
+fn read_range(words: &[String]) -> Option<Task>
+    ensures task { option_map task_seen result ≡ range_words (map string_bytes words.now) }
+    ensures workers { IfSome result HasFewWorkers }
+    ensures numbers { IfSome result HasLawfulNumbers }
+{
+    let [input, output, numbers @ ..] = words else {
+        return None;
+    };
+    if !is_file_word(input) || !is_file_word(output) {
+        return None;
+    }
+    let pairs = read_pairs(numbers)?;
+    Some(by_one(Command::Range { pairs }))
 }
 
 // A command at which one works.

@@ -3,6 +3,7 @@ use Rattle.std.proofs.Common.{◌≡◌, ◌⊎◌, inl, inr, ℕ, ◌<◌, ◌�
 use Rattle.std.specs.Prelude.{IfOk}
 use Rattle.dst_spec.specs.declared.faults.FrameFault.{FrameFault}
 use Rattle.dst_streams.specs.Told.{and_then, IsCutShort}
+use Rattle.dst_spec.specs.Bits.{AreBytes}
 use Rattle.dst_spec.proofs.Lists.{get_all}
 use Rattle.dsdiff_spec.specs.declared.faults.FileFault.{FileFault}
 use Rattle.dsdiff_spec.specs.Lines.{Line, report, words_line, decoded_line}
@@ -11,6 +12,7 @@ use Rattle.dsdiff_spec.specs.Progress.{NotRefused}
 use Rattle.dsdiff_spec.specs.Outcome.{Answer, done, not_understood, frame_refused}
 use Rattle.dsdiff_spec.specs.Streams.{Front, ended, shape_in, stream}
 use Rattle.stream_spec.specs.Outcome.{StreamOutcome, OfStream, IsStopped, IsThrough, at_ending, stream_refused}
+use Rattle.stream_spec.proofs.OneOutcome.{one_outcome}
 use Rattle.dst_pipes.specs.Endings.{PipeEnds}
 use Rattle.dst_pipes.specs.declared.faults.Piped.{Piped}
 use Rattle.dst_pipes.specs.declared.faults.PipeFault.{PipeFault}
@@ -131,6 +133,26 @@ pub done_status : (words : List Word) (w : List ℕ) (o : Answer) → NoFrameIsR
 done_status words w o n p =
     is_done w n.front o n.has_front n.ends
     (λ k fault i. get_all (NotRefused decode (shape_in n.front.prop)) (stream w).frames i.k [] n.none i.within i.fault i.offends) p
+
+-- ---- a report that is sure to take the outcome's lines takes the line
+outcome_fits : (w : List ℕ) (o p : Answer) (n : ℕ) → AreBytes w → StreamOutcome w o → StreamOutcome w p → length (report o.lines) ≤ n → length (report p.lines) ≤ n
+outcome_fits w o p n bytes is_one is_other fits =
+    let one = one_outcome w bytes in
+    subst (λ (x : Answer). length (report x.lines) ≤ n) (one.2 o is_one ∙ sym (one.2 p is_other)) fits
+
+pub line_fits : (a : Result Piped PipeFault) (w : List ℕ) (old new : Option (List ℕ)) (room : Option ℕ) (o : Answer) (n : ℕ) → AreBytes w → PipeEnds a w old new room →
+    StreamOutcome w o → (a ≡ Err Read → ⊥) → (a ≡ Err Write → ⊥) → 7 ≤ n → length (report o.lines) ≤ n → length (report (line_of a ∷ [])) ≤ n
+line_fits (Ok s) w old new room o n bytes e is read write least fits = outcome_fits w o (done e.0 (decoded_line s.frames s.bytes ∷ [])) n bytes is e.1.0 fits
+line_fits (Err Read) w old new room o n bytes e is read write least fits = absurd (read refl)
+line_fits (Err Write) w old new room o n bytes e is read write least fits = absurd (write refl)
+line_fits (Err Memory) w old new room o n bytes e is read write least fits = least
+line_fits (Err (File fault)) w old new room o n bytes e is read write least fits = outcome_fits w o (stream_refused fault e.0) n bytes is e.1.0 fits
+line_fits (Err (Frame k fault)) w old new room o n bytes e is read write least fits = outcome_fits w o (frame_refused k fault e.0) n bytes is e.1.0 fits
+
+pub refused_words_fit : (b : Bool) (w : List ℕ) (o : Answer) (n : ℕ) → b ≡ false → OfWords b w o → length (report o.lines) ≤ n → length (report (words_line ∷ [])) ≤ n
+refused_words_fit b w o n e is fits =
+    let refused : o ≡ not_understood = subst (λ x. OfWords x w o) e is in
+    subst (λ (x : Answer). length (report x.lines) ≤ n) refused fits
 
 -- ---- what is reported
 pub reports_of : (status result : ℕ) (line bytes : List ℕ) (old new : Option (List ℕ)) → (result ≡ status) ⊎ (result ≡ 7) → (result ≡ status → new ≡ and_then old bytes) →

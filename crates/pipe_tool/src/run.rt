@@ -51,9 +51,13 @@ pub fn dst_pipe<F: Flow, K: Sink, R: Sink>(
     ensures read { result ≡ 2 → Rose (F.faults flow.old) (F.faults flow.new) }
     ensures write { result ≡ 3 → Rose (K.faults sink.old) (K.faults sink.new) }
     ensures reported { result ≡ 7 → Rose (R.faults report.old) (R.faults report.new) }
-    // A sink that is sure to take the outcome's bytes doesn't fail.
+    // A sink that is sure to take the outcome's bytes doesn't fail; nor does a report that is sure to take its lines and the line on memory, which has
+    // 7 bytes, where no other device failed.
     ensures sure_sink { (w : List ℕ) → F.left flow.old ≡ Some w → (o : Answer) → PipeOutcome (map string_bytes words.now) w o →
         (room : ℕ) → K.room sink.old ≡ Some room → length o.out ≤ room → result ≡ 3 → ⊥ }
+    ensures sure_report { (w : List ℕ) → F.left flow.old ≡ Some w → (o : Answer) → PipeOutcome (map string_bytes words.now) w o →
+        DidNotRise (F.faults flow.old) (F.faults flow.new) → DidNotRise (K.faults sink.old) (K.faults sink.new) →
+        (room : ℕ) → R.room report.old ≡ Some room → 7 ≤ room → length (reports.report o.lines) ≤ room → result ≡ 7 → ⊥ }
     // Want of memory comes before the first call on the sink.
     ensures memory { result ≡ 4 → sink.new ≡ sink.old }
     // A stream is refused by the fault that is reported, and so is a frame, behind what is written.

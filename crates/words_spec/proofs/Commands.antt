@@ -1,8 +1,9 @@
 -- Words of command lines: those that are a row, and those that aren't.
 use Rattle.std.proofs.Common.{◌≡◌, ℕ, List, [], ◌∷◌, map, refl, true, false, Some, None}
 use Rattle.std.specs.Prelude.{codes}
+use Rattle.std.specs.List.{range_with_len}
 use Prim.Native.String.{String}
-use Rattle.dsdiff_spec.specs.Words.{Word, Command, Task, encode, decode, cut, frame, check, show, show_frame, index, make, make_run, encode_dsf, decode_dsf}
+use Rattle.dsdiff_spec.specs.Words.{Word, Command, Task, encode, decode, cut, frame, check, show, show_frame, index, make, make_run, encode_dsf, decode_dsf, range}
 use Rattle.words_spec.specs.Rows.{task_of}
 
 abbrev pub words : List String → List Word
@@ -378,3 +379,55 @@ no_level_of_decoding_to_dsf = refl
 pub two_files_are_needed_of_dsf : task_of (words ("decode-dsf" ∷ "a" ∷ [])) ≡ None
 unfolding task_of
 two_files_are_needed_of_dsf = refl
+
+-- ---- parts of the sound
+pub one_part : task_of (words ("range" ∷ "a" ∷ "b" ∷ "0" ∷ "4294967295" ∷ [])) ≡ Some ((range ((0, 4294967295) ∷ [])) by 1)
+unfolding task_of
+one_part = refl
+
+pub two_parts : task_of (words ("range" ∷ "a" ∷ "b" ∷ "588" ∷ "1" ∷ "0" ∷ "2" ∷ [])) ≡ Some ((range ((588, 1) ∷ (0, 2) ∷ [])) by 1)
+unfolding task_of
+two_parts = refl
+
+abbrev fifteen : List String
+fifteen =
+    "0" ∷ "1" ∷ "1" ∷ "1" ∷ "2" ∷ "1" ∷ "3" ∷ "1" ∷ "4" ∷ "1" ∷ "5" ∷ "1" ∷ "6" ∷ "1" ∷ "7" ∷ "1"
+    ∷ "8" ∷ "1" ∷ "9" ∷ "1" ∷ "10" ∷ "1" ∷ "11" ∷ "1" ∷ "12" ∷ "1" ∷ "13" ∷ "1" ∷ "14" ∷ "1"
+    ∷ []
+
+pub sixteen_parts :
+    task_of (words ("range" ∷ "a" ∷ "b" ∷ "7" ∷ "0" ∷ fifteen)) ≡ Some ((range ((7, 0) ∷ map (λ k. (k, 1)) (range_with_len 0 15))) by 1)
+unfolding task_of
+sixteen_parts = refl
+
+pub seventeen_parts : task_of (words ("range" ∷ "a" ∷ "b" ∷ "7" ∷ "0" ∷ "7" ∷ "0" ∷ fifteen)) ≡ None
+unfolding task_of
+seventeen_parts = refl
+
+pub no_part : task_of (words ("range" ∷ "a" ∷ "b" ∷ [])) ≡ None
+unfolding task_of
+no_part = refl
+
+pub part_without_its_count : task_of (words ("range" ∷ "a" ∷ "b" ∷ "0" ∷ [])) ≡ None
+unfolding task_of
+part_without_its_count = refl
+
+pub last_part_without_its_count : task_of (words ("range" ∷ "a" ∷ "b" ∷ "7" ∷ fifteen)) ≡ None
+unfolding task_of
+last_part_without_its_count = refl
+
+pub count_past_the_greatest : task_of (words ("range" ∷ "a" ∷ "b" ∷ "0" ∷ "4294967296" ∷ [])) ≡ None
+unfolding task_of
+count_past_the_greatest = refl
+
+pub beginning_past_the_greatest : task_of (words ("range" ∷ "a" ∷ "b" ∷ "0" ∷ "1" ∷ "4294967296" ∷ "1" ∷ [])) ≡ None
+unfolding task_of
+beginning_past_the_greatest = refl
+
+pub two_files_are_needed_of_parts : task_of (words ("range" ∷ "a" ∷ "-b" ∷ "0" ∷ "1" ∷ [])) ≡ None
+unfolding task_of
+two_files_are_needed_of_parts = refl
+
+pub no_workers_of_parts : task_of (words ("range" ∷ "a" ∷ "b" ∷ "0" ∷ "1" ∷ "--workers" ∷ "2" ∷ [])) ≡ None
+unfolding task_of
+no_workers_of_parts = refl

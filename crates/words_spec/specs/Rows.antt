@@ -1,9 +1,10 @@
--- The rows of commands: name, words, options, and the command of their numbers and settings. Parts of the sound have none yet. How many
--- work at a command is an option of its row, and one does else.
-use Rattle.std.specs.Prelude.{ℕ, ◌/◌, Bool, ◌==◌, if◌then◌else◌, List, [], ◌∷◌, length, Option, Some, None, option_map}
+-- The rows of commands: name, words, options, and the command of their numbers and settings. How many work at a command is an option of
+-- its row, and one does else.
+use Rattle.std.specs.Prelude.{ℕ, ◌*◌, ◌/◌, Bool, ◌==◌, if◌then◌else◌, List, [], ◌∷◌, length, map, replicate, Option, Some, None, option_map}
+use Rattle.std.specs.List.{range_with_len}
 use Rattle.dsdiff_spec.specs.Bytes.{◌is◌, ◌above◌}
 use Rattle.dsdiff_spec.specs.Faults.{first_some}
-use Rattle.dsdiff_spec.specs.Words.{Word, Command, Task, encode, decode, cut, frame, check, show, show_frame, index, make, make_run, encode_dsf, decode_dsf}
+use Rattle.dsdiff_spec.specs.Words.{Word, Command, Task, encode, decode, cut, frame, check, show, show_frame, index, make, make_run, encode_dsf, decode_dsf, range}
 use Rattle.words_spec.specs.Slots.{Slot, file, number}
 use Rattle.words_spec.specs.Slots.{within, fixed, read_slots, Setting, level, workers, by_index, rate, read_settings, set_or}
 use Prim.Native.String.{String}
@@ -48,9 +49,18 @@ abbrev pub make_run_of : ℕ → List ℕ → Option Command
 make_run_of multiple (start ∷ frames ∷ channels ∷ []) = Some (make_run start frames channels multiple)
 make_run_of multiple numbers = None
 
+-- numbers in pairs
+abbrev pub pairs_of : List ℕ → List (ℕ × ℕ)
+pairs_of (from ∷ count ∷ numbers) = (from, count) ∷ pairs_of numbers
+pairs_of numbers = []
+
 -- the rows: name, words behind it, options, and the command of the numbers and settings that stand in them
 abbrev row : String → List Slot → List Setting → (List ℕ → List (Word × ℕ) → Option Command) → Row
 row name slots settings command = record { name = name; slots = slots; settings = settings; command = command }
+
+-- parts of the sound, which are so many pairs of numbers
+abbrev pub range_row : ℕ → Row
+range_row pairs = row "range" (file ∷ file ∷ replicate (2 * pairs) number) [] (λ n o. Some (range (pairs_of n)))
 
 abbrev pub rows : List Row
 rows =
@@ -66,7 +76,7 @@ rows =
     ∷ row "make" (number ∷ fixed "--run" ∷ within 0 100 ∷ within 1 6 ∷ []) (rate ∷ []) (λ n o. make_run_of (multiple_of o) n)
     ∷ row "encode-dsf" (file ∷ file ∷ []) (level ∷ workers ∷ []) (λ n o. Some (encode_dsf (level_of o)))
     ∷ row "decode-dsf" (file ∷ file ∷ []) (workers ∷ []) (λ n o. Some decode_dsf)
-    ∷ []
+    ∷ map range_row (range_with_len 1 16)
 
 -- the task of words that are a row
 abbrev pub task_with : List (Word × ℕ) → Command → Task

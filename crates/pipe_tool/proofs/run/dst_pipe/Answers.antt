@@ -1,10 +1,10 @@
-use Rattle.std.proofs.Common.{◌≡◌, ◌⊎◌, inr, [], ◌∷◌, sym, ap, subst, ◌∙◌, arith}
+use Rattle.std.proofs.Common.{◌≡◌, ◌⊎◌, ◌≤◌, inr, [], ◌∷◌, length, sym, ap, subst, ◌∙◌, arith}
 use Rattle.dst_streams.specs.Told.{and_then}
 use Rattle.dsdiff_spec.specs.Lines.{words_line, report}
 use Rattle.stream_spec.specs.Outcome.{stream_refused}
 use Rattle.dsdiff_spec.specs.Outcome.{frame_refused}
 use Rattle.pipe_tool.specs.Runs.{status_of, line_of, OfWords}
-use Rattle.pipe_tool.proofs.Runs.{ends_of, ends_by, file_of, frame_of, reports_of, not_seven, refused_words, headline_of, complete_of, with_words, by_status}
+use Rattle.pipe_tool.proofs.Runs.{ends_of, ends_by, file_of, frame_of, reports_of, not_seven, refused_words, refused_words_fit, line_fits, headline_of, complete_of, with_words, by_status}
 use Rattle.pipe_tool.proofs.run.dst_pipe.Goals as goal
 
 pub returns-then-not-is_pipe-clause-headline : goal.returns-then-not-is_pipe-clause-headline
@@ -27,6 +27,12 @@ returns-then-not-is_pipe-clause-ends g c w told =
       inr (inr (inr (refused_words _ w (g.K.Sink.written c.args.sink.now) b))),
       reports_of 1 c.report_line.result words_line _ _ _ c.report_line.ensures.reported c.report_line.ensures.whole c.report_line.ensures.cut_short c.words_not_understood.ensures,
     )
+
+pub returns-then-not-is_pipe-clause-sure_report : goal.returns-then-not-is_pipe-clause-sure_report
+returns-then-not-is_pipe-clause-sure_report g c w told o outcome flow sink n room least fits seven =
+    let b = sym c.is_pipe.ensures ∙ c.if-not-is_pipe.true in
+    c.report_line.ensures.sure seven n room
+    (subst (λ line. length line ≤ n) (sym c.words_not_understood.ensures) (refused_words_fit _ w o n b outcome fits))
 
 pub returns-clause-headline : goal.returns-clause-headline
 returns-clause-headline g c w told flow sink report_quiet =
@@ -61,6 +67,17 @@ returns-clause-ends g c w told =
           (subst (λ s. (c.report_line-2.result ≡ s) ⊎ (c.report_line-2.result ≡ 7)) status c.report_line-2.ensures.reported)
           (λ e. c.report_line-2.ensures.whole (e ∙ sym status)) c.report_line-2.ensures.cut_short c.told-status.ensures.line,
     )
+
+pub returns-clause-sure_report : goal.returns-clause-sure_report
+returns-clause-sure_report g c w told o outcome flow sink n room least fits seven =
+    let a = c.decode_pipe-answer in
+    let b = sym c.is_pipe.ensures ∙ c.if-not-is_pipe.false in
+    let ends = ends_of a.result _ _ _ _ a.ensures.decoded a.ensures.file a.ensures.frame a.ensures.cut_short a.ensures.sure
+    (λ e. ap g.K.Sink.written (a.ensures.memory e)) w told in
+    let own = subst (λ x. OfWords x w o) b outcome in
+    c.report_line-2.ensures.sure seven n room
+    (subst (λ line. length line ≤ n) (sym c.told-status.ensures.line)
+    (line_fits a.result w _ _ _ o n (g.met.F.Flow.told_are_bytes c.args.flow.now w told) ends own (λ e. flow (a.ensures.read e)) (λ e. sink (a.ensures.write e)) least fits))
 
 pub returns-clause-refused : goal.returns-clause-refused
 returns-clause-refused g c five w told =

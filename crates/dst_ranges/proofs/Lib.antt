@@ -1,0 +1,9 @@
+pub mod Geometry
+pub mod Asking
+pub mod Reading
+pub mod OnePart
+pub mod Underway
+pub mod Wants
+pub mod Outcomes
+pub mod OpeningRules
+pub mod Whole

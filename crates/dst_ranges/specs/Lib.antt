@@ -1,0 +1,5 @@
+pub mod Parts
+pub mod Asked
+pub mod Reading
+pub mod Opened
+pub mod Ending
