@@ -4,7 +4,6 @@ use Rattle.std.proofs.Common.{refl, sym, ap, subst, inl, inr, ◌⊎◌, ◌∙�
 use Rattle.std.specs.Prelude.{nat_lt, nat_le, if◌then◌else◌}
 use Rattle.std.proofs.lemmas.Bool.{and_parts, leb-true, ltb-false}
 use Rattle.std.proofs.lemmas.List.{drop_all, drop-drop, take-append-drop}
-use Rattle.std.proofs.Math.Seq.{take-add}
 use Rattle.dsdiff_spec.specs.declared.faults.FileFault.TheVariants.{Overrun, TooManyChunks}
 use Rattle.dsdiff_spec.specs.Bytes.{between, ◌is◌}
 use Rattle.dsdiff_spec.specs.Chunks.{Head, Found, head_at, fits, next_place, chunks_from, named}

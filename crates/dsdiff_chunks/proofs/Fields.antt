@@ -1,9 +1,9 @@
 -- The rules on a body of `PROP`, rule by rule, as its views show them.
-use Rattle.std.proofs.Common.{◌≡◌, ℕ, zero, suc, ◌+◌, ◌-◌, ◌*◌, ◌≤◌, false, List, [], ◌∷◌, length, take, drop, Option, Some, None, refl, sym, ap, ◌∙◌, arith}
+use Rattle.std.proofs.Common.{◌≡◌, ℕ, ◌+◌, ◌-◌, ◌*◌, ◌≤◌, false, List, [], ◌∷◌, length, take, drop, Option, Some, None, sym, ap, ◌∙◌, arith}
 use Rattle.std.proofs.Common.{add-zero, inl, inr}
 use Rattle.std.specs.Prelude.{not, ◌||◌, ◌==◌}
 use Rattle.std.proofs.lemmas.Bool.{cases_eq, cases_lt, eqb-true, lt-ltb, ltb-false, ne_eqb, not-false, or_parts}
-use Rattle.std.proofs.lemmas.List.{get_or-drop, length-drop, take_all, take-take}
+use Rattle.std.proofs.lemmas.List.{length-drop, take_all, take-take}
 use Rattle.byteorder.specs.Endian.{big_from, big_number}
 use Rattle.byteorder.specs.Numbers.{big_from-take}
 use Rattle.dsdiff_spec.specs.declared.faults.FileFault.{FileFault}

@@ -10,5 +10,5 @@ pub Stops-in : (inner outer : List ℕ → Option FileFault) (bytes there : Opti
     ((xs : List ℕ) (f : FileFault) → bytes ≡ Some xs → inner xs ≡ Some f → outer xs ≡ Some f) →
     Stops inner there later now fault → Stops outer bytes before now fault
 Stops-in inner outer bytes there before later now Read same le step stops = omega arith
-Stops-in inner outer bytes there before later now Memory same le step stops = tt
+Stops-in inner outer bytes there before later now (Memory refused) same le step stops = tt
 Stops-in inner outer bytes there before later now (File f) same le step stops = λ xs told. step xs f told (stops xs (same ∙ told))

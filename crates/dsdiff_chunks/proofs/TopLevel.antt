@@ -1,6 +1,6 @@
 -- The chunks of a form, one after the other.
 use Rattle.std.proofs.Common.{◌≡◌, ℕ, zero, suc, ◌<◌, ◌≤◌, List, [], ◌∷◌, ◌++◌, Bool, true, false, Some, None, refl, sym, ap, ◌∙◌, arith, append_assoc}
-use Rattle.std.specs.Prelude.{nat_lt, nat_le, if◌then◌else◌, ◌&&◌, not}
+use Rattle.std.specs.Prelude.{nat_le, if◌then◌else◌, not}
 use Rattle.std.specs.List.{Contains}
 use Rattle.std.proofs.lemmas.Bool.{le-ltb, lt-ltb, leb-true}
 use Rattle.dsdiff_spec.specs.Bytes.{◌is◌}

@@ -14,7 +14,7 @@ use Rattle.dsdiff_spec.specs.Parts.{frames_needed, behind_form, frame_count, fra
 use Rattle.dsdiff_spec.specs.Rules.{moved, type_fault, rate_fault, channels_fault, compression_fault, local_fault, room_fault, plain_fault, coded_fault}
 use Rattle.dsdiff_spec.specs.Rules.{is_frte, has_bad_origin}
 use Rattle.dsdiff_spec.specs.declared.faults.FileFault.{FileFault}
-use Rattle.dsdiff_spec.specs.declared.faults.FileFault.TheVariants.{Overrun, SoundUneven, TooManyFrames, CodedChunk, TailTooLong, FrameRate, KeptBad}
+use Rattle.dsdiff_spec.specs.declared.faults.FileFault.TheVariants.{SoundUneven, TooManyFrames, CodedChunk, TailTooLong, FrameRate, KeptBad}
 use Rattle.dsdiff_spec.proofs.Lawful.{moved_none}
 use Rattle.dsdiff_chunks.specs.Opening.{may_lack_pad, plain_parts_fault, space_fault, is_of_coded, coded_sound_fault, are_bad_origins}
 

@@ -1,5 +1,6 @@
 // What stands in a coded form: `FRTE`, and what `KEPT` says of the plain file.
-ghost use Rattle.std.specs.Prelude.{◌≡◌, ℕ, ◌+◌, ◌^◌, ◌≤◌, false, List, map, option_map, Some, None, IfOk, IfErr};
+ghost use Rattle.std.specs.Prelude.{◌≡◌, ℕ, ◌+◌, ◌^◌, ◌<◌, ◌≤◌, false, List, length, map, option_map, Some, None, Err, IfOk, IfErr};
+ghost use Rattle.std.specs.declared.alloc.AllocError.{AllocError};
 ghost use Rattle.dst_spec.specs.Sample.{sound_bytes};
 ghost use Rattle.dsdiff_spec.specs.Bytes.{number_at};
 ghost use Rattle.dsdiff_spec.specs.Chunks.{named, body_of};
@@ -52,6 +53,7 @@ pub fn read_frte<S: Source>(source: &mut S, sound: ChunkHead) -> Result<u32, Ope
     ensures count { IfOk result (λ n. (xs : List ℕ) → S.bytes source.old ≡ Some xs → n ≡ number_at xs (sound.place + 12 + 12) 4) }
     ensures accepted { IfOk result (λ _. (xs : List ℕ) → S.bytes source.old ≡ Some xs → coded_sound_fault xs (head_seen sound) ≡ None) }
     ensures stops { IfErr result (Stops (λ xs. coded_sound_fault xs (head_seen sound)) (S.bytes source.old) (S.faults source.old) (S.faults source.new)) }
+    ensures never_memory { (refused : AllocError) → result ≡ Err (OpenFault.Memory refused) → ⊥ }
 {
     if sound.size < 18 {
         return Err(OpenFault::File(FileFault::FrameRate));
@@ -92,7 +94,7 @@ fn read_one_origin<S: Source>(
     match read_origin(alloc, body.as_slice(), channels, frame_count) {
         Ok(Some(origin)) => Ok(origin),
         Ok(None) => Err(OpenFault::File(FileFault::KeptBad)),
-        Err(_) => Err(OpenFault::Memory),
+        Err(refused) => Err(OpenFault::Memory(refused)),
     }
 }
 
@@ -113,6 +115,8 @@ pub fn read_any_origin<S: Source>(
     ensures lawful { IfOk result (λ o. IsOriginIfAny channels.channels (sound_bytes channels) frame_count (option_map origin_seen o)) }
     ensures accepted { IfOk result (λ _. (xs : List ℕ) → S.bytes source.old ≡ Some xs → are_bad_origins channels.channels (sound_bytes channels) frame_count xs (named "KEPT" (map head_seen heads.now)) ≡ false) }
     ensures stops { IfErr result (Stops (λ xs. KeptBad when are_bad_origins channels.channels (sound_bytes channels) frame_count xs (named "KEPT" (map head_seen heads.now))) (S.bytes source.old) (S.faults source.old) (S.faults source.new)) }
+    // several are refused by name, before memory is taken
+    ensures several { 1 < length (named "KEPT" (map head_seen heads.now)) → result ≡ Err (OpenFault.File KeptBad) }
 {
     match find(heads, *b"KEPT") {
         Finding::Nothing => Ok(None),

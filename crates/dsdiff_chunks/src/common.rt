@@ -1,5 +1,6 @@
 // The chunks that each form has: `FVER`, `PROP` and the sound.
-ghost use Rattle.std.specs.Prelude.{◌≡◌, ℕ, ◌+◌, ◌^◌, ◌<◌, ◌≤◌, List, [], ◌∷◌, length, filter, map, Option, Some, None, IfOk, IfErr, OnOk};
+ghost use Rattle.std.specs.Prelude.{◌≡◌, ℕ, ◌+◌, ◌^◌, ◌<◌, ◌≤◌, List, [], ◌∷◌, length, filter, map, Option, Some, None, Err, IfOk, IfErr, OnOk};
+ghost use Rattle.std.specs.declared.alloc.AllocError.{AllocError};
 ghost use Rattle.dsdiff_spec.specs.Bytes.{bytes_at};
 ghost use Rattle.dsdiff_spec.specs.Chunks.{named, the_first};
 ghost use Rattle.dsdiff_spec.specs.Form.{shape_of};
@@ -57,8 +58,9 @@ pub fn read_octets<S: Source>(
     ensures read { IfOk result (λ octets. (xs : List ℕ) → S.bytes source.old ≡ Some xs → octets.items ≡ bytes_at xs from count) }
     ensures stops { IfErr result (λ fault. (rules : List ℕ → Option FileFault) → Stops rules (S.bytes source.old) (S.faults source.old) (S.faults source.new) fault) }
 {
-    let Ok(mut octets) = vec![in alloc; 0; count as usize] else {
-        return Err(OpenFault::Memory);
+    let mut octets = match vec![in alloc; 0; count as usize] {
+        Ok(octets) => octets,
+        Err(refused) => return Err(OpenFault::Memory(refused)),
     };
     match read_range(source, from, &mut octets) {
         Ok(()) => Ok(octets),
@@ -77,6 +79,7 @@ pub fn check_version<S: Source>(
     ensures source { Reads S.bytes S.known S.loan S.faults S.given source.old source.new 1 }
     ensures accepted { OnOk result ((xs : List ℕ) → S.bytes source.old ≡ Some xs → first_fault xs (the_first (map head_seen heads.now)) ≡ None) }
     ensures stops { IfErr result (Stops (λ xs. first_fault xs (the_first (map head_seen heads.now))) (S.bytes source.old) (S.faults source.old) (S.faults source.new)) }
+    ensures never_memory { (refused : AllocError) → result ≡ Err (OpenFault.Memory refused) → ⊥ }
 {
     if heads.is_empty() {
         return Err(OpenFault::File(FileFault::Version));
@@ -91,6 +94,7 @@ fn check_first<S: Source>(source: &mut S, head: ChunkHead, end: u64) -> Result<(
     ensures source { Reads S.bytes S.known S.loan S.faults S.given source.old source.new 1 }
     ensures accepted { OnOk result ((xs : List ℕ) → S.bytes source.old ≡ Some xs → first_fault xs (head_seen head) ≡ None) }
     ensures stops { IfErr result (Stops (λ xs. first_fault xs (head_seen head)) (S.bytes source.old) (S.faults source.old) (S.faults source.new)) }
+    ensures never_memory { (refused : AllocError) → result ≡ Err (OpenFault.Memory refused) → ⊥ }
 {
     if head.id != *b"FVER" || head.size != 4 {
         return Err(OpenFault::File(FileFault::Version));

@@ -8,13 +8,13 @@ use crate::build::{form_of, read_parts};
 use crate::form::Form;
 use dsdiff_spec::FileFault;
 use dst_streams::Source;
-use std::alloc::Global;
+use std::alloc::{AllocError, Global};
 
-/// Why a file wasn't opened: the source failed, memory was refused, or the file breaks a rule.
+/// Why a file wasn't opened: the source failed, memory was refused, with the allocator's refusal, or the file breaks a rule.
 #[derive(Clone, Copy, Debug, Drop, PartialEq, Eq)]
 pub enum OpenFault {
     Read,
-    Memory,
+    Memory(AllocError),
     File(FileFault),
 }
 

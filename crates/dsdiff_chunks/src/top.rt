@@ -1,6 +1,7 @@
 // The chunks of a form, head by head.
-ghost use Rattle.std.specs.Prelude.{◌≡◌, ℕ, ◌+◌, ◌^◌, ◌<◌, ◌≤◌, not, true, List, length, map, Some, None, IfOk, IfErr};
+ghost use Rattle.std.specs.Prelude.{◌≡◌, ℕ, ◌+◌, ◌^◌, ◌<◌, ◌≤◌, not, true, List, length, map, Some, None, Err, IfOk, IfErr, vec_capacity};
 ghost use Rattle.std.specs.List.{All};
+ghost use Rattle.std.specs.declared.alloc.AllocError.{AllocError};
 ghost use Rattle.dsdiff_spec.specs.Faults.{◌when◌};
 ghost use Rattle.dsdiff_spec.specs.Chunks.{chunks_from, head_at, fits};
 ghost use Rattle.dsdiff_spec.specs.declared.faults.FileFault.TheVariants.{Overrun};
@@ -76,6 +77,7 @@ pub fn read_extent<S: Source>(source: &mut S) -> Result<Extent, OpenFault>
     ensures within { IfOk result (λ extent. extent.end ≤ extent.size) }
     ensures told { IfOk result (λ extent. (xs : List ℕ) → S.bytes source.old ≡ Some xs → IsExtent xs extent.size extent.end) }
     ensures stops { IfErr result (Stops opening_fault (S.bytes source.old) (S.faults source.old) (S.faults source.new)) }
+    ensures never_memory { (refused : AllocError) → result ≡ Err (OpenFault.Memory refused) → ⊥ }
 {
     let Ok(size) = source.size() else {
         return Err(OpenFault::Read);
@@ -113,6 +115,7 @@ fn next_head<S: Source>(source: &mut S, place: u64, end: u64) -> Result<ChunkHea
     ensures fits { IfOk result (λ h. fits may_lack_pad end (head_seen h) ≡ true) }
     ensures head { IfOk result (λ h. (xs : List ℕ) → S.bytes source.old ≡ Some xs → head_at xs place ≡ head_seen h) }
     ensures stops { IfErr result (Stops (λ xs. Overrun place when not (fits may_lack_pad end (head_at xs place))) (S.bytes source.old) (S.faults source.old) (S.faults source.new)) }
+    ensures never_memory { (refused : AllocError) → result ≡ Err (OpenFault.Memory refused) → ⊥ }
 {
     if end - place < 12 {
         return Err(OpenFault::File(FileFault::Overrun { place }));
@@ -137,12 +140,16 @@ pub fn read_heads<S: Source>(
     requires known { (n : ℕ) × (S.known source.old ≡ Some n) × (end ≤ n) }
     ensures source { Reads S.bytes S.known S.loan S.faults S.given source.old source.new 12288 }
     ensures few { IfOk result (λ heads. length heads.items ≤ 1024) }
+    ensures room { IfOk result (λ heads. vec_capacity heads ≡ 1024) }
     ensures tiled { IfOk result (λ heads. TileTo end 16 (map head_seen heads.items)) }
     ensures whole { IfOk result (λ heads. All (λ h. fits may_lack_pad end h ≡ true) (map head_seen heads.items)) }
     ensures found { IfOk result (λ heads. (xs : List ℕ) → S.bytes source.old ≡ Some xs → chunks_from may_lack_pad xs end 1024 16 ≡ record { heads = map head_seen heads.items; fault = None }) }
     ensures stops { IfErr result (Stops (λ xs. (chunks_from may_lack_pad xs end 1024 16).fault) (S.bytes source.old) (S.faults source.old) (S.faults source.new)) }
 {
-    let mut heads = Vec::new(alloc);
+    let mut heads = match Vec::with_capacity(alloc, MOST_CHUNKS) {
+        Ok(heads) => heads,
+        Err(refused) => return Err(OpenFault::Memory(refused)),
+    };
     let mut place = 16;
     while place < end {
         if heads.len() == MOST_CHUNKS {
@@ -152,9 +159,7 @@ pub fn read_heads<S: Source>(
             Ok(head) => head,
             Err(fault) => return Err(fault),
         };
-        let Ok(()) = heads.push(head) else {
-            return Err(OpenFault::Memory);
-        };
+        heads.push_reserved(head);
         place += 12 + head.size + head.size % 2;
     }
     Ok(heads)

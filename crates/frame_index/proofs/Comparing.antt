@@ -3,17 +3,16 @@ use Rattle.std.proofs.Common.{◌≡◌, ℕ, zero, suc, ◌+◌, ◌<◌, Bool,
 use Rattle.std.proofs.Common.{arith, add-zero}
 use Rattle.std.specs.Prelude.{◌==◌, not}
 use Rattle.std.specs.List.{enumerate_from}
-use Rattle.std.proofs.lemmas.Bool.{eq-eqb, eqb-true, ne_eqb, and_from, not-false}
+use Rattle.std.proofs.lemmas.Bool.{eq-eqb, ne_eqb, and_from}
 use Rattle.std.proofs.lemmas.List.{length-map}
 use Rattle.dsdiff_spec.specs.Chunks.{Head}
 use Rattle.dsdiff_spec.specs.Faults.{◌when◌, ◌otherwise◌, first_some}
 use Rattle.dsdiff_spec.specs.Form.{Form}
-use Rattle.dsdiff_spec.specs.Walk.{Entry, entry, entry_of, entries, frame_fault, frame_heads, in_dst, walk, walk_fault, index_heads, has_index_of, indexed}
+use Rattle.dsdiff_spec.specs.Walk.{Entry, entry, entry_of, entries, frame_heads, walk, walk_fault, index_heads, has_index_of, indexed}
 use Rattle.dsdiff_spec.specs.Walk.{same_entry, check_index_fault}
 use Rattle.dsdiff_spec.specs.declared.faults.FileFault.{FileFault}
-use Rattle.dsdiff_spec.specs.declared.faults.FileFault.TheVariants.{CountDiffers, IndexMissing, IndexBad}
+use Rattle.dsdiff_spec.specs.declared.faults.FileFault.TheVariants.{IndexMissing, IndexBad}
 use Rattle.dsdiff_spec.proofs.CodedFiles.{count_is_right}
-use Rattle.dsdiff_spec.proofs.Lawful.{later_gives_none, when_not}
 use Rattle.frame_index.specs.Lookup.{IsRead, DifferFirstAt, index_fault}
 
 -- ---- a walk without a fault has found as many frames as are told

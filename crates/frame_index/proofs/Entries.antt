@@ -1,9 +1,7 @@
 -- Entries that are kept as bytes.
-use Rattle.std.proofs.Common.{◌≡◌, ℕ, zero, suc, ◌+◌, ◌*◌, ◌/◌, ◌<◌, ◌-◌, List, length, take, drop, refl, ap, ◌∙◌, lit<, arith, add-zero, zero-add}
+use Rattle.std.proofs.Common.{◌≡◌, ℕ, ◌*◌, ◌/◌, ◌<◌, List, length, ◌∙◌, lit<, zero-add}
 use Rattle.std.proofs.Math.Nat.{mul-div_cancel_left}
-use Rattle.std.proofs.lemmas.List.{get_or-drop, length-drop, take_all}
 use Rattle.std.proofs.lemmas.List.FromFn.{length-map-range_with_len, get_or-map-range_with_len}
-use Rattle.byteorder.specs.Endian.{big_from}
 use Rattle.dsdiff_spec.specs.Walk.{entry}
 use Rattle.frame_index.specs.Entries.{entries_in, entry_at}
 

@@ -11,5 +11,10 @@ entry_at bytes k = record { offset = number_at bytes (12 * k) 8; size = number_a
 abbrev pub entries_in : List ℕ → List Entry
 entries_in bytes = map (entry_at bytes) (range_with_len 0 (length bytes / 12))
 
+-- entries that are gathered in room for so many
+pub record Gathered : Type 0 where
+  pub entries : List Entry
+  pub room : ℕ
+
 abbrev pub entry_seen : kept.Entry → Entry
 entry_seen e = record { offset = e.offset; size = e.size }

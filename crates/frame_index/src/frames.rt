@@ -1,5 +1,6 @@
 // The walk of a coded form: where its frames stand.
-ghost use Rattle.std.specs.Prelude.{◌≡◌, ◌+◌, ◌*◌, ◌^◌, ◌<◌, ◌≤◌, ℕ, List, [], length, take, true, false, Some, None, Option, IfNone, IfOk, OnOk, Err, Ok};
+ghost use Rattle.std.specs.Prelude.{◌≡◌, ◌+◌, ◌*◌, ◌^◌, ◌<◌, ◌≤◌, ℕ, List, [], length, take, true, false, Some, None, Option, IfNone, IfOk, OnOk, Err, Ok, vec_capacity};
+ghost use Rattle.std.specs.declared.alloc.AllocError.{AllocError};
 ghost use Rattle.dst_streams.specs.Causes.{Rose};
 ghost use Rattle.dsdiff_spec.specs.Bytes.{◌is◌};
 ghost use Rattle.dsdiff_spec.specs.Chunks.{head_at, fits};
@@ -10,7 +11,7 @@ ghost use Rattle.dsdiff_chunks.specs.Seen.{head_seen};
 ghost use Rattle.frame_index.specs.Finding.{found_with};
 ghost use Rattle.frame_index.specs.Fitting.{IsIndexOf};
 
-use crate::index::Index;
+use crate::index::{Gathering, Index, room_for};
 use dsdiff_chunks::{ChunkHead, CodedForm, FileFault, OpenFault, read_head};
 use dst_streams::Source;
 use std::alloc::Global;
@@ -38,9 +39,9 @@ pub fn walk<S: Source>(alloc: Global, source: &mut S, form: &CodedForm) -> Resul
     ensures later { S.faults source.old ≤ S.faults source.new }
     ensures given { S.given source.new ≤ S.given source.old + 48000000 }
 {
-    match Index::with_room(alloc, form.frames) {
-        Ok(index) => walk_from(source, form, index),
-        Err(_) => Err(OpenFault::Memory),
+    match room_for(alloc, form.frames) {
+        Ok(room) => walk_from(source, form, room),
+        Err(refused) => Err(OpenFault::Memory(refused)),
     }
 }
 
@@ -59,6 +60,7 @@ fn next_head<S: Source>(source: &mut S, place: u64, end: u64) -> Result<ChunkHea
     ensures overrun { (fault : FileFault) → result ≡ Err (OpenFault.File fault) → fault ≡ FileFault.Overrun place }
     ensures passes { (fault : FileFault) → result ≡ Err (OpenFault.File fault) → (xs : List ℕ) → S.bytes source.old ≡ Some xs → fits (λ id. true) end (head_at xs place) ≡ false }
     ensures read { result ≡ Err OpenFault.Read → Rose (S.faults source.old) (S.faults source.new) }
+    ensures never_memory { (refused : AllocError) → result ≡ Err (OpenFault.Memory refused) → ⊥ }
 {
     if end - place < 12 {
         return Err(OpenFault::File(FileFault::Overrun { place }));
@@ -72,13 +74,10 @@ fn next_head<S: Source>(source: &mut S, place: u64, end: u64) -> Result<ChunkHea
     Ok(head)
 }
 
-// Walks the chunks, and has the entries of as many frames as the frame count says.
-fn walk_from<S: Source>(
-    source: &mut S,
-    form: &CodedForm,
-    entries: Index,
-) -> Result<Index, OpenFault>
-    requires none { entries ≡ [] }
+// Walks the chunks, and has the entries of as many frames as the frame count says, in room for so many. It takes no memory.
+fn walk_from<S: Source>(source: &mut S, form: &CodedForm, room: Vec<u8>) -> Result<Index, OpenFault>
+    requires none { room.items ≡ [] }
+    requires room { vec_capacity room ≡ 12 * form.now.frames }
     requires size { (n : ℕ) × (S.known source.old ≡ Some n) × (form.now.end ≤ n) }
     ensures bytes { S.bytes source.new ≡ S.bytes source.old }
     ensures loan { S.loan source.new ≡ S.loan source.old }
@@ -89,8 +88,9 @@ fn walk_from<S: Source>(
     ensures fits { IfOk result (λ i. IsIndexOf (coded_seen form.now) i) }
     ensures fault { (fault : FileFault) → result ≡ Err (OpenFault.File fault) → (xs : List ℕ) → S.bytes source.old ≡ Some xs → walks.walk xs (coded_seen form.now) ≡ Err fault }
     ensures read { result ≡ Err OpenFault.Read → Rose (S.faults source.old) (S.faults source.new) }
+    ensures never_memory { (refused : AllocError) → result ≡ Err (OpenFault.Memory refused) → ⊥ }
 {
-    let mut entries = entries;
+    let mut entries = Gathering::in_room(room, form.frames);
     let end = form.sound.place + 12 + form.sound.size;
     let mut place = form.sound.place + 12 + 18;
     let mut passed = 0;
@@ -105,7 +105,7 @@ fn walk_from<S: Source>(
         };
         frames = match pass_chunk(form, head, frames, &mut entries) {
             Ok(count) => count,
-            Err(fault) => return Err(fault),
+            Err(fault) => return Err(OpenFault::File(fault)),
         };
         passed += 1;
         place += 12 + head.size + head.size % 2;
@@ -116,7 +116,7 @@ fn walk_from<S: Source>(
             found: frames,
         }));
     }
-    Ok(entries)
+    Ok(entries.into_index())
 }
 
 // Passes the chunk behind so many frames: a frame has an entry where no more than the frame count are found. How many frames
@@ -125,25 +125,26 @@ fn pass_chunk(
     form: &CodedForm,
     head: ChunkHead,
     frames: u32,
-    entries: &mut Index,
-) -> Result<u32, OpenFault>
-    requires few { length entries.old ≤ frames }
+    entries: &mut Gathering,
+) -> Result<u32, FileFault>
+    requires few { length entries.old.entries ≤ frames }
+    requires room { entries.old.room ≡ form.now.frames }
     requires within { head.place + 12 + head.size < 2 ^ 64 }
     ensures count { IfOk result (λ n. (found : List walks.Entry) → length found ≡ frames → length (found_with (head_seen head) found) ≡ n) }
-    ensures kept { OnOk result ((found : List walks.Entry) → length found ≡ frames → entries.old ≡ take form.now.frames found → entries.new ≡ take form.now.frames (found_with (head_seen head) found)) }
+    ensures kept { OnOk result ((found : List walks.Entry) → length found ≡ frames → entries.old.entries ≡ take form.now.frames found → entries.new.entries ≡ take form.now.frames (found_with (head_seen head) found)) }
+    ensures room { entries.new.room ≡ entries.old.room }
     ensures faultless { OnOk result (((head_seen head).id is "DSTF") ≡ true → walks.frame_fault (coded_seen form.now) (frames, head_seen head) ≡ None) }
-    ensures frame { (fault : FileFault) → result ≡ Err (OpenFault.File fault) → ((head_seen head).id is "DSTF") ≡ true }
-    ensures fault { (fault : FileFault) → result ≡ Err (OpenFault.File fault) → walks.frame_fault (coded_seen form.now) (frames, head_seen head) ≡ Some fault }
-    ensures unread { result ≡ Err OpenFault.Read → ⊥ }
+    ensures frame { (fault : FileFault) → result ≡ Err fault → ((head_seen head).id is "DSTF") ≡ true }
+    ensures fault { (fault : FileFault) → result ≡ Err fault → walks.frame_fault (coded_seen form.now) (frames, head_seen head) ≡ Some fault }
 {
     if head.id != *b"DSTF" {
         return Ok(frames);
     }
     if let Some(fault) = frame_fault(form, head, frames) {
-        return Err(OpenFault::File(fault));
+        return Err(fault);
     }
-    if frames < form.frames && entries.push(head.place + 12, head.size as u32).is_err() {
-        return Err(OpenFault::Memory);
+    if frames < form.frames {
+        entries.push(head.place + 12, head.size as u32);
     }
     Ok(frames + 1)
 }

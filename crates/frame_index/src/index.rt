@@ -1,5 +1,5 @@
 // Entries of an index.
-ghost use Rattle.std.specs.Prelude.{◌≡◌, ◌+◌, ◌*◌, ◌<◌, ◌≤◌, ◌++◌, ◌∷◌, [], length, IfOk, OnOk, OnErr, IfSome, IfNone};
+ghost use Rattle.std.specs.Prelude.{◌≡◌, ◌+◌, ◌*◌, ◌<◌, ◌≤◌, ◌++◌, ◌∷◌, [], length, IfOk, IfSome, IfNone, vec_capacity};
 ghost use Rattle.byteorder.specs.Endian.{big_bytes};
 ghost use Rattle.dsdiff_spec.specs.Walk.{entry};
 ghost use Rattle.frame_index.specs.Entries.{entries_in, entry_at, entry_seen};
@@ -40,16 +40,6 @@ impl Model for Index {
 }
 
 impl Index {
-    // No frame, and room for so many.
-    pub(crate) fn with_room(alloc: Global, frames: u32) -> Result<Index, AllocError>
-        ensures { IfOk result (λ i. i ≡ []) }
-    {
-        Ok(Index {
-            bytes: Vec::with_capacity(alloc, 12 * frames as usize)?,
-            frames: 0,
-        })
-    }
-
     // The entries of bytes that have twelve for each frame.
     pub(crate) fn from_bytes(bytes: Vec<u8>, frames: u32) -> Index
         requires long { length bytes.items ≡ 12 * frames }
@@ -57,16 +47,6 @@ impl Index {
         ensures { result ≡ entries_in bytes.items }
     {
         Index { bytes, frames }
-    }
-
-    // One frame more, which isn't kept where memory is refused.
-    pub(crate) fn push(&mut self, offset: u64, size: u32) -> Result<(), AllocError>
-        requires { length self.old < 1000000 }
-        ensures { OnOk result (self.new ≡ self.old ++ record { offset = offset; size = size } ∷ []) }
-    {
-        push_bytes(&mut self.bytes, offset, size)?;
-        self.frames += 1;
-        Ok(())
     }
 
     /// How many frames there are.
@@ -83,6 +63,70 @@ impl Index {
         ensures { entry_seen result ≡ entry self.now k }
     {
         entry_in(&self.bytes, k as usize)
+    }
+}
+
+// Entries that are gathered, in room that was taken for so many of them.
+#[derive(Drop)]
+pub(crate) struct Gathering {
+    bytes: Vec<u8>,
+    frames: u32,
+    room: u32,
+}
+
+impl Model for Gathering {
+    ghost use Rattle.frame_index.specs.Entries.{Gathered};
+
+    ghost Value = { Gathered };
+
+    ghost use Rattle.std.specs.Prelude.{◌≡◌, ◌*◌, ◌≤◌, length, vec_capacity};
+    ghost use Rattle.frame_index.specs.Entries.{entries_in};
+
+    ghost view = { λ g. record { entries = entries_in g.bytes.items; room = g.room } };
+
+    ghost invariant = { λ g. (length g.bytes.items ≡ 12 * g.frames) × (g.frames ≤ 1000000) × (g.frames ≤ g.room) × (12 * g.room ≤ vec_capacity g.bytes) };
+}
+
+// Room for so many entries, and no more.
+pub(crate) fn room_for(alloc: Global, frames: u32) -> Result<Vec<u8>, AllocError>
+    ensures none { IfOk result (λ room. room.items ≡ []) }
+    ensures exact { IfOk result (λ room. vec_capacity room ≡ 12 * frames) }
+{
+    Vec::with_capacity(alloc, 12 * frames as usize)
+}
+
+impl Gathering {
+    // No entry yet, in the room of so many.
+    pub(crate) fn in_room(room: Vec<u8>, frames: u32) -> Gathering
+        requires none { room.items ≡ [] }
+        requires room { vec_capacity room ≡ 12 * frames }
+        ensures { result ≡ record { entries = []; room = frames } }
+    {
+        Gathering {
+            bytes: room,
+            frames: 0,
+            room: frames,
+        }
+    }
+
+    // One entry more.
+    pub(crate) fn push(&mut self, offset: u64, size: u32)
+        requires few { length self.old.entries < 1000000 }
+        requires room { length self.old.entries < self.old.room }
+        ensures { self.new ≡ record { entries = self.old.entries ++ record { offset = offset; size = size } ∷ []; room = self.old.room } }
+    {
+        push_bytes(&mut self.bytes, offset, size);
+        self.frames += 1;
+    }
+
+    // The entries as an index.
+    pub(crate) fn into_index(self) -> Index
+        ensures { result ≡ self.entries }
+    {
+        Index {
+            bytes: self.bytes,
+            frames: self.frames,
+        }
     }
 }
 
@@ -112,13 +156,16 @@ pub(crate) fn entry_in(bytes: &[u8], k: usize) -> Entry
     }
 }
 
-// The twelve bytes of an entry at the end of others.
-fn push_bytes(bytes: &mut Vec<u8>, offset: u64, size: u32) -> Result<(), AllocError>
-    ensures pushed { OnOk result (bytes.new.items ≡ bytes.old.items ++ big_bytes 8 offset ++ big_bytes 4 size) }
-    ensures kept { OnErr result (bytes.new.items ≡ bytes.old.items) }
+// The twelve bytes of an entry at the end of others, where there is room for them.
+fn push_bytes(bytes: &mut Vec<u8>, offset: u64, size: u32)
+    requires room { length bytes.old.items + 12 ≤ vec_capacity bytes.old }
+    ensures pushed { bytes.new.items ≡ bytes.old.items ++ big_bytes 8 offset ++ big_bytes 4 size }
+    ensures capacity { vec_capacity bytes.old ≤ vec_capacity bytes.new }
 {
     let mut entry = [0; 12];
     BigEndian::write_u64(&mut entry, offset);
     BigEndian::write_u32(&mut entry[8..], size);
-    bytes.extend_from_slice(&entry)
+    let Ok(()) = bytes.extend_from_slice(&entry) else {
+        unreachable!()
+    };
 }

@@ -1,5 +1,6 @@
 // Frames by the index of a form.
 ghost use Rattle.std.specs.Prelude.{◌≡◌, ◌+◌, ◌*◌, ◌^◌, ◌<◌, ◌≤◌, ℕ, List, [], ◌∷◌, length, map, true, false, ◌&&◌, ◌==◌, Some, None, Option, IfSome, IfNone, IfOk, OnOk, Err, Ok};
+ghost use Rattle.std.specs.declared.alloc.AllocError.{AllocError};
 ghost use Rattle.dst_streams.specs.Causes.{Rose, HasCause};
 ghost use Rattle.dsdiff_spec.specs.Bytes.{bytes_at, number_at, ◌is◌};
 ghost use Rattle.dsdiff_spec.specs.Chunks.{Head, named};
@@ -72,7 +73,7 @@ pub fn locate_by_index<S: Source>(
     ensures inside { IfOk result (λ e. IsInside (coded_seen form.now) (entry_seen e)) }
     ensures fault { (fault : FileFault) → result ≡ Err (OpenFault.File fault) → (xs : List ℕ) → S.bytes source.old ≡ Some xs → walks.by_index_fault xs (coded_seen form.now) k ≡ Some fault }
     ensures read { result ≡ Err OpenFault.Read → Rose (S.faults source.old) (S.faults source.new) }
-    ensures memory { result ≡ Err OpenFault.Memory → ⊥ }
+    ensures never_memory { (refused : AllocError) → result ≡ Err (OpenFault.Memory refused) → ⊥ }
     ensures later { S.faults source.old ≤ S.faults source.new }
     ensures given { S.given source.new ≤ S.given source.old + 24 }
 {
@@ -145,8 +146,9 @@ fn read_entries<S: Source>(
     ensures faultless { (fault : FileFault) → result ≡ Err (OpenFault.File fault) → ⊥ }
     ensures read { result ≡ Err OpenFault.Read → Rose (S.faults source.old) (S.faults source.new) }
 {
-    let Ok(mut bytes) = vec![in alloc; 0; 12 * count as usize] else {
-        return Err(OpenFault::Memory);
+    let mut bytes = match vec![in alloc; 0; 12 * count as usize] {
+        Ok(bytes) => bytes,
+        Err(refused) => return Err(OpenFault::Memory(refused)),
     };
     match read_range(source, place, &mut bytes) {
         Ok(()) => Ok(bytes),

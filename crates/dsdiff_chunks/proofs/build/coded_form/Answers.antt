@@ -1,5 +1,5 @@
 -- The rules on a coded form speak of its parts, and where none fails the form is as they tell.
-use Rattle.std.proofs.Common.{◌≡◌, ℕ, ◌+◌, ◌≤◌, List, [], length, map, Ok, refl, sym, ap, ◌∙◌, subst, arith}
+use Rattle.std.proofs.Common.{◌≡◌, ℕ, ◌+◌, ◌≤◌, List, length, map, Ok, refl, sym, ap, ◌∙◌, subst, arith}
 use Rattle.std.specs.Prelude.{filter, if◌then◌else◌, option_map}
 use Rattle.dst_spec.specs.Sample.{sound_bytes}
 use Rattle.dsdiff_spec.specs.Bytes.{◌is◌}
@@ -16,7 +16,7 @@ use Rattle.dsdiff_chunks.specs.Prepared.{heads_of}
 use Rattle.dsdiff_chunks.specs.Kinds.{kind_seen}
 use Rattle.dsdiff_chunks.specs.Seen.{head_seen, origin_seen}
 use Rattle.dsdiff_chunks.proofs.Chain.{form_is_accepted}
-use Rattle.dsdiff_chunks.proofs.Only.{passed_is_there, only_within}
+use Rattle.dsdiff_chunks.proofs.Only.{only_within}
 use Rattle.dsdiff_chunks.proofs.Stopping.{Stops-in}
 use Rattle.dsdiff_chunks.proofs.Whole.{same_form, multiple_back, shape_back, channels_of, rules_at_0, coded_at_sound, count_by_parts, coded_past_sound}
 use Rattle.dsdiff_chunks.proofs.build.coded_form.Goals as goal

@@ -1,4 +1,4 @@
-use Rattle.std.proofs.Common.{map, Some, ap, sym, ◌∙◌, arith}
+use Rattle.std.proofs.Common.{length, map, Some, ap, sym, ◌∙◌, arith}
 use Rattle.dst_spec.specs.Sample.{sound_bytes}
 use Rattle.dsdiff_spec.specs.Rules.{origin_in}
 use Rattle.dsdiff_chunks.specs.Opening.{are_bad_origins}
@@ -22,3 +22,12 @@ returns-in-Ok-clause-origin g c xs told = ap Some (c.in-Ok.ensures.origin xs tol
 pub returns-in-Ok-clause-accepted : goal.returns-in-Ok-clause-accepted
 returns-in-Ok-clause-accepted g c xs told =
     ap (are_bad_origins c.args.channels.channels (sound_bytes c.args.channels) c.args.frame_count xs) c.in-One.ensures ∙ c.in-Ok.ensures.accepted xs told
+
+pub returns-in-Nothing-clause-several : goal.returns-in-Nothing-clause-several
+returns-in-Nothing-clause-several g c more = absurd (omega (arith, more, ap length c.in-Nothing.ensures))
+
+pub returns-in-Ok-clause-several : goal.returns-in-Ok-clause-several
+returns-in-Ok-clause-several g c more = absurd (omega (arith, more, ap length c.in-One.ensures))
+
+pub returns-in-Err-clause-several : goal.returns-in-Err-clause-several
+returns-in-Err-clause-several g c more = absurd (omega (arith, more, ap length c.in-One.ensures))

@@ -1,4 +1,4 @@
-use Rattle.std.proofs.Common.{rules, ◌≡◌, ◌∷◌, [], ℕ, ◌++◌, length, filter, bytes_eq, map, option_to_list, cond, Bool, true, false, List, Option, Some, None}
+use Rattle.std.proofs.Common.{rules, ◌≡◌, ◌∷◌, [], ℕ, ◌++◌, length, bytes_eq, map, option_to_list, cond, Bool, true, false, List, Option, Some, None}
 use Rattle.std.proofs.Common.{is_some, IfNone, IfSome, ap, sym, ◌∙◌, arith}
 use Rattle.chunk_view.specs.Placed.{PlacedChunk}
 use Rattle.chunk_view.specs.Seen.{seen}

@@ -1,4 +1,4 @@
-use Rattle.std.proofs.Common.{◌≡◌, ℕ, ◌+◌, ◌-◌, ◌*◌, ◌≤◌, List, ◌++◌, map, length, true, Some}
+use Rattle.std.proofs.Common.{◌≡◌, ℕ, ◌+◌, ◌-◌, ◌*◌, ◌≤◌, List, ◌++◌, map, length, true, Some, vec_capacity}
 use Rattle.std.specs.List.{All}
 use Rattle.dsdiff_spec.specs.Chunks.{Head, chunks_from, fits}
 use Rattle.dsdiff_chunks.specs.Lawful.{TileTo}
@@ -15,6 +15,7 @@ invariant-loop-place g l = record {
   faults : g.S.Source.faults l.initial.source ≤ g.S.Source.faults l.source;
   given : g.S.Source.given l.source ≤ g.S.Source.given l.initial.source + 12 * length l.heads.items;
   few : length l.heads.items ≤ 1024;
+  room : vec_capacity l.heads ≡ 1024;
   after : 16 ≤ l.place;
   before : l.place ≤ l.end + 1;
   tiled : (more : List Head) → TileTo l.end l.place more → TileTo l.end 16 (map head_seen l.heads.items ++ more);

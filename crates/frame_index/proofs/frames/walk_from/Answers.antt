@@ -1,9 +1,11 @@
 -- The loop keeps what was found up to its place.
-use Rattle.std.proofs.Common.{◌≡◌, ◌+◌, ◌%◌, ◌<◌, ◌≤◌, Err, refl, sym, ap, ◌∙◌, arith}
+use Rattle.std.proofs.Common.{◌≡◌, ◌+◌, ◌%◌, ◌<◌, ◌≤◌, Ok, Err, refl, sym, ap, subst, ◌∙◌, arith}
 use Rattle.dsdiff_spec.specs.Chunks.{body_end, next_place}
 use Rattle.dsdiff_chunks.specs.Forms.{coded_seen}
 use Rattle.dsdiff_chunks.specs.Seen.{head_seen}
 use Rattle.dsdiff_chunks.proofs.LawfulForms.{sound_inside}
+use Rattle.frame_index.specs.Entries.{Gathered}
+use Rattle.frame_index.specs.Fitting.{IsIndexOf}
 use Rattle.frame_index.proofs.Passing.{walk_begins, walk_goes_on, same_error, same_fault, stops_at_limit, stops_at_misfit, stops_at_bad_frame}
 use Rattle.frame_index.proofs.Passing.{stops_at_other_count, walk_is, walk_fits}
 use Rattle.frame_index.proofs.frames.walk_from.Goals as goal
@@ -37,14 +39,15 @@ loop-place-init g c =
       few = omega arith;
       behind = omega arith;
       before = omega (arith, least);
-      walked = walk_begins form (g.S.Source.bytes c.args.source.now) c.args.entries c.requires.none;
+      walked = walk_begins form (g.S.Source.bytes c.args.source.now) c.in_room-entries.result.entries (ap (λ (g : Gathered). g.entries) c.in_room-entries.ensures);
+      room = ap (λ (g : Gathered). g.room) c.in_room-entries.ensures;
     }
 
 pub returns-then-passed-eq-MOST_CHUNKS-clause-fault : goal.returns-then-passed-eq-MOST_CHUNKS-clause-fault
 returns-then-passed-eq-MOST_CHUNKS-clause-fault g c fault e xs told =
     let form = coded_seen c.args.form.now in
     let w = c.loop-place.invariant.walked in
-    stops_at_limit form (g.S.Source.bytes c.args.source.now) c.loop-place.passed c.loop-place.place c.loop-place.frames c.loop-place.entries xs w told
+    stops_at_limit form (g.S.Source.bytes c.args.source.now) c.loop-place.passed c.loop-place.place c.loop-place.frames c.loop-place.entries.entries xs w told
     c.if-passed-eq-MOST_CHUNKS.true c.loop-place-test.true
     ∙ ap Err (same_fault _ _ e)
 
@@ -58,7 +61,7 @@ returns-in-Err-clause-fault g c fault e xs told =
     let form = coded_seen c.args.form.now in
     let w = c.loop-place.invariant.walked in
     let few : c.loop-place.passed < 4000000 = omega (arith, c.loop-place.invariant.few, c.if-passed-eq-MOST_CHUNKS.false) in
-    stops_at_misfit form (g.S.Source.bytes c.args.source.now) c.loop-place.passed c.loop-place.place c.loop-place.frames c.loop-place.entries xs w told
+    stops_at_misfit form (g.S.Source.bytes c.args.source.now) c.loop-place.passed c.loop-place.place c.loop-place.frames c.loop-place.entries.entries xs w told
     few c.loop-place-test.true (c.in-Err.ensures.passes fault (ap Err (same_error _ _ e)) xs (c.loop-place.invariant.bytes ∙ told))
     ∙ ap Err (sym (c.in-Err.ensures.overrun fault (ap Err (same_error _ _ e))))
 
@@ -73,9 +76,9 @@ returns-in-Err-pass_chunk-clause-fault g c fault e xs told =
     let w = c.loop-place.invariant.walked in
     let few : c.loop-place.passed < 4000000 = omega (arith, c.loop-place.invariant.few, c.if-passed-eq-MOST_CHUNKS.false) in
     let within : body_end (head_seen c.in-Ok.head) ≤ body_end form.sound = omega (arith, c.in-Ok.ensures.place, c.in-Ok.ensures.within) in
-    stops_at_bad_frame form (g.S.Source.bytes c.args.source.now) c.loop-place.passed c.loop-place.place c.loop-place.frames c.loop-place.entries xs
+    stops_at_bad_frame form (g.S.Source.bytes c.args.source.now) c.loop-place.passed c.loop-place.place c.loop-place.frames c.loop-place.entries.entries xs
     (head_seen c.in-Ok.head) fault w told few c.loop-place-test.true (c.in-Ok.ensures.head xs (c.loop-place.invariant.bytes ∙ told)) within
-    (c.in-Err-pass_chunk.ensures.frame fault (ap Err (same_error _ _ e))) (c.in-Err-pass_chunk.ensures.fault fault (ap Err (same_error _ _ e)))
+    (c.in-Err-pass_chunk.ensures.frame fault (ap Err (same_fault _ _ e))) (c.in-Err-pass_chunk.ensures.fault fault (ap Err (same_fault _ _ e)))
 
 pub overflow_add-place-in-loop-place : goal.overflow_add-place-in-loop-place
 overflow_add-place-in-loop-place g c =
@@ -110,26 +113,29 @@ loop-place-preserved g c =
       behind = omega (arith, c.loop-place.invariant.behind);
       before = omega (arith, c.in-Ok.ensures.within);
       walked =
-          walk_goes_on form (g.S.Source.bytes c.args.source.now) c.loop-place.passed place _ c.loop-place.frames _ c.loop-place.entries _ (head_seen head)
+          walk_goes_on form (g.S.Source.bytes c.args.source.now) c.loop-place.passed place _ c.loop-place.frames _ c.loop-place.entries.entries _ (head_seen head)
           c.loop-place.invariant.walked few c.loop-place-test.true c.loop-place.invariant.behind c.in-Ok.ensures.place within next
           (λ xs told. c.in-Ok.ensures.head xs (c.loop-place.invariant.bytes ∙ told))
           c.in-Ok-pass_chunk.ensures.count c.in-Ok-pass_chunk.ensures.kept c.in-Ok-pass_chunk.ensures.faultless;
+      room = c.in-Ok-pass_chunk.ensures.room ∙ c.loop-place.invariant.room;
     }
 
 pub returns-then-frames-form-clause-fault : goal.returns-then-frames-form-clause-fault
 returns-then-frames-form-clause-fault g c fault e xs told =
     let form = coded_seen c.args.form.now in
     let w = c.loop-place.invariant.walked in
-    stops_at_other_count form (g.S.Source.bytes c.args.source.now) c.loop-place.passed c.loop-place.place c.loop-place.frames c.loop-place.entries xs w told
+    stops_at_other_count form (g.S.Source.bytes c.args.source.now) c.loop-place.passed c.loop-place.place c.loop-place.frames c.loop-place.entries.entries xs w told
     c.loop-place-test.false c.if-frames-form.true
     ∙ ap Err (same_fault _ _ e)
 
 pub returns-clause-index : goal.returns-clause-index
 returns-clause-index g c xs told =
-    walk_is (coded_seen c.args.form.now) (g.S.Source.bytes c.args.source.now) c.loop-place.passed c.loop-place.place c.loop-place.frames c.loop-place.entries xs
-    c.loop-place.invariant.walked told c.loop-place-test.false c.if-frames-form.false
+    walk_is (coded_seen c.args.form.now) (g.S.Source.bytes c.args.source.now) c.loop-place.passed c.loop-place.place c.loop-place.frames c.loop-place.entries.entries
+    xs c.loop-place.invariant.walked told c.loop-place-test.false c.if-frames-form.false
+    ∙ ap Ok (sym c.into_index.ensures)
 
 pub returns-clause-fits : goal.returns-clause-fits
 returns-clause-fits g c =
-    walk_fits (coded_seen c.args.form.now) (g.S.Source.bytes c.args.source.now) c.loop-place.passed c.loop-place.place c.loop-place.frames c.loop-place.entries
-    c.loop-place.invariant.walked c.if-frames-form.false
+    subst (IsIndexOf (coded_seen c.args.form.now)) (sym c.into_index.ensures)
+    (walk_fits (coded_seen c.args.form.now) (g.S.Source.bytes c.args.source.now) c.loop-place.passed c.loop-place.place c.loop-place.frames
+    c.loop-place.entries.entries c.loop-place.invariant.walked c.if-frames-form.false)

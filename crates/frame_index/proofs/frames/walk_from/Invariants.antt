@@ -14,7 +14,8 @@ invariant-loop-place g l = record {
   few : l.passed ≤ 4000000;
   behind : body_place (coded_seen l.form).sound + 18 ≤ l.place;
   before : l.place ≤ body_end (coded_seen l.form).sound + 1;
-  walked : HasWalked (coded_seen l.form) (g.S.Source.bytes l.initial.source) l.passed l.place l.frames l.entries;
+  walked : HasWalked (coded_seen l.form) (g.S.Source.bytes l.initial.source) l.passed l.place l.frames l.entries.entries;
+  room : l.entries.room ≡ l.form.frames;
 }
 
 abbrev pub decreases-loop-place : goal.decreases-loop-place
