@@ -9,12 +9,17 @@ use crate::form::Form;
 use dsdiff_spec::FileFault;
 use dst_streams::Source;
 use std::alloc::{AllocError, Global};
+use thiserror::Error;
 
-/// Why a file wasn't opened: the source failed, memory was refused, with the allocator's refusal, or the file breaks a rule.
-#[derive(Clone, Copy, Debug, Drop, PartialEq, Eq)]
+/// Why a file wasn't opened: the source failed, memory was refused, with the allocator's refusal, or the file breaks a rule. It shows
+/// as reports have it.
+#[derive(Clone, Copy, Debug, Drop, PartialEq, Eq, Error)]
 pub enum OpenFault {
+    #[error("read fault")]
     Read,
+    #[error("memory")]
     Memory(AllocError),
+    #[error("file refused: {0}")]
     File(FileFault),
 }
 

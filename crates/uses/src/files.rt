@@ -33,8 +33,9 @@ pub fn frames_of_file<S: Source, L: Listener>(
     };
     // no stored frame is longer
     let longest = 2 * (form.channels.sound_bytes() + 1);
-    let Ok(mut buffer) = vec![in alloc; 0; longest] else {
-        return Err(OpenFault::Memory);
+    let mut buffer = match vec![in alloc; 0; longest] {
+        Ok(buffer) => buffer,
+        Err(refused) => return Err(OpenFault::Memory(refused)),
     };
     for k in 0..index.length() {
         let entry = index.entry(k);
