@@ -5,6 +5,7 @@ use std::thread::Threads;
 use top_call::difference;
 
 mod cutting;
+mod dsf;
 mod encoding;
 mod making;
 
