@@ -70,7 +70,7 @@ pub stops_by : (rules : List ℕ → Option FileFault) (fault : OpenFault) (byte
     Stops rules bytes before now fault
 stops_by rules (File f) bytes before now h read = h f refl
 stops_by rules Read bytes before now h read = read refl
-stops_by rules Memory bytes before now h read = tt
+stops_by rules (Memory refused) bytes before now h read = tt
 
 -- ---- the index behind the number
 pub indexed_is : (k : ℕ) (file : List ℕ) (f : Form) (fault : FileFault) → no_frame k f.frames ≡ None → by_index_fault file f k ≡ Some fault → f.kind ≡ coded →
@@ -113,4 +113,4 @@ pub stops_as : (a b : List ℕ → Option FileFault) (fault : OpenFault) (bytes 
     Stops a bytes before now fault → Stops b bytes before now fault
 stops_as a b (File f) bytes before now same stops = λ file told. same file ∙ stops file told
 stops_as a b Read bytes before now same stops = stops
-stops_as a b Memory bytes before now same stops = stops
+stops_as a b (Memory refused) bytes before now same stops = stops

@@ -1,7 +1,11 @@
--- Buffers that a frame is worked in, told by one number.
-use Rattle.std.specs.Prelude.{ℕ, ◌+◌, ◌*◌, Bool, not, ◌&&◌, ◌==◌, if◌then◌else◌}
+-- How many jobs there are, and the buffers that a frame is worked in, told by one number.
+use Rattle.std.specs.Prelude.{ℕ, ◌+◌, ◌*◌, ◌/◌, min, max, Bool, not, ◌&&◌, ◌==◌, if◌then◌else◌}
 use Rattle.dst_spec.specs.Sample.{Shape, sound_bytes}
 use Rattle.dsdiff_spec.specs.Bytes.{◌below◌, ◌above◌}
+
+-- the jobs of so many workers: sixteen for each at 64 times 44.1 kHz and fewer where frames are longer, no more than there are frames, and at least one
+abbrev pub jobs_in : Shape → (frames workers : ℕ) → ℕ
+jobs_in f frames workers = max (min frames (16 / (f.octets / 4704) * workers)) 1
 
 -- a number for the shape of a form's frames
 abbrev pub shape_number : Shape → ℕ

@@ -1,5 +1,6 @@
 // How many frames are worked in a batch.
-ghost use Rattle.std.specs.Prelude.{◌≡◌, ◌*◌, ◌/◌, ◌≤◌, min, max};
+ghost use Rattle.std.specs.Prelude.{◌≡◌, ◌≤◌};
+ghost use Rattle.dst_commands.specs.Rooms.{jobs_in};
 
 use dst_num::Channels;
 
@@ -8,7 +9,7 @@ const MOST_JOBS: u32 = 16;
 
 /// How many jobs so many workers have: no more than there are frames, and at least one.
 pub fn job_count(channels: Channels, frames: u32, workers: u32) -> u32
-    ensures count { result ≡ max (min frames (16 / (channels.octets / 4704) * workers)) 1 }
+    ensures count { result ≡ jobs_in channels frames workers }
     ensures least { 1 ≤ result }
 {
     let each = MOST_JOBS / channels.multiple() as u32;

@@ -85,4 +85,4 @@ pub stopped : (fault : CheckFault) (file : List ℕ) (f : Form) → accepted fil
 stopped (Frame k fault) file f e kind none s = refused_at k fault file f e kind none s
 stopped (Source (File fault)) file f e kind none s = absurd s
 stopped (Source Read) file f e kind none s = tt {0}
-stopped (Source Memory) file f e kind none s = tt {0}
+stopped (Source (Memory refused)) file f e kind none s = tt {0}

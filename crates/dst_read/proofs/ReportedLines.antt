@@ -117,7 +117,7 @@ pub ends_unopened : (fault : OpenFault) (c : Command) (bytes : Option (List ℕ)
     ReportEnds (Err (Source fault)) c file old new room
 ends_unopened (File f) c bytes before now file old new room told stops = stops file told
 ends_unopened Read c bytes before now file old new room told stops = tt {0}
-ends_unopened Memory c bytes before now file old new room told stops = tt {0}
+ends_unopened (Memory refused) c bytes before now file old new room told stops = tt {0}
 
 pub cause_of_report : {T : Type 0} (r : Result T Failed) (frames source_before source_now before now : ℕ) → HasCause before now r →
     IfErr (reported_as r frames) (λ fault. HasReportCause fault source_before source_now before now)
@@ -160,6 +160,6 @@ ends_unshown (Frame j fault) bytes before now file form k f e old new room told 
     subst (λ j. OutcomeOf (show_frame k) file (frame_refused j fault [])) (sym h.0)
     (frame_is_refused file form k f (frame_at file e) fault a same (ap (frame_at file) is) (h.1 file told))
 ends_unshown (Source Read) bytes before now file form k f e old new room told a same is h = tt {0}
-ends_unshown (Source Memory) bytes before now file form k f e old new room told a same is h = tt {0}
+ends_unshown (Source (Memory refused)) bytes before now file form k f e old new room told a same is h = absurd h
 ends_unshown Report bytes before now file form k f e old new room told a same is h = absurd h
 ends_unshown (Source (File fault)) bytes before now file form k f e old new room told a same is h = absurd h

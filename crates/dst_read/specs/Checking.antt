@@ -13,7 +13,7 @@ use Rattle.dsdiff_spec.specs.Refusal.{refusal}
 use Rattle.dsdiff_spec.specs.Lines.{check_line}
 use Rattle.dsdiff_spec.specs.Outcome.{done, frame_refused}
 use Rattle.dsdiff_spec.specs.Progress.{NoneOf}
-use Rattle.dsdiff_chunks.specs.declared.open.OpenFault.TheVariants.{Read, File}
+use Rattle.dsdiff_chunks.specs.declared.open.OpenFault.TheVariants.{Read, Memory, File}
 use Rattle.dst_read.specs.declared.faults.CheckFault.{CheckFault}
 use Rattle.dst_read.specs.declared.faults.CheckFault.TheVariants.{Source, Frame}
 use Rattle.dst_read.specs.declared.faults.Checked.{Checked}
@@ -40,9 +40,10 @@ TailsEnd (Err (Frame k fault)) file form = IsRefusedAt file form k fault
 TailsEnd (Err (Source (File fault))) file form = ⊥
 TailsEnd (Err fault) file form = Unit {0}
 
--- the source may fail, memory be refused, and a file or a frame be refused
+-- where no memory is taken the source may fail, and a file or a frame be refused
 abbrev pub HasSourceCause : CheckFault → (before now : ℕ) → Type 0
 HasSourceCause (Source Read) before now = Rose before now
+HasSourceCause (Source (Memory refused)) before now = ⊥
 HasSourceCause fault before now = Unit {0}
 
 -- the frames of a feed were worked, and their unread bytes added, up to the first cause to stop

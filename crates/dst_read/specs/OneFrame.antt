@@ -15,10 +15,10 @@ pub record IsSoundOf (f : Shape) (frame sound : List ℕ) : Type 0 where
   pub means : Means f frame sound
   pub not_refused : (fault : FrameFault) → Offends f frame fault → ⊥
 
--- or frame k is refused; the source may fail, or memory be refused
+-- or frame k is refused, or the source fails; no memory is taken
 abbrev pub HasNoSound : Shape → ℕ → Entry → DecodeFault → Option (List ℕ) → (source_before source_now : ℕ) → Type 0
 HasNoSound f k e (Frame j fault) bytes before now = (j ≡ k) × ((file : List ℕ) → bytes ≡ Some file → Offends f (frame_at file e) fault)
 HasNoSound f k e (Source Read) bytes before now = Rose before now
-HasNoSound f k e (Source Memory) bytes before now = Unit {0}
+HasNoSound f k e (Source (Memory refused)) bytes before now = ⊥
 HasNoSound f k e (Source (File fault)) bytes before now = ⊥
 HasNoSound f k e Write bytes before now = ⊥

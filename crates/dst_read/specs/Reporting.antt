@@ -64,10 +64,10 @@ pub record IsShown (f : Shape) (k : ℕ) (frame : List ℕ) (line : List ℕ) : 
   pub not_refused : (fault : FrameFault) → Refuses (show_frame k) f frame fault → ⊥
   pub is : line ≡ report (told ∷ [])
 
--- or it is refused; the source may fail, or memory be refused
+-- or it is refused, or the source fails; no memory is taken
 abbrev pub IsUnshown : Shape → ℕ → Entry → ShowFault → Option (List ℕ) → (source_before source_now : ℕ) → Type 0
 IsUnshown f k e (Frame j fault) bytes before now = (j ≡ k) × ((file : List ℕ) → bytes ≡ Some file → Refuses (show_frame k) f (frame_at file e) fault)
 IsUnshown f k e (Source Read) bytes before now = Rose before now
-IsUnshown f k e (Source Memory) bytes before now = Unit {0}
+IsUnshown f k e (Source (Memory refused)) bytes before now = ⊥
 IsUnshown f k e (Source (File fault)) bytes before now = ⊥
 IsUnshown f k e Report bytes before now = ⊥

@@ -1,5 +1,5 @@
 // Checking a file: nothing is written.
-ghost use Rattle.std.specs.Prelude.{◌≡◌, ◌<◌, ◌≤◌, ℕ, List, [], ◌∷◌, Option, Some, None, IfOk, IfErr, OnOk, Ok, Err};
+ghost use Rattle.std.specs.Prelude.{◌≡◌, ◌<◌, ◌≤◌, ℕ, List, [], ◌∷◌, Option, Some, None, IfOk, OnOk, Ok, Err};
 ghost use Rattle.dst_spec.specs.declared.faults.FrameFault.{FrameFault};
 ghost use Rattle.dst_streams.specs.Causes.{Rose};
 ghost use Rattle.dsdiff_spec.specs.declared.faults.FileFault.{FileFault};
@@ -10,7 +10,7 @@ ghost use Rattle.dsdiff_spec.specs.Lines.{check_line};
 ghost use Rattle.dsdiff_spec.specs.Outcome.{done, frame_refused};
 ghost use Rattle.dst_commands.specs.Commands.{OutcomeOf};
 ghost use Rattle.dst_commands.specs.Opened.{IsWalked};
-ghost use Rattle.dst_read.specs.Checking.{CheckingEnds, HasSourceCause};
+ghost use Rattle.dst_read.specs.Checking.{CheckingEnds};
 
 use crate::faults::{CheckFault, Checked};
 use crate::jobs::{jobs_for, tables_for};
@@ -76,15 +76,17 @@ fn check_frames<R: Threads + Sync, S: Source, G: Gate>(
     requires accepted { (file : List ℕ) → S.bytes source.old ≡ Some file → refusal words.check file ≡ None }
     ensures bytes { S.bytes source.new ≡ S.bytes source.old }
     ensures later { S.faults source.old ≤ S.faults source.new }
-    ensures cause { IfErr result (λ fault. HasSourceCause fault (S.faults source.old) (S.faults source.new)) }
+    ensures read { result ≡ Err (CheckFault.Source OpenFault.Read) → Rose (S.faults source.old) (S.faults source.new) }
     ensures ends { (file : List ℕ) → S.bytes source.old ≡ Some file → CheckingEnds result file }
 {
     let form = &walked.form;
-    let Ok(mut tables) = tables_for(alloc, form.channels, workers) else {
-        return Err(CheckFault::Source(OpenFault::Memory));
+    let mut tables = match tables_for(alloc, form.channels, workers) {
+        Ok(tables) => tables,
+        Err(refused) => return Err(CheckFault::Source(OpenFault::Memory(refused))),
     };
-    let Ok(mut jobs) = jobs_for(alloc, form.channels, form.frames, workers) else {
-        return Err(CheckFault::Source(OpenFault::Memory));
+    let mut jobs = match jobs_for(alloc, form.channels, form.frames, workers) {
+        Ok(jobs) => jobs,
+        Err(refused) => return Err(CheckFault::Source(OpenFault::Memory(refused))),
     };
     match sum_tails(rt, source, walked, gate, &mut tables, &mut jobs) {
         Ok(unread) => Ok(Checked {

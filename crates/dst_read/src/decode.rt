@@ -1,5 +1,6 @@
 // Decoding a coded file.
 ghost use Rattle.std.specs.Prelude.{◌≡◌, ◌⊎◌, ◌≤◌, ◌<◌, ℕ, true, List, length, Option, Some, IfOk, IfErr, OnOk, Err, ◌∷◌, []};
+ghost use Rattle.std.specs.declared.alloc.AllocError.{AllocError};
 ghost use Rattle.dst_spec.specs.declared.faults.FrameFault.{FrameFault};
 ghost use Rattle.dst_streams.specs.Causes.{Rose};
 ghost use Rattle.dst_streams.specs.Told.{IsCutShort, and_then};
@@ -60,15 +61,16 @@ pub fn decode_file<R: Threads + Sync, S: Source, K: Sink, G: Gate>(
     ensures sure { result ≡ Err DecodeFault.Write → (file : List ℕ) → S.bytes source.old ≡ Some file → (o : Answer) → OutcomeOf decode file o →
         (room : ℕ) → K.room sink.old ≡ Some room → length o.out ≤ room → ⊥ }
     // want of memory, before anything is written
-    ensures memory { result ≡ Err (DecodeFault.Source OpenFault.Memory) → sink.new ≡ sink.old }
+    ensures memory { (refused : AllocError) → result ≡ Err (DecodeFault.Source (OpenFault.Memory refused)) → sink.new ≡ sink.old }
 {
     let walked = match open_file(alloc, source, &AllFrames) {
         Ok(walked) => walked,
         Err(fault) => return Err(DecodeFault::Source(fault)),
     };
     let WalkedForm { form, .. } = &walked;
-    let Ok(mut workspace) = Workspace::new(alloc, form.channels, form.frames, workers) else {
-        return Err(DecodeFault::Source(OpenFault::Memory));
+    let mut workspace = match Workspace::new(alloc, form.channels, form.frames, workers) {
+        Ok(workspace) => workspace,
+        Err(refused) => return Err(DecodeFault::Source(OpenFault::Memory(refused))),
     };
     write_decoded(rt, source, sink, &walked, gate, &mut workspace)
 }
@@ -83,7 +85,7 @@ fn write_decoded<R: Threads + Sync, S: Source, K: Sink, G: Gate>(
     workspace: &mut Workspace,
 ) -> Result<Decoded, DecodeFault>
     requires size { (n : ℕ) × (S.known source.old ≡ Some n) × (walked.now.form.end ≤ n) }
-    requires room { HasRoomFor walked.now.form.channels workspace.old }
+    requires room { HasRoomFor walked.now.form.channels walked.now.form.frames workspace.old }
     requires opened { (file : List ℕ) → S.bytes source.old ≡ Some file → IsOpened file (coded_seen walked.now.form) walked.now.index }
     ensures bytes { S.bytes source.new ≡ S.bytes source.old }
     ensures source_later { S.faults source.old ≤ S.faults source.new }

@@ -45,7 +45,8 @@ impl Workspace {
     ) -> Result<Workspace, AllocError>
         requires least { 0 < workers }
         requires most { workers ≤ 16 }
-        ensures { IfOk result (HasRoomFor channels) }
+        ensures room { IfOk result (HasRoomFor channels frames) }
+        ensures workers { IfOk result (λ w. length w.tables.items ≡ workers) }
     {
         Ok(Workspace {
             tables: tables_for(alloc, channels, workers)?,

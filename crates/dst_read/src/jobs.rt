@@ -1,7 +1,7 @@
 // The memory that frames are worked in.
-ghost use Rattle.std.specs.Prelude.{◌≡◌, ◌<◌, ◌≤◌, IfOk};
+ghost use Rattle.std.specs.Prelude.{◌≡◌, ◌<◌, ◌≤◌, length, IfOk};
 ghost use Rattle.dst_spec.specs.Sample.{IsShape};
-ghost use Rattle.dst_commands.specs.Rooms.{shape_number};
+ghost use Rattle.dst_commands.specs.Rooms.{jobs_in, shape_number};
 ghost use Rattle.dst_read.specs.Jobs.{shape_of_job, shape_of_tables, AreJobsFor, AreTablesFor};
 
 use dst_commands::job_count;
@@ -78,7 +78,8 @@ pub fn jobs_for(
     frames: u32,
     workers: u32,
 ) -> Result<Vec<Job>, AllocError>
-    ensures { IfOk result (λ jobs. AreJobsFor channels jobs.items) }
+    ensures jobs { IfOk result (λ jobs. AreJobsFor channels jobs.items) }
+    ensures count { IfOk result (λ jobs. length jobs.items ≡ jobs_in channels frames workers) }
 {
     let count = job_count(channels, frames, workers);
     let mut jobs = Vec::with_capacity(alloc, count as usize)?;
@@ -96,7 +97,8 @@ pub fn tables_for(
 ) -> Result<Vec<Tables>, AllocError>
     requires least { 0 < workers }
     requires most { workers ≤ 16 }
-    ensures { IfOk result (λ tables. AreTablesFor channels tables.items) }
+    ensures tables { IfOk result (λ tables. AreTablesFor channels tables.items) }
+    ensures count { IfOk result (λ tables. length tables.items ≡ workers) }
 {
     let mut tables = Vec::with_capacity(alloc, workers as usize)?;
     for _ in 0..workers {

@@ -1,5 +1,6 @@
 // The sound of one frame.
 ghost use Rattle.std.specs.Prelude.{◌≡◌, ◌≢◌, ◌+◌, ◌*◌, ◌<◌, ◌≤◌, ◌^◌, ℕ, true, List, [], ◌∷◌, length, Option, Some, None, IfOk, IfErr, OnOk, Err, MatchResult};
+ghost use Rattle.dst_spec.specs.Sample.{IsShape, sound_bytes};
 ghost use Rattle.dst_spec.specs.declared.faults.FrameFault.{FrameFault};
 ghost use Rattle.dst_streams.specs.Causes.{Rose, HasCause};
 ghost use Rattle.dst_streams.specs.Told.{IsCutShort, and_then};
@@ -22,8 +23,9 @@ use crate::faults::{DecodeFault, FrameWritten};
 use dsdiff_chunks::{OpenFault, read_range};
 use dst_commands::{FoundFrame, FrameByIndex, FrameByWalk, open_file};
 use dst_frames::{Scratch, decode_frame};
+use dst_num::Channels;
 use dst_streams::{Failed, Sink, Source};
-use std::alloc::Global;
+use std::alloc::{AllocError, Global};
 
 /// Writes the sound of one frame, frames being counted from 0.
 ///
@@ -57,12 +59,19 @@ pub fn frame_out<S: Source, K: Sink>(
     // by the index little is read
     ensures given { by_index ≡ true → (file : List ℕ) → S.bytes source.old ≡ Some file → S.given source.new ≤ S.given source.old + 208974 + 2 * sound_bytes_of (accepted file) }
     ensures given_any { by_index ≡ true → S.given source.new ≤ S.given source.old + 208974 + 225792 }
+    // by a walk each stored byte is read once beside opening
+    ensures given_walk { S.given source.new ≤ S.given source.old + 208948 + 48000000 + 225794 }
 {
     let found = match open_frame(alloc, source, frame, by_index) {
         Ok(found) => found,
         Err(fault) => return Err(DecodeFault::Source(fault)),
     };
-    let sound = match read_sound(alloc, source, &found, frame) {
+    let FoundFrame { form, entry } = &found;
+    let room = match FrameRoom::new(alloc, form.channels, entry.size) {
+        Ok(room) => room,
+        Err(refused) => return Err(DecodeFault::Source(OpenFault::Memory(refused))),
+    };
+    let sound = match read_sound(source, &found, frame, room) {
         Ok(sound) => sound,
         Err(fault) => return Err(fault),
     };
@@ -98,6 +107,7 @@ fn open_frame<S: Source>(
     ensures bytes { S.bytes source.new ≡ S.bytes source.old }
     ensures later { S.faults source.old ≤ S.faults source.new }
     ensures given { by_index ≡ true → S.given source.new ≤ S.given source.old + 208972 }
+    ensures given_walk { S.given source.new ≤ S.given source.old + 208948 + 48000000 }
     ensures size { IfOk result (λ f. (n : ℕ) × (S.known source.new ≡ Some n) × (f.form.end ≤ n)) }
     ensures accepted { IfOk result (λ _. (file : List ℕ) → S.bytes source.old ≡ Some file → refusal (words.frame number by_index) file ≡ None) }
     ensures found { IfOk result (λ f. (file : List ℕ) → S.bytes source.old ≡ Some file → IsFound by_index file number f) }
@@ -110,14 +120,42 @@ fn open_frame<S: Source>(
     }
 }
 
-// Reads a frame, and works its sound.
+// What a frame is read and decoded in: its stored bytes, its sound, and what decoding takes.
+#[derive(Drop)]
+struct FrameRoom {
+    stored: Vec<u8>,
+    sound: Vec<u8>,
+    scratch: Scratch,
+}
+
+impl FrameRoom {
+    // Room for a frame of these channels that has so many stored bytes.
+    fn new(alloc: Global, channels: Channels, size: u32) -> Result<FrameRoom, AllocError>
+        ensures lawful { IfOk result (λ _. IsShape channels) }
+        ensures stored { IfOk result (λ r. length r.stored.items ≡ size) }
+        ensures sound { IfOk result (λ r. length r.sound.items ≡ sound_bytes channels) }
+        ensures scratch { IfOk result (λ r. r.scratch.channels ≡ channels) }
+    {
+        Ok(FrameRoom {
+            stored: vec![in alloc; 0; size as usize]?,
+            sound: vec![in alloc; 0; channels.sound_bytes()]?,
+            scratch: Scratch::new(alloc, channels)?,
+        })
+    }
+}
+
+// Reads a frame into room that was taken for it, and works its sound. It takes no memory.
 fn read_sound<S: Source>(
-    alloc: Global,
     source: &mut S,
     found: &FoundFrame,
     frame: u32,
+    room: FrameRoom,
 ) -> Result<Vec<u8>, DecodeFault>
     requires size { (n : ℕ) × (S.known source.old ≡ Some n) × (found.now.form.end ≤ n) }
+    requires lawful { IsShape found.now.form.channels }
+    requires stored { length room.stored.items ≡ found.now.entry.size }
+    requires sound { length room.sound.items ≡ sound_bytes found.now.form.channels }
+    requires scratch { room.scratch.channels ≡ found.now.form.channels }
     ensures bytes { S.bytes source.new ≡ S.bytes source.old }
     ensures later { S.faults source.old ≤ S.faults source.new }
     ensures given { S.given source.new ≤ S.given source.old + found.now.entry.size }
@@ -126,15 +164,11 @@ fn read_sound<S: Source>(
 {
     let channels = found.form.channels;
     let entry = found.entry;
-    let Ok(mut stored) = vec![in alloc; 0; entry.size as usize] else {
-        return Err(DecodeFault::Source(OpenFault::Memory));
-    };
-    let Ok(mut sound) = vec![in alloc; 0; channels.sound_bytes()] else {
-        return Err(DecodeFault::Source(OpenFault::Memory));
-    };
-    let Ok(mut scratch) = Scratch::new(alloc, channels) else {
-        return Err(DecodeFault::Source(OpenFault::Memory));
-    };
+    let FrameRoom {
+        mut stored,
+        mut sound,
+        mut scratch,
+    } = room;
     let Ok(()) = read_range(source, entry.offset, &mut stored) else {
         return Err(DecodeFault::Source(OpenFault::Read));
     };

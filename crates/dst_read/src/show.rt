@@ -114,21 +114,26 @@ fn show_header<S: Source, T: Sink>(
         Ok(found) => found,
         Err(fault) => return Err(ShowFault::Source(fault)),
     };
-    let line = match header_line(alloc, source, &found, number) {
+    let mut bytes = match vec![in alloc; 0; found.entry.size as usize] {
+        Ok(bytes) => bytes,
+        Err(refused) => return Err(ShowFault::Source(OpenFault::Memory(refused))),
+    };
+    let line = match header_line(source, &found, number, &mut bytes) {
         Ok(line) => line,
         Err(fault) => return Err(fault),
     };
     reported(report.append(line.as_bytes()), found.form.frames)
 }
 
-// Reads a frame, and gives the line of its header.
+// Reads a frame, and gives the line of its header. It takes no memory.
 fn header_line<S: Source>(
-    alloc: Global,
     source: &mut S,
     found: &FoundFrame,
     frame: u32,
+    bytes: &mut [u8],
 ) -> Result<Line, ShowFault>
     requires size { (n : ℕ) × (S.known source.old ≡ Some n) × (found.now.form.end ≤ n) }
+    requires long { length bytes.old ≡ found.now.entry.size }
     ensures bytes { S.bytes source.new ≡ S.bytes source.old }
     ensures later { S.faults source.old ≤ S.faults source.new }
     ensures given { S.given source.new ≤ S.given source.old + found.now.entry.size }
@@ -137,13 +142,10 @@ fn header_line<S: Source>(
 {
     let channels = found.form.channels;
     let entry = found.entry;
-    let Ok(mut bytes) = vec![in alloc; 0; entry.size as usize] else {
-        return Err(ShowFault::Source(OpenFault::Memory));
-    };
-    let Ok(()) = read_range(source, entry.offset, &mut bytes) else {
+    let Ok(()) = read_range(source, entry.offset, bytes) else {
         return Err(ShowFault::Source(OpenFault::Read));
     };
-    match view_frame(&bytes, channels) {
+    match view_frame(bytes, channels) {
         Ok(view) => Ok(line_of_view(frame, u64::from(entry.size), &view)),
         Err(fault) => Err(ShowFault::Frame { frame, fault }),
     }

@@ -1,9 +1,15 @@
 -- The frames, up to the first that is refused.
-use Rattle.std.proofs.Common.{ap, sym, refl}
+use Rattle.std.proofs.Common.{◌≡◌, Result, Err, ap, sym, refl, subst}
 use Rattle.dsdiff_spec.specs.Form.{Form}
 use Rattle.dsdiff_chunks.specs.Forms.{coded_seen}
+use Rattle.dst_read.specs.declared.faults.Checked.{Checked}
+use Rattle.dst_read.specs.declared.faults.CheckFault.{CheckFault}
+use Rattle.dst_read.specs.Checking.{HasSourceCause}
 use Rattle.dst_read.proofs.Checks.{coded_is_sound, stopped}
 use Rattle.dst_read.proofs.check.check_frames.Goals as goal
+
+same_fault : (a b : CheckFault) → ◌≡◌ {A = Result Checked CheckFault} (Err a) (Err b) → a ≡ b
+same_fault a b e = cc
 
 pub returns-in-Ok-sum_tails-clause-ends : goal.returns-in-Ok-sum_tails-clause-ends
 returns-in-Ok-sum_tails-clause-ends g c file told =
@@ -14,5 +20,10 @@ returns-in-Ok-sum_tails-clause-ends g c file told =
 
 pub returns-clause-ends : goal.returns-clause-ends
 returns-clause-ends g c file told =
-    stopped c.in-Err.fault file (coded_seen c.args.walked.now.form) (c.requires.walked file told).form_is refl (c.requires.accepted file told)
-    (c.in-Err.ensures.summed file told)
+    stopped c.in-Err-sum_tails.fault file (coded_seen c.args.walked.now.form) (c.requires.walked file told).form_is refl (c.requires.accepted file told)
+    (c.in-Err-sum_tails.ensures.summed file told)
+
+pub returns-clause-read : goal.returns-clause-read
+returns-clause-read g c e =
+    subst (λ fault. HasSourceCause fault (g.S.Source.faults c.args.source.now) (g.S.Source.faults c.sum_tails.new.source)) (same_fault c.in-Err-sum_tails.fault _ e)
+    c.in-Err-sum_tails.ensures.cause

@@ -16,27 +16,27 @@ returns-in-Ok-decode_frame-clause-sound g c file told =
     let whole : c.deref.result.now ≡ c.read_range.new.out =
     lent_whole _ _ _ _ c.deref.ensures.value (sym c.deref_mut.ensures.len ∙ ap length c.deref_mut.ensures.value)
     (c.read_range.auto.out ∙ ap length c.deref_mut.ensures.value) in
-    let long : length c.deref_mut.result.now ≡ found.entry.size = c.deref_mut.ensures.len ∙ c.in-Ok.ensures.len in
-    let read : c.deref.result.now ≡ frame_at file (entry_seen found.entry) = whole ∙ c.in-Ok-read_range.ensures.read file told
+    let long : length c.deref_mut.result.now ≡ found.entry.size = ap length c.deref_mut.ensures.value ∙ c.requires.stored in
+    let read : c.deref.result.now ≡ frame_at file (entry_seen found.entry) = whole ∙ c.in-Ok.ensures.read file told
     ∙ ap (bytes_at file found.entry.offset) long in
-    let sound = lent_whole c.in-Ok-vec.sound.len _ c.decode_frame.new.out c.in-Ok-vec.sound.items refl
+    let sound = lent_whole c.args.room.sound.len _ c.decode_frame.new.out c.args.room.sound.items refl
     (sym c.deref_mut-2.ensures.len ∙ ap length c.deref_mut-2.ensures.value) (c.decode_frame.auto.out ∙ ap length c.deref_mut-2.ensures.value) in
     subst (λ sound. IsSoundOf f (frame_at file (entry_seen found.entry)) sound) (sym sound)
     (subst (λ frame. IsSoundOf f frame c.decode_frame.new.out) read
-    (is_sound_of f c.deref.result.now c.decode_frame.new.out c.in-Ok-decode_frame.field-0 c.sound_bytes.ensures.shape c.in-Ok-decode_frame.ensures.sound
+    (is_sound_of f c.deref.result.now c.decode_frame.new.out c.in-Ok-decode_frame.field-0 c.requires.lawful c.in-Ok-decode_frame.ensures.sound
     c.in-Ok-decode_frame.ensures.whole))
 
 pub read_range-requires-clause-fits : goal.read_range-requires-clause-fits
 read_range-requires-clause-fits g c =
     let found = c.args.found.now in
-    let long : length c.deref_mut.result.now ≡ found.entry.size = c.deref_mut.ensures.len ∙ c.in-Ok.ensures.len in
+    let long : length c.deref_mut.result.now ≡ found.entry.size = ap length c.deref_mut.ensures.value ∙ c.requires.stored in
     let before = found_before found in
     omega (arith, long, before, found.form.lawful.end)
 
 pub read_range-requires-clause-inside : goal.read_range-requires-clause-inside
 read_range-requires-clause-inside g c =
     let found = c.args.found.now in
-    let long : length c.deref_mut.result.now ≡ found.entry.size = c.deref_mut.ensures.len ∙ c.in-Ok.ensures.len in
+    let long : length c.deref_mut.result.now ≡ found.entry.size = ap length c.deref_mut.ensures.value ∙ c.requires.stored in
     let before = found_before found in
     (c.requires.size.0, c.requires.size.1, omega (arith, long, before, c.requires.size.2))
 
@@ -48,8 +48,8 @@ returns-clause-no_sound g c = (
       let whole : c.deref.result.now ≡ c.read_range.new.out =
       lent_whole _ _ _ _ c.deref.ensures.value (sym c.deref_mut.ensures.len ∙ ap length c.deref_mut.ensures.value)
       (c.read_range.auto.out ∙ ap length c.deref_mut.ensures.value) in
-      let long : length c.deref_mut.result.now ≡ found.entry.size = c.deref_mut.ensures.len ∙ c.in-Ok.ensures.len in
-      let read : c.deref.result.now ≡ frame_at file (entry_seen found.entry) = whole ∙ c.in-Ok-read_range.ensures.read file told
+      let long : length c.deref_mut.result.now ≡ found.entry.size = ap length c.deref_mut.ensures.value ∙ c.requires.stored in
+      let read : c.deref.result.now ≡ frame_at file (entry_seen found.entry) = whole ∙ c.in-Ok.ensures.read file told
       ∙ ap (bytes_at file found.entry.offset) long in
       subst (λ frame. Offends found.form.channels frame c.in-Err.fault) read c.in-Err.ensures.fault,
 )
