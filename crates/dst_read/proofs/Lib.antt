@@ -13,3 +13,4 @@ pub mod Summing
 pub mod Underway
 pub mod Viewed
 pub mod Working
+pub mod Lent

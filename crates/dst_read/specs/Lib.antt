@@ -6,3 +6,4 @@ pub mod Frames
 pub mod Checking
 pub mod OneFrame
 pub mod Reporting
+pub mod Lending

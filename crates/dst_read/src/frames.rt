@@ -19,7 +19,7 @@ use dsdiff_chunks::OpenFault;
 use dst_commands::{WalkedForm, sound_size};
 use dst_num::Channels;
 use dst_streams::{Failed, Sink, Source};
-use frame_crew::{Drain, Gate, InTurn, RunFault, run_ordered};
+use frame_crew::{Drain, Gate, RunFault, run_ordered};
 use std::alloc::{AllocError, Global};
 use std::thread::Threads;
 
@@ -113,10 +113,10 @@ pub fn decode_frames<R: Threads + Sync, S: Source, D: Drain<Job>, G: Gate>(
     ensures drain_fault { IfDrainFault result (λ fault. FailsAtDrain (GivesFrame S.bytes S.known S.faults) (FailsToRead S.bytes S.known S.faults) D.takes D.failed (IsWorked feed.old.walked.now.form.channels)
         (length jobs.old) feed.old feed.new drain.old drain.new fault) }
 {
-    let each = FrameDecoder {
+    let work = FrameDecoder {
         channels: feed.walked.form.channels,
     };
-    run_ordered(rt, &InTurn { each }, feed, drain, gate, tables, jobs)
+    run_ordered(rt, &work, feed, drain, gate, tables, jobs)
 }
 
 // Has the frames worked.

@@ -5,7 +5,7 @@ ghost use Rattle.dst_commands.specs.Rooms.{jobs_in, shape_number};
 ghost use Rattle.dst_read.specs.Jobs.{shape_of_job, shape_of_tables, AreJobsFor, AreTablesFor};
 
 use dst_commands::job_count;
-use dst_frames::Scratch;
+use dst_frames::{BatchScratch, DecodedFrame, StoredFrame};
 use dst_num::{Channels, FrameFault};
 use frame_crew::Slot;
 use std::alloc::{AllocError, Global};
@@ -32,10 +32,12 @@ impl Slot for Job {
     ghost shape = { shape_of_job };
 }
 
-/// What one worker decodes with.
+/// What one worker decodes with, and what the frames and sounds of up to eight jobs are moved to while they are decoded.
 #[derive(Drop)]
 pub struct Tables {
-    pub(crate) scratch: Scratch,
+    pub(crate) scratch: BatchScratch,
+    pub(crate) frames: [StoredFrame; 8],
+    pub(crate) heard: [DecodedFrame; 8],
 }
 
 impl Slot for Tables {
@@ -66,9 +68,46 @@ impl Tables {
         ensures shape { IfOk result (λ t. shape_of_tables t ≡ shape_number channels) }
     {
         Ok(Tables {
-            scratch: Scratch::new(alloc, channels)?,
+            scratch: BatchScratch::new(alloc, channels)?,
+            frames: no_frames(alloc),
+            heard: no_sounds(alloc),
         })
     }
+}
+
+// Eight places with no bytes.
+fn no_frames(alloc: Global) -> [StoredFrame; 8] {
+    let none = || StoredFrame {
+        bytes: Vec::new(alloc),
+        size: 0,
+    };
+    [
+        none(),
+        none(),
+        none(),
+        none(),
+        none(),
+        none(),
+        none(),
+        none(),
+    ]
+}
+
+fn no_sounds(alloc: Global) -> [DecodedFrame; 8] {
+    let none = || DecodedFrame {
+        sound: Vec::new(alloc),
+        answer: Ok(0),
+    };
+    [
+        none(),
+        none(),
+        none(),
+        none(),
+        none(),
+        none(),
+        none(),
+        none(),
+    ]
 }
 
 /// The jobs of so many workers, no more than there are frames.

@@ -13,7 +13,7 @@ use crate::work::FrameDecoder;
 use dsdiff_chunks::OpenFault;
 use dst_commands::WalkedForm;
 use dst_streams::Source;
-use frame_crew::{Gate, InTurn, RunFault, run_ordered};
+use frame_crew::{Gate, RunFault, run_ordered};
 use std::thread::Threads;
 
 /// Adds up the unread bytes of all frames, up to the first frame that is refused.
@@ -64,10 +64,10 @@ fn run_tails<R: Threads + Sync, S: Source, G: Gate>(
     requires none { drain.old.unread ≡ 0 }
     ensures { HasSummed S.bytes S.known S.faults (coded_seen feed.old.walked.now.form) feed.old feed.new result }
 {
-    let each = FrameDecoder {
+    let work = FrameDecoder {
         channels: feed.walked.form.channels,
     };
-    match run_ordered(rt, &InTurn { each }, feed, drain, gate, tables, jobs) {
+    match run_ordered(rt, &work, feed, drain, gate, tables, jobs) {
         Ok(_) => Ok(drain.unread),
         Err(RunFault::Feed(_)) => Err(CheckFault::Source(OpenFault::Read)),
         Err(RunFault::Drain(fault)) => Err(fault),
