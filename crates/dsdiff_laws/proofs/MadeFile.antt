@@ -1,6 +1,7 @@
 -- A file of made sound keeps all rules of a plain form.
 use Rattle.std.proofs.Common.{◌≡◌, ◌⊎◌, inl, inr, ℕ, zero, suc, ◌+◌, ◌-◌, ◌*◌, ◌/◌, ◌%◌, ◌^◌, ◌<◌, ◌≤◌, ◌==◌, true, false, if◌then◌else◌, List, [], ◌∷◌, ◌++◌}
-use Rattle.std.proofs.Common.{length, flat_map, map, take, get_or, filter, None, Some, Option, refl, sym, ap, ap₂, subst, ◌∙◌, arith, append-nil, append_assoc, length-append, lit≤, lit<}
+use Rattle.std.proofs.Common.{length, flat_map, map, take, get_or, filter, None, Some, Option, refl, sym, ap, ap₂, subst, ◌∙◌, arith, append-nil}
+use Rattle.std.proofs.Common.{append_assoc, length-append, lit≤, lit<}
 use Rattle.std.specs.Prelude.{codes, not, nat_lt, bytes_eq, ◌||◌}
 use Rattle.std.specs.Fmt.{digits}
 use Rattle.std.specs.List.{range_with_len}
@@ -17,9 +18,11 @@ use Rattle.dsdiff_spec.specs.Faults.{◌when◌, ◌otherwise◌}
 use Rattle.dsdiff_spec.specs.Chunks.{Chunk, IsChunk, bytes_of_chunk, Head, Found, body_place, body_of, named, the_first}
 use Rattle.dsdiff_spec.specs.Form.{Form, Kind, plain, coded, shape_of, frames_for, size_of_sound, sound_bytes_of, is_coded}
 use Rattle.dsdiff_spec.specs.Made.{channel_id, fver, prop_of, plain_form}
-use Rattle.dsdiff_spec.specs.Parts.{form_size, form_end, top_level, all, prop_head, prop, sounds, sound_head, kind, compression, channel_count, multiple, frames_needed, sound_bytes_in, behind_form}
+use Rattle.dsdiff_spec.specs.Parts.{form_size, form_end, top_level, all, prop_head, prop, sounds, sound_head, kind, compression, channel_count}
+use Rattle.dsdiff_spec.specs.Parts.{multiple, frames_needed, sound_bytes_in, behind_form}
 use Rattle.dsdiff_spec.specs.Refusal.{refusal}
-use Rattle.dsdiff_spec.specs.Rules.{opening_fault, is_version, version_fault, local_fault, prop_fault, sound_fault, plain_fault, kind_fault, form_fault, form_of_kind, accepted, is_rate}
+use Rattle.dsdiff_spec.specs.Rules.{opening_fault, is_version, version_fault, local_fault, prop_fault, sound_fault, plain_fault, kind_fault}
+use Rattle.dsdiff_spec.specs.Rules.{form_fault, form_of_kind, accepted, is_rate}
 use Rattle.dsdiff_spec.specs.Rules as rules
 use Rattle.dsdiff_spec.specs.Coded.{Picks, stored_frames}
 use Rattle.dsdiff_spec.specs.Laws.{ArePicks, coded_file}
@@ -88,7 +91,13 @@ module _ (c m : ℕ) (f : IsMade c m)
 
     is_prop : IsProp (made_prop_body c m) (fs m ∷ chnl c ∷ cmpr ∷ [])
     is_prop = record {
-      whole = (is_whole "FS  " (big_bytes 4 (2822400 * m)) 0 refl (lit< tt), (is_whole "CHNL" (big_bytes 2 c ++ ids c) 0 refl (omega (arith, chnl_long, f.most)), (is_whole "CMPR" (codes "DSD " ++ 14 ∷ codes "not compressed") 0 refl (lit< tt), tt)));
+      whole = (
+        is_whole "FS  " (big_bytes 4 (2822400 * m)) 0 refl (lit< tt),
+        (
+          is_whole "CHNL" (big_bytes 2 c ++ ids c) 0 refl (omega (arith, chnl_long, f.most)),
+          (is_whole "CMPR" (codes "DSD " ++ 14 ∷ codes "not compressed") 0 refl (lit< tt), tt),
+        ),
+      );
       few = lit≤ tt;
       bytes = regrouped (codes "SND ") (bytes_of_chunk (fs m)) (bytes_of_chunk (chnl c)) (bytes_of_chunk cmpr);
     }
@@ -104,7 +113,12 @@ module _ (c m : ℕ) (f : IsMade c m)
     rate_reads = ap (λ w. number_at w 0 4) (sym (append-nil (big_bytes 4 (2822400 * m)))) ∙ big_number-reads_back 4 (2822400 * m) [] (omega (arith, small_rate))
 
     rate_lawful : is_rate (number_at (big_bytes 4 (2822400 * m)) 0 4) ≡ true
-    rate_lawful = ap is_rate rate_reads ∙ elim f.rate [ inl e ↦ ap (λ k. is_rate (2822400 * k)) e | inr (inl e) ↦ ap (λ k. is_rate (2822400 * k)) e | inr (inr e) ↦ ap (λ k. is_rate (2822400 * k)) e ]
+    rate_lawful = ap is_rate rate_reads ∙ elim f.rate [
+      | inl e ↦ ap (λ k. is_rate (2822400 * k)) e
+      | inr (inl e) ↦
+          ap (λ k. is_rate (2822400 * k)) e
+      | inr (inr e) ↦ ap (λ k. is_rate (2822400 * k)) e
+    ]
 
     has_fields : HasFields (fs m ∷ chnl c ∷ cmpr ∷ []) (fs m) (chnl c) cmpr
     has_fields = record {
@@ -165,7 +179,12 @@ module _ (c m frames : ℕ) (s : List ℕ) (f : IsMade c m) (few : frames ≤ 10
     is_shape = record {
       least = f.least;
       most = f.most;
-      rate = elim f.rate [ inl e ↦ inl (ap (λ k. 4704 * k) e) | inr (inl e) ↦ inr (inl (ap (λ k. 4704 * k) e)) | inr (inr e) ↦ inr (inr (ap (λ k. 4704 * k) e)) ];
+      rate = elim f.rate [
+        | inl e ↦ inl (ap (λ k. 4704 * k) e)
+        | inr (inl e) ↦ inr (inl (ap (λ k. 4704 * k) e))
+        | inr (inr e) ↦
+            inr (inr (ap (λ k. 4704 * k) e))
+      ];
     }
 
     sound_small : length s ≤ 112896000
@@ -196,7 +215,8 @@ module _ (c m frames : ℕ) (s : List ℕ) (f : IsMade c m) (few : frames ≤ 10
     pub is_file : IsFile g (made_chunks c m s) []
     is_file =
         subst (λ w. IsFile w (made_chunks c m s) []) (append-nil g)
-        (written_is_file (made_chunks c m s) [] (are.0, (are.1, is_ending may_lack (made_dsd s) are.2)) (lit≤ tt) (omega (arith, made_long, sound_small, f.most)))
+        (written_is_file (made_chunks c m s) [] (are.0, (are.1, is_ending may_lack (made_dsd s) are.2)) (lit≤ tt)
+        (omega (arith, made_long, sound_small, f.most)))
 
     heads_are : (top_level g).heads ≡ heads_from 16 (made_chunks c m s)
     heads_are = ap (λ (x : Found). x.heads) (found_is g (made_chunks c m s) [] is_file)
@@ -261,7 +281,8 @@ module _ (c m frames : ℕ) (s : List ℕ) (f : IsMade c m) (few : frames ≤ 10
         let once : nat_lt 1 (length (all "PROP" g)) ≡ false = ap (λ hs. nat_lt 1 (length hs)) prop_named in
         let size : (prop_head g).size ≡ length (made_prop_body c m) = ap (λ (hs : List Head). (the_first hs).size) prop_named in
         let most : nat_lt 65536 (prop_head g).size ≡ false = le-ltb 65536 (prop_head g).size (omega (arith, size, prop_long, f.most)) in
-        let fields = lawful_prop (body_place (prop_head g)) (made_prop_body c m) (fs m ∷ chnl c ∷ cmpr ∷ []) (fs m) (chnl c) cmpr (is_prop c m f) (has_fields c m f) in
+        let fields = lawful_prop (body_place (prop_head g)) (made_prop_body c m) (fs m ∷ chnl c ∷ cmpr ∷ []) (fs m) (chnl c) cmpr (is_prop c m f)
+        (has_fields c m f) in
         let local : local_fault (body_place (prop_head g)) (prop g) ≡ None = ap (local_fault (body_place (prop_head g))) prop_read ∙ fields in
         rw (some, once, most) local
 

@@ -28,7 +28,8 @@ dsf_frames_are_settled form n (w ∷ ws) = (one (offends_or_not (shape form) w),
 abbrev OneList : Shape → List (List ℕ) → Type 0
 OneList f frames = (sounds : List (List ℕ)) × AllZip (Means f) frames sounds × ((others : List (List ℕ)) → AllZip (Means f) frames others → others ≡ sounds)
 
-some_sounds : (f : Shape) (frames : List (List ℕ)) → AreAnswered decode f frames → NoneOf decode f frames → (sounds : List (List ℕ)) × AllZip (Means f) frames sounds
+some_sounds : (f : Shape) (frames : List (List ℕ)) → AreAnswered decode f frames → NoneOf decode f frames → (sounds : List (List ℕ))
+    × AllZip (Means f) frames sounds
 some_sounds f [] a none = ([], tt)
 some_sounds f (w ∷ ws) (inl r, more) none = absurd (none.0 r.fault r.refuses)
 some_sounds f (w ∷ ws) (inr u, more) none =

@@ -19,7 +19,8 @@ use Rattle.dsdiff_spec.specs.Made.{made}
 use Rattle.dsdiff_spec.specs.Dsf.{dsdiff, ToDsf, DsfBefore}
 use Rattle.dsdiff_spec.specs.Ranges.{Sound, range_of, wants, range_before, place_of}
 use Rattle.dsdiff_spec.specs.Words.{Command, encode, decode, cut, frame, check, show, show_frame, index, make, make_run, encode_dsf, decode_dsf, range}
-use Rattle.dsdiff_spec.specs.Lines.{Line, words_line, file_line, frame_fault_line, coded_line, decoded_line, cut_line, frame_line, range_line, made_line, made_run_line}
+use Rattle.dsdiff_spec.specs.Lines.{Line, words_line, file_line, frame_fault_line, coded_line, decoded_line, cut_line, frame_line, range_line}
+use Rattle.dsdiff_spec.specs.Lines.{made_line, made_run_line}
 use Rattle.dsdiff_spec.specs.Lines.{check_line, show_lines, plain_frame_line, coded_frame_line, index_lines}
 use Rattle.dsdiff_spec.specs.declared.faults.FileFault.{FileFault}
 

@@ -1,5 +1,6 @@
 -- What an accepted DSF file has: channels and a rate, few frames, numbers of their sizes.
-use Rattle.std.proofs.Common.{◌≡◌, ◌⊎◌, inl, inr, ℕ, zero, suc, ◌+◌, ◌*◌, ◌/◌, ◌^◌, ◌<◌, ◌≤◌, Bool, true, false, List, [], ◌∷◌, length, refl, sym, ap, ◌∙◌, arith, None, ltb-false, eqb-true}
+use Rattle.std.proofs.Common.{◌≡◌, ◌⊎◌, inl, inr, ℕ, zero, suc, ◌+◌, ◌*◌, ◌/◌, ◌^◌, ◌<◌, ◌≤◌, Bool, true, false, List, [], ◌∷◌, length, refl, sym, ap}
+use Rattle.std.proofs.Common.{◌∙◌, arith, None, ltb-false, eqb-true}
 use Rattle.std.specs.Prelude.{not, ◌||◌, ◌==◌, slice_index}
 use Rattle.byteorder.specs.Numbers.{little_from-lt}
 use Rattle.dst_spec.specs.Bits.{AreBytes}

@@ -1,5 +1,6 @@
 -- A DSF file is its head and its samples: files of the same samples are the same.
-use Rattle.std.proofs.Common.{◌≡◌, ℕ, zero, suc, ◌+◌, ◌-◌, ◌*◌, ◌/◌, ◌%◌, ◌^◌, ◌<◌, false, if◌then◌else◌, List, ◌∷◌, ◌++◌, map, reverse, take, get_or, refl, sym, ap, ap₂, ◌∙◌, inl, inr, arith}
+use Rattle.std.proofs.Common.{◌≡◌, ℕ, zero, suc, ◌+◌, ◌-◌, ◌*◌, ◌/◌, ◌%◌, ◌^◌, ◌<◌, false, if◌then◌else◌, List, ◌∷◌, ◌++◌, map, reverse, take, get_or}
+use Rattle.std.proofs.Common.{refl, sym, ap, ap₂, ◌∙◌, inl, inr, arith}
 use Rattle.std.specs.Prelude.{◌==◌}
 use Rattle.std.specs.List.{flat_map, range_with_len}
 use Rattle.std.proofs.lemmas.Bool.{cases_lt, lt-ltb, le-ltb}
@@ -30,7 +31,8 @@ pub with_alike : (d : Dsf) (F G : ℕ → ℕ → ℕ) (n : ℕ) → ((c t : ℕ
 unfolding dsf_with
 with_alike d F G n same =
     ap (λ w. dsf_header d ++ w) (flat_alike (dsf_row d F) (dsf_row d G) 0 n (λ r l.
-    flat_alike (λ c. map (λ j. dsf_byte d F c (4096 * r + j)) (range_with_len 0 4096)) (λ c. map (λ j. dsf_byte d G c (4096 * r + j)) (range_with_len 0 4096)) 0 d.channels
+    flat_alike (λ c. map (λ j. dsf_byte d F c (4096 * r + j)) (range_with_len 0 4096))
+    (λ c. map (λ j. dsf_byte d G c (4096 * r + j)) (range_with_len 0 4096)) 0 d.channels
     (λ c k. map_alike (λ j. dsf_byte d F c (4096 * r + j)) (λ j. dsf_byte d G c (4096 * r + j)) 0 4096
     (λ j m. byte_alike d F G c (4096 * r + j) (λ t. same c t (omega (arith, k)))))))
 

@@ -22,7 +22,8 @@ same_key file end h c d p q = two c.id d.id c.body d.body (sym p.id ∙ q.id) (s
     two : (a b x y : List ℕ) → a ≡ b → x ≡ y → ◌≡◌ {A = Key} (record { id = a; body = x }) (record { id = b; body = y })
     two a b x y e f = rw (e, f) refl
 
-pub same_keys : (file : List ℕ) (end : ℕ) (hs : List Head) (cs ds : List Chunk) → AllZip (Holds file end) hs cs → AllZip (Holds file end) hs ds → map key cs ≡ map key ds
+pub same_keys : (file : List ℕ) (end : ℕ) (hs : List Head) (cs ds : List Chunk) → AllZip (Holds file end) hs cs → AllZip (Holds file end) hs ds →
+    map key cs ≡ map key ds
 same_keys file end [] [] [] p q = refl
 same_keys file end [] [] (d ∷ ds) p q = absurd q
 same_keys file end [] (c ∷ cs) ds p q = absurd p
@@ -56,7 +57,8 @@ empty_key x xs e = cc
 no_more : (x : Key) (xs : List Key) → [] ≡ x ∷ xs → ⊥
 no_more x xs e = cc
 
-pub four : (version prop sound : Chunk) (front middle last : List Chunk) (first : Key) (body s told : List ℕ) → Lacks prop_id (version ∷ front) → Lacks sound_id middle →
+pub four : (version prop sound : Chunk) (front middle last : List Chunk) (first : Key) (body s told : List ℕ) → Lacks prop_id (version ∷ front) →
+    Lacks sound_id middle →
     map key ((version ∷ front ++ prop ∷ middle) ++ sound ∷ last)
     ≡ first ∷ record { id = codes "PROP"; body = body } ∷ record { id = codes "DSD "; body = s } ∷ record { id = codes "DSFK"; body = told } ∷ [] →
     AreFour front middle last told

@@ -1,5 +1,6 @@
 -- What encoding writes of a DSF file is decoded to that file again, and to no other.
-use Rattle.std.proofs.Common.{◌≡◌, inl, inr, ℕ, ◌+◌, ◌-◌, ◌*◌, ◌/◌, ◌%◌, ◌<◌, ◌≤◌, List, [], ◌∷◌, ◌++◌, map, length, take, refl, sym, ap, ap₂, subst, ◌∙◌, arith, None}
+use Rattle.std.proofs.Common.{◌≡◌, inl, inr, ℕ, ◌+◌, ◌-◌, ◌*◌, ◌/◌, ◌%◌, ◌<◌, ◌≤◌, List, [], ◌∷◌, ◌++◌, map, length, take, refl, sym, ap, ap₂, subst}
+use Rattle.std.proofs.Common.{◌∙◌, arith, None}
 use Rattle.std.specs.List.{AllByRecursion, AllZip, concat}
 use Rattle.std.proofs.lemmas.Nat.{mul-le}
 use Rattle.std.proofs.Math.Nat.{mul-mod_left, mul-le-mul_right, lt-div-mul-add}
@@ -18,7 +19,8 @@ use Rattle.dsdiff_spec.specs.Made.{plain_form}
 use Rattle.dsdiff_spec.specs.Written.{form_of}
 use Rattle.dsdiff_spec.specs.Coded.{Picks, pieces, stored_frames}
 use Rattle.dsdiff_spec.specs.Decoded.{frames_of}
-use Rattle.dsdiff_spec.specs.Dsf.{Dsf, dsf_of, dsf_fault, octets, rows, dsf_sample, dsdiff, dsfk_heads, dsf_said, dsf_in, usual_type, dsf_with, bare, sample_to, to_dsf, ToDsf}
+use Rattle.dsdiff_spec.specs.Dsf.{Dsf, dsf_of, dsf_fault, octets, rows, dsf_sample, dsdiff, dsfk_heads, dsf_said, dsf_in, usual_type, dsf_with, bare}
+use Rattle.dsdiff_spec.specs.Dsf.{sample_to, to_dsf, ToDsf}
 use Rattle.dsdiff_spec.specs.Form.{size_of_sound}
 use Rattle.dsdiff_spec.specs.Samples.{sample_in}
 use Rattle.dsdiff_spec.specs.Laws.{ArePicks, IsPlainFile, coded_file, DsfLaw}
@@ -90,7 +92,8 @@ module _ (f : List ℕ) (picks : Picks) (bytes : AreBytes f) (a : IsAcceptedDsf 
 
     s_few : frames_for (sound_bytes (shape_of (dsf_of f).channels (dsf_of f).multiple)) (length (sound f (dsf_of f))) ≤ 1000000
     s_few =
-        let some : 0 < 4704 * (dsf_of f).multiple = elim a.rate [ inl e ↦ omega (arith, e) | inr (inl e) ↦ omega (arith, e) | inr (inr e) ↦ omega (arith, e) ] in
+        let some : 0 < 4704 * (dsf_of f).multiple =
+        elim a.rate [ inl e ↦ omega (arith, e) | inr (inl e) ↦ omega (arith, e) | inr (inr e) ↦ omega (arith, e) ] in
         let less = same_frames_for (4704 * (dsf_of f).multiple) (octets (dsf_of f)) (dsf_of f).channels some a.least in
         let same : frames_for (4704 * (dsf_of f).multiple * (dsf_of f).channels) (length (sound f (dsf_of f)))
         ≡ frames_for (4704 * (dsf_of f).multiple * (dsf_of f).channels) (octets (dsf_of f) * (dsf_of f).channels) =
@@ -128,7 +131,8 @@ module _ (f : List ℕ) (picks : Picks) (bytes : AreBytes f) (a : IsAcceptedDsf 
         let p = e.p.parts in
         let cs = (p.version ∷ p.front ++ p.prop ∷ p.middle) ++ p.sound ∷ p.last in
         let ds = dsf_chunks (dsf_of f).channels (dsf_of f).multiple (sound f (dsf_of f)) (told (dsf_of f)) in
-        let theirs = subst (λ hs. AllZip (Holds (dsdiff f) (form_end (dsdiff f))) hs cs) (sym p.heads) (file_holds (dsdiff f) cs (behind_form (dsdiff f)) p.formed) in
+        let theirs = subst (λ hs. AllZip (Holds (dsdiff f) (form_end (dsdiff f))) hs cs) (sym p.heads)
+        (file_holds (dsdiff f) cs (behind_form (dsdiff f)) p.formed) in
         let ours = subst (λ hs. AllZip (Holds (dsdiff f) (form_end (dsdiff f))) hs ds) (sym heads_here) (file_holds (dsdiff f) ds [] formed_here) in
         four p.version p.prop p.sound p.front p.middle p.last _ (made_prop_body (dsf_of f).channels (dsf_of f).multiple) (sound f (dsf_of f)) (told (dsf_of f))
         p.apart_front.props p.apart_middle.sounds (same_keys (dsdiff f) (form_end (dsdiff f)) (top_level (dsdiff f)).heads cs ds theirs ours)
@@ -149,7 +153,8 @@ module _ (f : List ℕ) (picks : Picks) (bytes : AreBytes f) (a : IsAcceptedDsf 
     in_order : coded_chunks e.p (accepted (dsdiff f)) stored ≡ before ++ are_four.kept ∷ []
     in_order =
         let rest = dst_chunk stored ∷ dsti_chunk (entries_of e.p stored) ∷ origin_of_parts e.p (accepted (dsdiff f)) ∷ [] in
-        same_chunks e.p.parts.version (coded_prop e.p) rest e.p.parts.front e.p.parts.middle e.p.parts.last are_four.kept are_four.front_none are_four.middle_none are_four.last_one
+        same_chunks e.p.parts.version (coded_prop e.p) rest e.p.parts.front e.p.parts.middle e.p.parts.last are_four.kept are_four.front_none
+        are_four.middle_none are_four.last_one
       where
         same_chunks : (v p : Chunk) (rest front middle last : List Chunk) (k : Chunk) → front ≡ [] → middle ≡ [] → last ≡ k ∷ [] →
             (v ∷ front ++ p ∷ middle) ++ (rest ++ last) ≡ (v ∷ p ∷ rest) ++ k ∷ []
@@ -168,7 +173,8 @@ module _ (f : List ℕ) (picks : Picks) (bytes : AreBytes f) (a : IsAcceptedDsf 
     held : Holds (coded_file picks (dsdiff f)) (form_end (coded_file picks (dsdiff f))) (head_behind before are_four.kept) are_four.kept
     held = stands_behind (coded_file picks (dsdiff f)) before [] are_four.kept [] made
 
-    number_told : (i n : ℕ) → i + n ≤ 14 → number_at (coded_file picks (dsdiff f)) (body_place (head_behind before are_four.kept) + i) n ≡ number_at (told (dsf_of f)) i n
+    number_told : (i n : ℕ) → i + n ≤ 14 → number_at (coded_file picks (dsdiff f)) (body_place (head_behind before are_four.kept) + i) n ≡ number_at
+        (told (dsf_of f)) i n
     number_told i n within =
         number_inside (coded_file picks (dsdiff f)) (form_end (coded_file picks (dsdiff f))) (head_behind before are_four.kept) are_four.kept i n held
         (omega (arith, within, ap length are_four.body))
@@ -200,7 +206,8 @@ module _ (f : List ℕ) (picks : Picks) (bytes : AreBytes f) (a : IsAcceptedDsf 
         ∙ same_said form'.channels form'.multiple _ _ _ (dsf_of f).channels (dsf_of f).multiple _ _ _ channels multiple samples type bits
       where
         same_said : (p q r t u p' q' r' t' u' : ℕ) → p ≡ p' → q ≡ q' → r ≡ r' → t ≡ t' → u ≡ u' →
-            ◌≡◌ {A = Dsf} (record { channels = p; multiple = q; samples = r; type = t; bits = u }) (record { channels = p'; multiple = q'; samples = r'; type = t'; bits = u' })
+            ◌≡◌ {A = Dsf} (record { channels = p; multiple = q; samples = r; type = t; bits = u })
+            (record { channels = p'; multiple = q'; samples = r'; type = t'; bits = u' })
         same_said p q r t u p' q' r' t' u' v w x y z = rw (v, w, x, y, z) refl
 
     -- ---- the sounds of its frames, joined, begin with the sound
@@ -243,4 +250,5 @@ samples_come_back f picks bytes none are =
 
 -- picks of no parameters at all are enough to tell that the plain form is accepted
 pub plain_form_accepted : (f : List ℕ) → AreBytes f → dsf_fault f ≡ None → (level : ℕ) → refusal (encode level) (dsdiff f) ≡ None
-plain_form_accepted f bytes none level = accepts_at f (λ sound shape. []) bytes (accepted_dsf f bytes none) (λ sound shape lawful sounded. (omega arith, tt)) level
+plain_form_accepted f bytes none level =
+    accepts_at f (λ sound shape. []) bytes (accepted_dsf f bytes none) (λ sound shape lawful sounded. (omega arith, tt)) level

@@ -13,9 +13,11 @@ use Rattle.dsdiff_spec.specs.Bytes.{◌is◌}
 use Rattle.dsdiff_spec.specs.Faults.{◌when◌}
 use Rattle.dsdiff_spec.specs.Chunks.{Chunk, IsChunk, bytes_of_chunk, Head, Found, body_place, body_of, named, the_first}
 use Rattle.dsdiff_spec.specs.Form.{Form, plain, coded, shape_of, frames_for, size_of_sound, is_coded}
-use Rattle.dsdiff_spec.specs.Parts.{form_size, top_level, all, prop_head, prop, sounds, sound_head, kind, compression, channel_count, multiple, frames_needed, behind_form}
+use Rattle.dsdiff_spec.specs.Parts.{form_size, top_level, all, prop_head, prop, sounds, sound_head, kind, compression, channel_count, multiple}
+use Rattle.dsdiff_spec.specs.Parts.{frames_needed, behind_form}
 use Rattle.dsdiff_spec.specs.Refusal.{refusal}
-use Rattle.dsdiff_spec.specs.Rules.{opening_fault, is_version, version_fault, local_fault, prop_fault, sound_fault, plain_fault, kind_fault, form_fault, form_of_kind, accepted}
+use Rattle.dsdiff_spec.specs.Rules.{opening_fault, is_version, version_fault, local_fault, prop_fault, sound_fault, plain_fault, kind_fault}
+use Rattle.dsdiff_spec.specs.Rules.{form_fault, form_of_kind, accepted}
 use Rattle.dsdiff_spec.specs.Rules as rules
 use Rattle.dsdiff_spec.specs.Words.{encode}
 use Rattle.dsdiff_spec.specs.Written.{form_of}
@@ -75,7 +77,8 @@ module _ (c m : ℕ) (f : IsMade c m) (body_bytes_are : AreBytes (made_prop_body
 
     pub prop_type : compression (made_prop_body c m) ≡ codes "DSD "
     prop_type = ap compression (sym silent_prop) ∙ silent_rules.compressed
-        ∙ (bytes_eq-Decides (sound_head silent).id (codes "DSD ")).0 (is_dsd ((sound_head silent).id is "DSD ") (made.kind_read c m 0 [] f (omega arith) no_sound))
+        ∙ (bytes_eq-Decides (sound_head silent).id (codes "DSD ")).0
+        (is_dsd ((sound_head silent).id is "DSD ") (made.kind_read c m 0 [] f (omega arith) no_sound))
       where
         is_dsd : (b : Bool) → (if b then plain else coded) ≡ plain → b ≡ true
         is_dsd true e = refl
@@ -92,7 +95,12 @@ module _ (c m : ℕ) (s t : List ℕ) (f : IsMade c m) (told : length t ≡ 14) 
     is_shape = record {
       least = f.least;
       most = f.most;
-      rate = elim f.rate [ inl e ↦ inl (ap (λ k. 4704 * k) e) | inr (inl e) ↦ inr (inl (ap (λ k. 4704 * k) e)) | inr (inr e) ↦ inr (inr (ap (λ k. 4704 * k) e)) ];
+      rate = elim f.rate [
+        | inl e ↦ inl (ap (λ k. 4704 * k) e)
+        | inr (inl e) ↦ inr (inl (ap (λ k. 4704 * k) e))
+        | inr (inr e) ↦
+            inr (inr (ap (λ k. 4704 * k) e))
+      ];
     }
 
     some : 0 < sound_bytes (shape_of c m)
@@ -151,7 +159,8 @@ module _ (c m : ℕ) (s t : List ℕ) (f : IsMade c m) (told : length t ≡ 14) 
     prop_read = ap (body_of g) (ap the_first prop_named) ∙ (stands_behind g (version ∷ []) (dsd s ∷ dsfk_chunk t ∷ []) (prop_chunk c m) [] is_file).body
 
     prop_bytes : AreBytes (made_prop_body c m)
-    prop_bytes = subst AreBytes prop_read (AreBytes-take (prop_head g).size (drop (body_place (prop_head g)) g) (AreBytes-drop (body_place (prop_head g)) g bytes))
+    prop_bytes = subst AreBytes prop_read (AreBytes-take (prop_head g).size (drop (body_place (prop_head g)) g)
+        (AreBytes-drop (body_place (prop_head g)) g bytes))
 
     sound_named : sounds g ≡ head_behind (version ∷ prop_chunk c m ∷ []) (dsd s) ∷ []
     sound_named =

@@ -1,5 +1,6 @@
 -- Digits in a list of bytes, and the number that they are.
-use Rattle.std.proofs.Common.{◌≡◌, ◌≢◌, ℕ, zero, suc, ◌+◌, ◌-◌, ◌*◌, ◌^◌, ◌<◌, ◌==◌, Bool, true, false, List, [], ◌∷◌, length, drop, get_or, fold, refl, ap, sym, ◌∙◌, arith, add-one, ltb-false, eqb-true, Option, Some, None, Result, Ok, Err}
+use Rattle.std.proofs.Common.{◌≡◌, ◌≢◌, ℕ, zero, suc, ◌+◌, ◌-◌, ◌*◌, ◌^◌, ◌<◌, ◌==◌, Bool, true, false, List, [], ◌∷◌, length, drop, get_or, fold}
+use Rattle.std.proofs.Common.{refl, ap, sym, ◌∙◌, arith, add-one, ltb-false, eqb-true, Option, Some, None, Result, Ok, Err}
 use Rattle.std.specs.Prelude.{not, ◌&&◌, ◌||◌, nat_lt}
 use Rattle.std.specs.Int.{IsInRange}
 use Rattle.std.specs.List.{list_all}
@@ -11,10 +12,12 @@ use Rattle.words_spec.specs.Slots.{is_digit, is_numeral, numeral_value, number_w
 use Rattle.dst_spec.proofs.Lists.{both_true}
 
 -- the byte at a place, and those behind it
-pub split_at : (bytes : List ℕ) (i : ℕ) → i < length bytes → list_all is_digit (drop i bytes) ≡ (is_digit (get_or bytes i 0) && list_all is_digit (drop (i + 1) bytes))
+pub split_at : (bytes : List ℕ) (i : ℕ) → i < length bytes →
+    list_all is_digit (drop i bytes) ≡ (is_digit (get_or bytes i 0) && list_all is_digit (drop (i + 1) bytes))
 split_at [] i h = absurd (omega arith)
 split_at (b ∷ bytes) zero h = refl
-split_at (b ∷ bytes) (suc i) h = rw add-one (split_at bytes i (omega arith) ∙ ap (λ n. is_digit (get_or bytes i 0) && list_all is_digit (drop n bytes)) (add-one i))
+split_at (b ∷ bytes) (suc i) h = rw add-one
+    (split_at bytes i (omega arith) ∙ ap (λ n. is_digit (get_or bytes i 0) && list_all is_digit (drop n bytes)) (add-one i))
 
 in_range : (c : ℕ) → is_digit c ≡ true → IsInRange 48 57 c
 in_range c e = go (nat_lt c 48) (nat_lt 57 c) refl refl e
@@ -48,10 +51,12 @@ numeral_is : (w : List ℕ) → is_numeral w ≡ true → (list_all is_digit w �
 numeral_is [] e = absurd cc
 numeral_is (c ∷ cs) e = go (c == 48) (length cs == 0) refl refl e
   where
-    many : not (nat_lt c 49 || nat_lt 57 c) ≡ true → list_all is_digit cs ≡ true → (list_all is_digit (c ∷ cs) ≡ true) × (0 < length (c ∷ cs)) × (get_or (c ∷ cs) 0 0 ≢ 43)
+    many : not (nat_lt c 49 || nat_lt 57 c) ≡ true → list_all is_digit cs ≡ true → (list_all is_digit (c ∷ cs) ≡ true) × (0 < length (c ∷ cs))
+        × (get_or (c ∷ cs) 0 0 ≢ 43)
     many h k = go (nat_lt c 49) (nat_lt 57 c) refl refl h
       where
-        go : (a b : Bool) → nat_lt c 49 ≡ a → nat_lt 57 c ≡ b → not (a || b) ≡ true → (list_all is_digit (c ∷ cs) ≡ true) × (0 < length (c ∷ cs)) × (get_or (c ∷ cs) 0 0 ≢ 43)
+        go : (a b : Bool) → nat_lt c 49 ≡ a → nat_lt 57 c ≡ b → not (a || b) ≡ true → (list_all is_digit (c ∷ cs) ≡ true) × (0 < length (c ∷ cs))
+            × (get_or (c ∷ cs) 0 0 ≢ 43)
         go false false low high h =
             let least = ltb-false c 49 low in
             let most = ltb-false 57 c high in
@@ -70,10 +75,12 @@ numeral_is (c ∷ cs) e = go (c == 48) (length cs == 0) refl refl e
     go false b zero_first none h = let both = both_true _ _ h in many both.0 both.1
 
 -- what is read of a numeral is its number, where that has 32 bits
-parsed : {E : Type 0} (w : List ℕ) (r : Result ℕ E) → is_numeral w ≡ true → ParsesUnsigned 32 10 w r → OkIff r ((list_all is_digit w ≡ true) × (0 < length w) × (numeral_value w < 2 ^ 32)) (numeral_value w)
+parsed : {E : Type 0} (w : List ℕ) (r : Result ℕ E) → is_numeral w ≡ true → ParsesUnsigned 32 10 w r →
+    OkIff r ((list_all is_digit w ≡ true) × (0 < length w) × (numeral_value w < 2 ^ 32)) (numeral_value w)
 parsed w r e h = parse_plain own 32 w r h (numeral_is w e).2
 
-pub number_read : {E : Type 0} (w : List ℕ) (r : Result ℕ E) (x : ℕ) → is_numeral w ≡ true → ParsesUnsigned 32 10 w r → r ≡ Ok x → ◌≡◌ {A = Option ℕ} (Some x) (number_word w)
+pub number_read : {E : Type 0} (w : List ℕ) (r : Result ℕ E) (x : ℕ) → is_numeral w ≡ true → ParsesUnsigned 32 10 w r → r ≡ Ok x →
+    ◌≡◌ {A = Option ℕ} (Some x) (number_word w)
 number_read w (Err y) x e h is = absurd cc
 number_read {E} w (Ok y) x e h is =
     let p : ((list_all is_digit w ≡ true) × (0 < length w) × (numeral_value w < 2 ^ 32)) × (y ≡ numeral_value w) = parsed {E = E} w (Ok y) e h in
@@ -81,7 +88,8 @@ number_read {E} w (Ok y) x e h is =
     let same : y ≡ x = cc in
     rw (e, le-ltb 4294967295 (numeral_value w) (omega arith)) (ap Some (sym same ∙ p.1))
 
-pub number_not_read : {E : Type 0} (w : List ℕ) (r : Result ℕ E) (x : E) → is_numeral w ≡ true → ParsesUnsigned 32 10 w r → r ≡ Err x → ◌≡◌ {A = Option ℕ} None (number_word w)
+pub number_not_read : {E : Type 0} (w : List ℕ) (r : Result ℕ E) (x : E) → is_numeral w ≡ true → ParsesUnsigned 32 10 w r → r ≡ Err x →
+    ◌≡◌ {A = Option ℕ} None (number_word w)
 number_not_read w (Ok y) x e h is = absurd cc
 number_not_read w (Err y) x e h is = go (nat_lt 4294967295 (numeral_value w)) refl
   where

@@ -1,5 +1,6 @@
 -- Options that have values: each takes two words, so that further words are no options.
-use Rattle.std.proofs.Common.{◌≡◌, ℕ, zero, suc, ◌*◌, ◌<◌, Bool, true, false, if◌then◌else◌, List, [], ◌∷◌, length, map, take, drop, get_or, ◌≤◌, ◌-◌, refl, ap, sym, ◌∙◌, arith, Option, Some, None}
+use Rattle.std.proofs.Common.{◌≡◌, ℕ, zero, suc, ◌*◌, ◌<◌, Bool, true, false, if◌then◌else◌, List, [], ◌∷◌, length, map, take, drop, get_or, ◌≤◌, ◌-◌}
+use Rattle.std.proofs.Common.{refl, ap, sym, ◌∙◌, arith, Option, Some, None}
 use Rattle.std.proofs.lemmas.List.{take_all}
 use Rattle.std.specs.Prelude.{codes, not, find, filter, option_map}
 use Rattle.std.specs.List.{AllByRecursion}
@@ -47,7 +48,8 @@ none_set f s words has none = go s.name s.has_value s.allows has words none
         value None = refl
         value (Some n) = h v vs n refl
 
-pub too_many_words : (n : ℕ) (settings : List Setting) (words : List Word) → AllByRecursion HasValue settings → 2 * n < length words → read_settings n settings words ≡ None
+pub too_many_words : (n : ℕ) (settings : List Setting) (words : List Word) → AllByRecursion HasValue settings → 2 * n < length words →
+    read_settings n settings words ≡ None
 too_many_words n settings [] h long = absurd (omega arith)
 too_many_words zero settings (w ∷ ws) h long = refl
 too_many_words (suc n) settings (w ∷ ws) h long =
@@ -57,7 +59,8 @@ too_many_words (suc n) settings (w ∷ ws) h long =
     behind : ℕ × List Word → Option (List (Word × ℕ))
     behind r = option_map (λ found. (w, r.0) ∷ found) (read_settings n (filter (λ t. not (w is t.name)) settings) r.1)
 
-    go : ((vs : List Word) → 2 * n < length vs → read_settings n (filter (λ t. not (w is t.name)) settings) vs ≡ None) → (o : Option Setting) → find (λ s. w is s.name) settings ≡ o →
+    go : ((vs : List Word) → 2 * n < length vs → read_settings n (filter (λ t. not (w is t.name)) settings) vs ≡ None) → (o : Option Setting) →
+        find (λ s. w is s.name) settings ≡ o →
         ◌≡◌ {A = Option (List (Word × ℕ))} (elim o [ None ↦ None | Some s ↦ set_behind behind (setting_value s ws) ]) None
     go later None eq = refl
     go later (Some s) eq = none_set behind s ws (found_has_value (λ s. w is s.name) settings s h eq) (λ v vs k e.
@@ -103,7 +106,8 @@ encode_dsf_row words = coded_row encode_dsf (read_slots (file ∷ file ∷ []) w
 
 -- words behind the first one, which is a row's name
 pub row_named : {A : Type 0} (f : A → Word) (name : String) (row : List Word → Option Task) → ((words : List Word) → task_of (codes name ∷ words) ≡ row words) →
-    (words : List A) (x : A) → 1 ≤ length words → f (get_or words 0 x) ≡ codes name → task_of (map f words) ≡ row (map f (take (length words - 1) (drop 1 words)))
+    (words : List A) (x : A) → 1 ≤ length words → f (get_or words 0 x) ≡ codes name →
+    task_of (map f words) ≡ row (map f (take (length words - 1) (drop 1 words)))
 row_named f name row same [] x long e = absurd (omega arith)
 row_named f name row same (w ∷ ws) x long e =
     let rest : take (length (w ∷ ws) - 1) ws ≡ ws = take_all (length (w ∷ ws) - 1) ws (omega arith) in

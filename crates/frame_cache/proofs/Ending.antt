@@ -1,5 +1,6 @@
 -- A read goes on with a frame, or ends: at a frame that is refused, where the source fails, or behind the last frame.
-use Rattle.std.proofs.Common.{◌≡◌, ◌⊎◌, inl, inr, ℕ, zero, suc, ◌+◌, ◌-◌, ◌*◌, ◌<◌, ◌≤◌, false, List, [], ◌∷◌, ◌++◌, length, take, Option, Some, refl, sym, ap, subst, ◌∙◌, arith}
+use Rattle.std.proofs.Common.{◌≡◌, ◌⊎◌, inl, inr, ℕ, zero, suc, ◌+◌, ◌-◌, ◌*◌, ◌<◌, ◌≤◌, false, List, [], ◌∷◌, ◌++◌, length, take, Option, Some, refl}
+use Rattle.std.proofs.Common.{sym, ap, subst, ◌∙◌, arith}
 use Rattle.std.specs.Prelude.{min}
 use Rattle.std.specs.List.{range_with_len}
 use Rattle.std.proofs.Math.Nat.{mul-le-mul, mul-le-mul_right}
@@ -68,21 +69,24 @@ one_more_wanted r r1 r2 a k n m bytes bytes' g g' g'' le same w w' =
     (wanted_then r r1 r2 (range_with_len a (k - a)) (k ∷ []) n m bytes g g' g'' w (subst (λ b. HasWanted r1 r2 (k ∷ []) m b g' g'') same w'))
 
 -- a part of the frame in front is that part of the whole sound
-pub front_part : (file : List ℕ) (form : Form) (sound s : List ℕ) (r r' : Reader) (k n end : ℕ) → IsReaderOf file form r → IsShape r.shape → Sound file form sound →
+pub front_part : (file : List ℕ) (form : Form) (sound s : List ℕ) (r r' : Reader) (k n end : ℕ) → IsReaderOf file form r → IsShape r.shape →
+    Sound file form sound →
     IsSame r r' → KeepsSounds file r' → (h : HasInFront r'.kept k) → s ≡ h.first.sound → k < length r.index → n ≡ sound_bytes r.shape → end ≤ r.size →
     (i m : ℕ) → i + m ≤ n → k * n + i + m ≤ end → bytes_at sound (k * n + i) m ≡ bytes_at s i m
 front_part file form sound s r r' k n end of lawful whole same keeps h is l bytes most i m fits within =
     let kept = subst (KeepsSounds file) same keeps in
     let first = (subst (λ ks. KeepsSounds file (record r { kept = ks })) h.parts kept).0 in
     let here : Means r.shape (frame_in file r k) h.first.sound = subst (λ j. Means r.shape (frame_in file r j) h.first.sound) h.frame_is first in
-    let shaped : Means (shape form) (frame_at file (entry r.index k)) h.first.sound = subst (λ f. Means f (frame_in file r k) h.first.sound) (sym of.shape_is) here in
+    let shaped : Means (shape form) (frame_at file (entry r.index k)) h.first.sound =
+    subst (λ f. Means f (frame_in file r k) h.first.sound) (sym of.shape_is) here in
     let found : Means (shape form) (frame_at file (entry (entries file form) k)) h.first.sound =
     subst (λ es. Means (shape form) (frame_at file (entry es k)) h.first.sound) (sym of.entries_are) shaped in
     let n_is : n ≡ sound_bytes_of form = bytes ∙ ap sound_bytes (sym of.shape_is) in
     let count = ap length of.entries_are in
     let place : k * n ≡ k * sound_bytes_of form = ap (λ b. k * b) n_is in
     ap (λ p. bytes_at sound (p + i) m) place
-    ∙ part_of_sound file form sound k i m h.first.sound (subst IsShape (sym of.shape_is) lawful) whole (omega (arith, count, l)) found (omega (arith, n_is, fits))
+    ∙ part_of_sound file form sound k i m h.first.sound (subst IsShape (sym of.shape_is) lawful) whole (omega (arith, count, l)) found
+    (omega (arith, n_is, fits))
     (omega (arith, place, within, most, of.size_is))
     ∙ ap (λ w. bytes_at w i m) (sym is)
 
@@ -120,5 +124,6 @@ refused_at r r1 r2 wants a e k n bytes bytes' g g' fault is le l w same none tol
     }
 
 -- ---- a read that is done
-pub all_read : (sound out : List ℕ) (from len done : ℕ) → length out ≡ len → done ≡ len → take done out ≡ bytes_at sound from done → out ≡ bytes_at sound from len
+pub all_read : (sound out : List ℕ) (from len done : ℕ) → length out ≡ len → done ≡ len → take done out ≡ bytes_at sound from done →
+    out ≡ bytes_at sound from len
 all_read sound out from len done long is h = sym (take_all len out (omega arith)) ∙ ap (λ k. take k out) (sym is) ∙ h ∙ ap (bytes_at sound from) is

@@ -1,5 +1,6 @@
 -- What slots hold after the one that holds a frame moved to the front, and after fewer of them are taken.
-use Rattle.std.proofs.Common.{◌≡◌, ℕ, zero, suc, ◌+◌, ◌==◌, Bool, true, false, List, [], ◌∷◌, length, take, nat_eq, slice_get, Option, Some, None, option_map, refl, sym, ap, subst, ◌∙◌, arith, eqb-true, eq-eqb}
+use Rattle.std.proofs.Common.{◌≡◌, ℕ, zero, suc, ◌+◌, ◌==◌, Bool, true, false, List, [], ◌∷◌, length, take, nat_eq, slice_get, Option, Some, None}
+use Rattle.std.proofs.Common.{option_map, refl, sym, ap, subst, ◌∙◌, arith, eqb-true, eq-eqb}
 use Rattle.std.specs.List.{AllByRecursion, IsDistinct, cons_option}
 use Rattle.std.specs.Map.{keys_of, lookup_entry, remove_entry}
 use Rattle.std.specs.Option.{is_some}
@@ -115,7 +116,8 @@ found_later_behind_none f es k s is apart h =
           rw (apart, is) (h.others_are ∙ ap (λ ks. others ks k) behind, h.filled filled.1);
     }
 
-found_later : (f : ℕ × Slot) (es : List (ℕ × Slot)) (k s j : ℕ) → f.1.frame ≡ Some j → (j == k) ≡ false → nat_eq s f.0 ≡ false → HasFound es k s → HasFound (f ∷ es) k s
+found_later : (f : ℕ × Slot) (es : List (ℕ × Slot)) (k s j : ℕ) → f.1.frame ≡ Some j → (j == k) ≡ false → nat_eq s f.0 ≡ false → HasFound es k s →
+    HasFound (f ∷ es) k s
 found_later f es k s j is test apart h =
     record {
       entry = h.entry;

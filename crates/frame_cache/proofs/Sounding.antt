@@ -1,5 +1,6 @@
 -- A part of a frame's sound is that part of the whole sound.
-use Rattle.std.proofs.Common.{◌≡◌, ◌⊎◌, inl, inr, ℕ, zero, suc, ◌+◌, ◌-◌, ◌*◌, ◌<◌, ◌≤◌, List, [], ◌∷◌, ◌++◌, length, take, drop, get_or, replicate, refl, sym, ap, subst, ◌∙◌, arith, length-append, length-drop}
+use Rattle.std.proofs.Common.{◌≡◌, ◌⊎◌, inl, inr, ℕ, zero, suc, ◌+◌, ◌-◌, ◌*◌, ◌<◌, ◌≤◌, List, [], ◌∷◌, ◌++◌, length, take, drop, get_or, replicate}
+use Rattle.std.proofs.Common.{refl, sym, ap, subst, ◌∙◌, arith, length-append, length-drop}
 use Rattle.std.specs.List.{AllZip, concat}
 use Rattle.std.proofs.lemmas.List.{take-append-le, drop-append-le, length-replicate, drop_at, drop-drop, length-map, get_or-map}
 use Rattle.dst_spec.specs.Sample.{Shape, IsShape, IsSound, sound_bytes}
@@ -39,7 +40,8 @@ sound_at : (f : Shape) (frames sounds : List (List ℕ)) (k : ℕ) (s : List ℕ
 sound_at f [] sounds k s lawful z l m = absurd (omega arith)
 sound_at f (w ∷ ws) [] k s lawful z l m = absurd z
 sound_at f (w ∷ ws) (b ∷ bs) zero s lawful z l m = (one_of_both f w s b lawful m z.0, omega arith)
-sound_at f (w ∷ ws) (b ∷ bs) (suc k) s lawful z l m = let later = sound_at f ws bs k s lawful z.1 (omega arith) m in let less = later.1 in (later.0, omega arith)
+sound_at f (w ∷ ws) (b ∷ bs) (suc k) s lawful z l m = let later = sound_at f ws bs k s lawful z.1 (omega arith) m in let less =
+    later.1 in (later.0, omega arith)
 
 -- part of one of several sounds of n bytes each
 part_at : (n : ℕ) (sounds : List (List ℕ)) (k i m : ℕ) → AreWhole n sounds → k < length sounds → i + m ≤ n →

@@ -1,5 +1,6 @@
 -- What an answer to a stream says of the run.
-use Rattle.std.proofs.Common.{◌≡◌, ◌⊎◌, inl, inr, ℕ, ◌<◌, ◌≤◌, List, [], ◌∷◌, length, Option, Some, Result, Ok, Err, Bool, true, false, refl, sym, ap, subst, ◌∙◌, arith}
+use Rattle.std.proofs.Common.{◌≡◌, ◌⊎◌, inl, inr, ℕ, ◌<◌, ◌≤◌, List, [], ◌∷◌, length, Option, Some, Result, Ok, Err, Bool, true, false, refl, sym, ap}
+use Rattle.std.proofs.Common.{subst, ◌∙◌, arith}
 use Rattle.std.specs.Prelude.{IfOk}
 use Rattle.dst_spec.specs.declared.faults.FrameFault.{FrameFault}
 use Rattle.dst_streams.specs.Told.{and_then, IsCutShort}
@@ -24,8 +25,10 @@ use Rattle.dst_streams.specs.Causes.{Rose}
 -- ---- the clauses of the call, put together
 pub ends_of : (a : Result Piped PipeFault) (flow old new : Option (List ℕ)) (room : Option ℕ) →
     IfOk a (λ s. (w : List ℕ) → flow ≡ Some w → (out : List ℕ) × StreamOutcome w (done out (decoded_line s.frames s.bytes ∷ [])) × (new ≡ and_then old out)) →
-    ((fault : FileFault) → a ≡ Err (File fault) → (w : List ℕ) → flow ≡ Some w → (out : List ℕ) × StreamOutcome w (stream_refused fault out) × (new ≡ and_then old out)) →
-    ((k : ℕ) (fault : FrameFault) → a ≡ Err (Frame k fault) → (w : List ℕ) → flow ≡ Some w → (out : List ℕ) × StreamOutcome w (frame_refused k fault out) × (new ≡ and_then old out)) →
+    ((fault : FileFault) → a ≡ Err (File fault) → (w : List ℕ) → flow ≡ Some w → (out : List ℕ) × StreamOutcome w (stream_refused fault out)
+    × (new ≡ and_then old out)) →
+    ((k : ℕ) (fault : FrameFault) → a ≡ Err (Frame k fault) → (w : List ℕ) → flow ≡ Some w → (out : List ℕ)
+    × StreamOutcome w (frame_refused k fault out) × (new ≡ and_then old out)) →
     ((a ≡ Err Read) ⊎ (a ≡ Err Write) → (w : List ℕ) → flow ≡ Some w → (o : Answer) × StreamOutcome w o × IsCutShort old o.out new) →
     (a ≡ Err Write → (w : List ℕ) → flow ≡ Some w → (o : Answer) → StreamOutcome w o → (n : ℕ) → room ≡ Some n → length o.out ≤ n → ⊥) →
     (a ≡ Err Memory → new ≡ old) → (w : List ℕ) → flow ≡ Some w → PipeEnds a w old new room
@@ -46,7 +49,8 @@ ends_by (Err Memory) w old new room e = inr (inr (inl (refl, refl, refl, e)))
 ends_by (Err (File fault)) w old new room e = inr (inr (inr (stream_refused fault e.0, e.1.0, refl, refl, e.1.1)))
 ends_by (Err (Frame k fault)) w old new room e = inr (inr (inr (frame_refused k fault e.0, e.1.0, refl, refl, e.1.1)))
 
-pub ends_as : (a : Result Piped PipeFault) (w : List ℕ) (old new : Option (List ℕ)) (room : Option ℕ) → PipeEnds a w old new room → (a ≡ Err Read → ⊥) → (a ≡ Err Write → ⊥) →
+pub ends_as : (a : Result Piped PipeFault) (w : List ℕ) (old new : Option (List ℕ)) (room : Option ℕ) → PipeEnds a w old new room →
+    (a ≡ Err Read → ⊥) → (a ≡ Err Write → ⊥) →
     (status_of a ≡ 4) ⊎ EndsAsOne (StreamOutcome w) (status_of a) (line_of a ∷ []) old new
 ends_as (Ok s) w old new room e read write = inr (done e.0 (decoded_line s.frames s.bytes ∷ []), e.1.0, refl, refl, e.1.1)
 ends_as (Err Read) w old new room e read write = absurd (read refl)
@@ -135,12 +139,14 @@ done_status words w o n p =
     (λ k fault i. get_all (NotRefused decode (shape_in n.front.prop)) (stream w).frames i.k [] n.none i.within i.fault i.offends) p
 
 -- ---- a report that is sure to take the outcome's lines takes the line
-outcome_fits : (w : List ℕ) (o p : Answer) (n : ℕ) → AreBytes w → StreamOutcome w o → StreamOutcome w p → length (report o.lines) ≤ n → length (report p.lines) ≤ n
+outcome_fits : (w : List ℕ) (o p : Answer) (n : ℕ) → AreBytes w → StreamOutcome w o → StreamOutcome w p → length (report o.lines) ≤ n →
+    length (report p.lines) ≤ n
 outcome_fits w o p n bytes is_one is_other fits =
     let one = one_outcome w bytes in
     subst (λ (x : Answer). length (report x.lines) ≤ n) (one.2 o is_one ∙ sym (one.2 p is_other)) fits
 
-pub line_fits : (a : Result Piped PipeFault) (w : List ℕ) (old new : Option (List ℕ)) (room : Option ℕ) (o : Answer) (n : ℕ) → AreBytes w → PipeEnds a w old new room →
+pub line_fits : (a : Result Piped PipeFault) (w : List ℕ) (old new : Option (List ℕ)) (room : Option ℕ) (o : Answer) (n : ℕ) → AreBytes w →
+    PipeEnds a w old new room →
     StreamOutcome w o → (a ≡ Err Read → ⊥) → (a ≡ Err Write → ⊥) → 7 ≤ n → length (report o.lines) ≤ n → length (report (line_of a ∷ [])) ≤ n
 line_fits (Ok s) w old new room o n bytes e is read write least fits = outcome_fits w o (done e.0 (decoded_line s.frames s.bytes ∷ [])) n bytes is e.1.0 fits
 line_fits (Err Read) w old new room o n bytes e is read write least fits = absurd (read refl)
@@ -149,13 +155,15 @@ line_fits (Err Memory) w old new room o n bytes e is read write least fits = lea
 line_fits (Err (File fault)) w old new room o n bytes e is read write least fits = outcome_fits w o (stream_refused fault e.0) n bytes is e.1.0 fits
 line_fits (Err (Frame k fault)) w old new room o n bytes e is read write least fits = outcome_fits w o (frame_refused k fault e.0) n bytes is e.1.0 fits
 
-pub refused_words_fit : (b : Bool) (w : List ℕ) (o : Answer) (n : ℕ) → b ≡ false → OfWords b w o → length (report o.lines) ≤ n → length (report (words_line ∷ [])) ≤ n
+pub refused_words_fit : (b : Bool) (w : List ℕ) (o : Answer) (n : ℕ) → b ≡ false → OfWords b w o → length (report o.lines) ≤ n →
+    length (report (words_line ∷ [])) ≤ n
 refused_words_fit b w o n e is fits =
     let refused : o ≡ not_understood = subst (λ x. OfWords x w o) e is in
     subst (λ (x : Answer). length (report x.lines) ≤ n) refused fits
 
 -- ---- what is reported
-pub reports_of : (status result : ℕ) (line bytes : List ℕ) (old new : Option (List ℕ)) → (result ≡ status) ⊎ (result ≡ 7) → (result ≡ status → new ≡ and_then old bytes) →
+pub reports_of : (status result : ℕ) (line bytes : List ℕ) (old new : Option (List ℕ)) → (result ≡ status) ⊎ (result ≡ 7) →
+    (result ≡ status → new ≡ and_then old bytes) →
     (result ≡ 7 → IsCutShort old bytes new) → bytes ≡ report (line ∷ []) → Reports status (line ∷ []) result old new
 reports_of status result line bytes old new (inl e) whole cut same = inl (e, whole e ∙ ap (and_then old) same)
 reports_of status result line bytes old new (inr e) whole cut same = inr (e, subst (λ b. IsCutShort old b new) same (cut e))
@@ -178,7 +186,8 @@ headline_of b a w result old new rold rnew room e ends read write status told = 
   | inr o ↦ inr (line_of a ∷ [], (o.0, subst (λ x. OfWords x w o.0) (sym e) o.1, o.2 ∙ sym status, o.3, o.4), told)
 ]
 
-pub complete_of : (words : List Word) (a : Result Piped PipeFault) (w : List ℕ) (result : ℕ) (old new rold rnew : Option (List ℕ)) (room : Option ℕ) → NoFrameIsRefused words w →
+pub complete_of : (words : List Word) (a : Result Piped PipeFault) (w : List ℕ) (result : ℕ) (old new rold rnew : Option (List ℕ)) (room : Option ℕ) →
+    NoFrameIsRefused words w →
     PipeEnds a w old new room → (a ≡ Err Read → ⊥) → (a ≡ Err Write → ⊥) → result ≡ status_of a → (result ≡ 0) ⊎ (result ≡ 4)
 complete_of words a w result old new rold rnew room none ends read write status = elim (ends_as a w old new room ends read write) [
   | inl four ↦ inr (status ∙ four)

@@ -1,5 +1,6 @@
 -- A file that is accepted for decoding is a stream of its frames.
-use Rattle.std.proofs.Common.{◌≡◌, ℕ, zero, suc, ◌+◌, ◌%◌, ◌^◌, ◌≤◌, ◌==◌, Bool, true, false, List, [], ◌∷◌, length, drop, get_or, map, Option, Some, None, refl, sym, ap, ap₂, subst, ◌∙◌, arith, inl, inr, ltb-false, eqb-true}
+use Rattle.std.proofs.Common.{◌≡◌, ℕ, zero, suc, ◌+◌, ◌%◌, ◌^◌, ◌≤◌, ◌==◌, Bool, true, false, List, [], ◌∷◌, length, drop, get_or, map, Option, Some}
+use Rattle.std.proofs.Common.{None, refl, sym, ap, ap₂, subst, ◌∙◌, arith, inl, inr, ltb-false, eqb-true}
 use Rattle.std.specs.Prelude.{if◌then◌else◌, filter, codes, not, ◌||◌, ◌&&◌, bytes_eq}
 use Rattle.std.specs.List.{AllByRecursion, enumerate_from}
 use Rattle.std.proofs.lemmas.Bool.{and_parts, cases_lt, cases_Bool}
@@ -10,14 +11,17 @@ use Rattle.dsdiff_spec.specs.Faults.{◌when◌, ◌otherwise◌, first_some}
 use Rattle.dsdiff_spec.specs.Chunks.{Head, head_at, body_place, body_end, next_place, body_of, named, the_first, fits, chunks_from}
 use Rattle.dsdiff_spec.specs.Form.{plain, coded, Form, longest_frame, shape}
 use Rattle.dsdiff_spec.specs.Parts.{form_size, form_end, top_level, all, prop_head, prop, compression, sounds, sound_head, kind, frame_count, frame_rate}
-use Rattle.dsdiff_spec.specs.Rules.{opening_fault, is_version, version_fault, prop_chunk_fault, local_fault, type_fault, prop_fault, sound_fault, kind_fault, is_frte, has_bad_origin, coded_fault, form_fault, form_of_kind, accepted}
+use Rattle.dsdiff_spec.specs.Rules.{opening_fault, is_version, version_fault, prop_chunk_fault, local_fault, type_fault, prop_fault, sound_fault}
+use Rattle.dsdiff_spec.specs.Rules.{kind_fault, is_frte, has_bad_origin, coded_fault, form_fault, form_of_kind, accepted}
 use Rattle.dsdiff_spec.specs.Walk.{in_dst, frame_heads, frame_fault, walk_fault, entry_of, frame_at}
 use Rattle.dsdiff_spec.specs.Decoded.{frames_of}
 use Rattle.dsdiff_spec.specs.Refusal.{not_coded}
 use Rattle.dsdiff_spec.specs.Streams.{Stream, Front, ended, form_head_fault, frte_fault_at, with_front, kept, frames_from, in_sound, version_in, StreamLaw}
 use Rattle.dsdiff_spec.specs.declared.faults.FileFault.{FileFault}
-use Rattle.dsdiff_spec.specs.declared.faults.FileFault.TheVariants.{NotForm, FormTooLarge, FormType, Overrun, Version, PropMissing, PropTwice, PropTooLong, PropType}
-use Rattle.dsdiff_spec.specs.declared.faults.FileFault.TheVariants.{SoundMissing, SoundTwice, Compression, FrameRate, TooManyFrames, KeptBad, CountDiffers, FrameTooLong, NotCoded}
+use Rattle.dsdiff_spec.specs.declared.faults.FileFault.TheVariants.{NotForm, FormTooLarge, FormType, Overrun, Version, PropMissing, PropTwice}
+use Rattle.dsdiff_spec.specs.declared.faults.FileFault.TheVariants.{PropTooLong, PropType}
+use Rattle.dsdiff_spec.specs.declared.faults.FileFault.TheVariants.{SoundMissing, SoundTwice, Compression, FrameRate, TooManyFrames, KeptBad}
+use Rattle.dsdiff_spec.specs.declared.faults.FileFault.TheVariants.{CountDiffers, FrameTooLong, NotCoded}
 use Rattle.dsdiff_spec.proofs.Lawful.{first_gives_none, later_gives_none, when_not, left_is_false, right_is_false}
 use Rattle.dsdiff_spec.proofs.CodedFiles.{no_rule_fails, kind_gives_none, is_coded_kind, count_is_right}
 use Rattle.dsdiff_spec.proofs.Steps.{fits_body, found_at_end, found_at_misfit, found_at_chunk}
@@ -170,7 +174,8 @@ one_prop file none =
     let b = when_not PropTwice (length (all "PROP" file) above 1) (first_gives_none _ third n2) in
     let c = when_not PropTooLong (h.size above 65536) (later_gives_none (PropTwice when length (all "PROP" file) above 1) third n2) in
     let type_none = first_gives_none (type_fault (prop file)) _ of_body in
-    let long = ltb-false (length (prop file)) 4 (left_is_false (length (prop file) below 4) (not (bytes_at (prop file) 0 4 is "SND ")) (when_not PropType _ type_none)) in
+    let long = ltb-false (length (prop file)) 4
+    (left_is_false (length (prop file) below 4) (not (bytes_at (prop file) 0 4 is "SND ")) (when_not PropType _ type_none)) in
     record {
       one = one_of (all "PROP" file) (one_is (length (all "PROP" file)) a (ltb-false 1 (length (all "PROP" file)) b));
       lawful = record { most = ltb-false 65536 h.size c; least = omega (arith, long, length-take h.size (drop (body_place h) file)); rules = of_body };
@@ -330,11 +335,14 @@ accepted_file_streams file (bytes, ok) =
     let p = one_prop file k.prop in
     let s = one_sound file e k.sound of_coded in
     let behind = behind_first (head_at file 16) (chunks_from m file (form_end file) 1023 32).heads v.name in
-    let prop_is : named "PROP" (chunks_from m file (form_end file) 1023 32).heads ≡ prop_head file ∷ [] = sym behind.0 ∙ sym (ap (named "PROP") v.heads) ∙ p.one in
-    let sound_is : filter is_sound (chunks_from m file (form_end file) 1023 32).heads ≡ sound_head file ∷ [] = sym behind.1 ∙ sym (ap (filter is_sound) v.heads) ∙ s.one in
+    let prop_is : named "PROP" (chunks_from m file (form_end file) 1023 32).heads ≡ prop_head file ∷ [] = sym behind.0
+    ∙ sym (ap (named "PROP") v.heads) ∙ p.one in
+    let sound_is : filter is_sound (chunks_from m file (form_end file) 1023 32).heads ≡ sound_head file ∷ [] = sym behind.1
+    ∙ sym (ap (filter is_sound) v.heads) ∙ s.one in
     let version_is : version_of file ≡ version_in file = ap (λ hs. body_of file (the_first hs)) (sym v.heads) in
     first_chunk_passes file v.begins
-    ∙ ((chunks_come file (form_end file) (version_of file) (prop_head file) (sound_head file) o.there p.lawful s.lawful 1023 32).both prop_is sound_is s.order).1
+    ∙ ((chunks_come file (form_end file) (version_of file) (prop_head file) (sound_head file) o.there p.lawful s.lawful 1023 32).both prop_is sound_is
+    s.order).1
     ∙ in_sound_comes file (version_of file) s o.there (few file of_coded) walked version_is
     ∙ ap (λ i. streams_as file (form_of_kind i file)) (sym e)
   where

@@ -156,7 +156,8 @@ module _ (w : List ℕ) (end : ℕ) (version : List ℕ) (p s : Head) (there : e
         form_has_chunk w end most came place lt
         (asked w end place version None None (omega (arith, next)) (omega (arith, next)) there rules) c
         ∙ reaches w h.place (body_end h) _ (omega (arith, next, there))
-        ∙ ap {A = Bool} (λ i. kept (if i then local_fault (body_place h) (body_of w h) else None) (up_to w h.place (whole_end end h) (in_form w end most (came_with w came h) (next_place h)))) a
+        ∙ ap {A = Bool} (λ i. kept (if i then local_fault (body_place h) (body_of w h) else None)
+        (up_to w h.place (whole_end end h) (in_form w end most (came_with w came h) (next_place h)))) a
         ∙ ap (λ f. kept f (up_to w h.place (whole_end end h) (in_form w end most (came_with w came h) (next_place h)))) body
         ∙ reaches w h.place (whole_end end h) _ (omega (arith, there))
         ∙ ap {A = Bool} (λ i. in_form w end most (record { version = Some version; prop = if i then Some (body_of w h) else None }) (next_place h)) a
@@ -209,7 +210,11 @@ module _ (w : List ℕ) (end : ℕ) (version : List ℕ) (p s : Head) (there : e
         record {
           sound = λ none one. (lt, sound_behind most place later lt le body comes (h.id is "PROP") (h.id is "DSD ") (h.id is "DST ") refl refl refl none one);
           after = λ one. after_behind most place later comes (h.id is "PROP") one;
-          both = λ one two order. (lt, both_behind most place later lt le body comes (h.id is "PROP") (h.id is "DSD ") (h.id is "DST ") refl refl refl one two order);
+          both = λ one two order. (
+            lt,
+            both_behind most place later lt le body comes (h.id is "PROP") (h.id is "DSD ") (h.id is "DST ") refl refl refl
+                one two order,
+          );
         }
 
     pub chunks_come : (most place : ℕ) → P most place (chunks_from m w end most place)

@@ -8,7 +8,8 @@ use Rattle.dst_spec.specs.Sample.{Shape, sound_bytes}
 use Rattle.dsdiff_spec.specs.Bytes.{◌is◌, ◌above◌}
 use Rattle.dsdiff_spec.specs.Faults.{◌when◌, ◌otherwise◌}
 use Rattle.dsdiff_spec.specs.Chunks.{Head, Found, head_at, body_end, next_place, body_of, named, fits, chunks_from}
-use Rattle.dsdiff_spec.specs.Streams.{Stream, ended, stopped, nothing_but, with_frame, up_to, whole_end, frame_head_fault, in_sound_chunk, found_with, frames_from}
+use Rattle.dsdiff_spec.specs.Streams.{Stream, ended, stopped, nothing_but, with_frame, up_to, whole_end, frame_head_fault, in_sound_chunk, found_with}
+use Rattle.dsdiff_spec.specs.Streams.{frames_from}
 use Rattle.dsdiff_spec.specs.declared.faults.FileFault.{FileFault}
 use Rattle.dsdiff_spec.specs.declared.faults.FileFault.TheVariants.{Overrun, FrameTooLong, TooManyFrames, CountDiffers}
 use Rattle.dsdiff_spec.proofs.Steps.{nothing, with_head, fits_body}
@@ -71,7 +72,8 @@ unfolding by_name
 chunk_among w h hs = refl
 
 -- one chunk more
-one_more : (w : List ℕ) (f : Shape) (told end most place n : ℕ) (h : Head) (hs : List Head) (b : Bool) → head_at w place ≡ h → h.place ≡ place → (h.id is "DSTF") ≡ b →
+one_more : (w : List ℕ) (f : Shape) (told end most place n : ℕ) (h : Head) (hs : List Head) (b : Bool) → head_at w place ≡ h → h.place ≡ place →
+    (h.id is "DSTF") ≡ b →
     end ≤ length w → told ≤ 1000000 → place < end → place + 12 ≤ end → body_end h ≤ end → AreShort f (by_name b h hs) → n + length (by_name b h hs) ≡ told →
     frames_from w f told end (suc most) n place ≡ framed b (body_of w h) (frames_from w f told end most (counts b n) (next_place h))
 unfolding by_name framed counts
@@ -82,7 +84,8 @@ one_more w f told end most place n h hs b e at d there most_told lt head_fits fi
     let rules : (if i.id is "DSTF" then (FrameTooLong n i.size when i.size above 2 * (sound_bytes f + 1)
     otherwise TooManyFrames when n above 999999 otherwise CountDiffers told (told + 1) when n == told) else None) ≡ None =
     ap (λ c. if c then (FrameTooLong n i.size when i.size above 2 * (sound_bytes f + 1)
-    otherwise TooManyFrames when n above 999999 otherwise CountDiffers told (told + 1) when n == told) else None) d' ∙ by_rules b i (ap (λ j. j.size) e) short count in
+    otherwise TooManyFrames when n above 999999 otherwise CountDiffers told (told + 1) when n == told) else None) d'
+    ∙ by_rules b i (ap (λ j. j.size) e) short count in
     let fault : frame_head_fault f told end n i ≡ None = within (Overrun i.place) end (body_end i) _ (omega (arith, fits, size)) ∙ rules in
     sound_has_chunk w f told end most n place lt
     (head_is_whole w end place (frame_head_fault f told end n i) head_fits (omega (arith, head_fits, there)) ∙ ap (option_map stopped) fault)

@@ -1,5 +1,6 @@
 -- What every stream has, whatever its bytes: followed chunk by chunk.
-use Rattle.std.proofs.Common.{◌≡◌, ℕ, zero, suc, ◌+◌, ◌*◌, ◌<◌, ◌≤◌, ◌==◌, Bool, true, false, List, length, drop, Option, Some, None, refl, sym, ap, subst, ◌∙◌, arith, inl, inr, ltb-false, eqb-true}
+use Rattle.std.proofs.Common.{◌≡◌, ℕ, zero, suc, ◌+◌, ◌*◌, ◌<◌, ◌≤◌, ◌==◌, Bool, true, false, List, length, drop, Option, Some, None, refl, sym, ap}
+use Rattle.std.proofs.Common.{subst, ◌∙◌, arith, inl, inr, ltb-false, eqb-true}
 use Rattle.std.specs.Prelude.{nat_lt, if◌then◌else◌, codes, not, ◌||◌, option_map}
 use Rattle.std.specs.List.{AllByRecursion}
 use Rattle.std.proofs.lemmas.Bool.{and_parts, cases_lt, eq-eqb}
@@ -17,9 +18,11 @@ use Rattle.dsdiff_spec.specs.Streams.{ending_at_head, frame_head_fault, with_fra
 use Rattle.dsdiff_spec.specs.Streams.{version_head_fault, prop_head_fault, plain_head_fault, sound_head_fault, later_head_fault, chunk_head_fault}
 use Rattle.dsdiff_spec.specs.Streams.{chunk_body_fault, frte_fault_at, in_sound, in_form_chunk, in_form, form_head_fault, stream}
 use Rattle.dsdiff_spec.specs.declared.faults.FileFault.{FileFault}
-use Rattle.dsdiff_spec.specs.declared.faults.FileFault.TheVariants.{NotForm, Overrun, Version, TooManyChunks, FrameTooLong, TooManyFrames, CountDiffers, PropTooLong, PropType, FrameRate}
+use Rattle.dsdiff_spec.specs.declared.faults.FileFault.TheVariants.{NotForm, Overrun, Version, TooManyChunks, FrameTooLong, TooManyFrames}
+use Rattle.dsdiff_spec.specs.declared.faults.FileFault.TheVariants.{CountDiffers, PropTooLong, PropType, FrameRate}
 use Rattle.dsdiff_spec.proofs.Lawful.{first_gives_none, later_gives_none, when_not, moved_none}
-use Rattle.dsdiff_spec.proofs.StreamSteps.{sound_ends, sound_has_no_more, sound_ends_at_head, sound_has_chunk, form_ends, form_has_no_more, form_ends_at_head, form_has_sound, form_has_chunk}
+use Rattle.dsdiff_spec.proofs.StreamSteps.{sound_ends, sound_has_no_more, sound_ends_at_head, sound_has_chunk, form_ends, form_has_no_more}
+use Rattle.dsdiff_spec.proofs.StreamSteps.{form_ends_at_head, form_has_sound, form_has_chunk}
 use Rattle.stream_spec.specs.Lawful.{IsLawfulFront, IsShort, AreLawful, IsLawful, IsPartOf, LawfulStreamsLaw}
 
 -- ---- endings that aren't behind the last frame
@@ -134,13 +137,15 @@ frames_after w f told end found h later le none next =
         let count = less (when_not (CountDiffers told (told + 1)) (found == told) (later_gives_none (TooManyFrames when found above 999999) third
         (later_gives_none (FrameTooLong found h.size when h.size above 2 * (sound_bytes f + 1)) second none))) in
         one_frame_more w f told found h _ size
-        (reached (FramesAre w f told (found + 1)) w h.place (whole_end end h) later (early_frames w f told (found + 1) (cut_off (Overrun h.place)) (omega (arith, count)) (tt {0}))
+        (reached (FramesAre w f told (found + 1)) w h.place (whole_end end h) later
+        (early_frames w f told (found + 1) (cut_off (Overrun h.place)) (omega (arith, count)) (tt {0}))
         (λ there. next (omega (arith, count))))
 
 frames_are : (w : List ℕ) (f : Shape) (told end most found place : ℕ) → found ≤ told → FramesAre w f told found (frames_from w f told end most found place)
 frames_are w f told end zero found place le = elim (cases_lt place end) [
   | inr ge ↦ subst (FramesAre w f told found) (sym (sound_ends w f told end zero found place ge)) (counted_frames w f told found le)
-  | inl lt ↦ subst (FramesAre w f told found) (sym (sound_has_no_more w f told end found place lt)) (early_frames w f told found (stopped TooManyChunks) le (tt {0}))
+  | inl lt ↦ subst (FramesAre w f told found) (sym (sound_has_no_more w f told end found place lt))
+      (early_frames w f told found (stopped TooManyChunks) le (tt {0}))
 ]
 frames_are w f told end (suc most) found place le = elim (cases_lt place end) [
   | inr ge ↦ subst (FramesAre w f told found) (sym (sound_ends w f told end (suc most) found place ge)) (counted_frames w f told found le)
@@ -181,7 +186,8 @@ anywhere start body none =
     ∙ last
 
 -- ---- `DST `, behind `FVER` and `PROP`
-lawful_front : (w : List ℕ) (front : Front) (s : Stream) → IsLawfulFront front → FramesAre w (shape_in front.prop) front.frames 0 s → IsLawful w (with_front front s)
+lawful_front : (w : List ℕ) (front : Front) (s : Stream) → IsLawfulFront front → FramesAre w (shape_in front.prop) front.frames 0 s →
+    IsLawful w (with_front front s)
 lawful_front w front s lawful are =
     record {
       front = λ f same. (let e : front ≡ f = cc in subst IsLawfulFront e lawful);
@@ -289,7 +295,8 @@ prop_short : (prop : Option (List ℕ)) (h : Head) → later_head_fault prop h �
 unfolding by_ids
 prop_short prop h none is_prop = go prop (h.id is "PROP") is_prop (asked_by_ids prop h none)
   where
-    go : (o : Option (List ℕ)) (a : Bool) → a ≡ true → by_ids a (h.id is "DSD ") (h.id is "DST ") (prop_head_fault o h) (plain_head_fault o) (sound_head_fault o h) ≡ None →
+    go : (o : Option (List ℕ)) (a : Bool) → a ≡ true →
+        by_ids a (h.id is "DSD ") (h.id is "DST ") (prop_head_fault o h) (plain_head_fault o) (sound_head_fault o h) ≡ None →
         h.size ≤ 65536
     go o false e n = absurd cc
     go (Some p) true e n = absurd cc
@@ -300,7 +307,8 @@ form_lawful : (w : List ℕ) (end most : ℕ) (version prop : Option (List ℕ))
     IsLawful w (in_form w end most (record { version = version; prop = prop }) place)
 form_lawful w end zero version prop place came = elim (cases_lt place end) [
   | inr ge ↦ subst (IsLawful w) (sym (form_ends w end zero (record { version = version; prop = prop }) place ge)) (early_form w (stopped _) (tt {0}))
-  | inl lt ↦ subst (IsLawful w) (sym (form_has_no_more w end (record { version = version; prop = prop }) place lt)) (early_form w (stopped TooManyChunks) (tt {0}))
+  | inl lt ↦ subst (IsLawful w) (sym (form_has_no_more w end (record { version = version; prop = prop }) place lt))
+      (early_form w (stopped TooManyChunks) (tt {0}))
 ]
 form_lawful w end (suc most) version prop place came = elim (cases_lt place end) [
   | inr ge ↦ subst (IsLawful w) (sym (form_ends w end (suc most) (record { version = version; prop = prop }) place ge)) (early_form w (stopped _) (tt {0}))
@@ -314,10 +322,12 @@ form_lawful w end (suc most) version prop place came = elim (cases_lt place end)
     go : place < end → (v p : Option (List ℕ)) → CameLawful (record { version = v; prop = p }) →
         (o : Option Ending) → ending_at_head w end place (chunk_head_fault end (record { version = v; prop = p }) (head_at w place)) ≡ o →
         (b : Bool) → ((head_at w place).id is "DST ") ≡ b →
-        ((x y : Option (List ℕ)) (n : ℕ) → CameLawful (record { version = x; prop = y }) → IsLawful w (in_form w end most (record { version = x; prop = y }) n)) →
+        ((x y : Option (List ℕ)) (n : ℕ) → CameLawful (record { version = x; prop = y }) →
+        IsLawful w (in_form w end most (record { version = x; prop = y }) n)) →
         IsLawful w (in_form w end (suc most) (record { version = v; prop = p }) place)
     go lt v p came (Some e) same b d next =
-        subst (IsLawful w) (sym (form_ends_at_head w end most (record { version = v; prop = p }) place e lt same)) (early_form w e (ends_early w end place _ e same))
+        subst (IsLawful w) (sym (form_ends_at_head w end most (record { version = v; prop = p }) place e lt same))
+        (early_form w e (ends_early w end place _ e same))
     go lt None p came None same true d next =
         let none = later_gives_none (Overrun (head_at w place).place when body_end (head_at w place) above end) _ (no_fault_at_head w end place _ same) in
         absurd (no_version_and_coded (head_at w place).id (is_version (head_at w place) none).0 d)
@@ -347,6 +357,11 @@ streams_are_lawful w = go (nat_lt (length w) 16)
     nothing_lawful : CameLawful nothing_came
     nothing_lawful = record { version = λ v same. absurd cc; most = λ p same. absurd cc; rules = λ p same. absurd cc; none = λ same. refl }
 
-    go : (b : Bool) → IsLawful w (elim b [ true ↦ nothing_but (cut_off NotForm) | false ↦ kept (form_head_fault w) (in_form w (form_end w) 1024 nothing_came 16) ])
+    go : (b : Bool) → IsLawful w (elim b [
+      | true ↦ nothing_but (cut_off NotForm)
+      | false ↦
+          kept (form_head_fault w) (in_form w (form_end w) 1024 nothing_came 16)
+    ])
     go true = early_form w (cut_off NotForm) (tt {0})
-    go false = kept_then (IsLawful w) (form_head_fault w) _ (λ f. early_form w (stopped f) (tt {0})) (λ none. form_lawful w (form_end w) 1024 None None 16 nothing_lawful)
+    go false = kept_then (IsLawful w) (form_head_fault w) _ (λ f. early_form w (stopped f) (tt {0}))
+        (λ none. form_lawful w (form_end w) 1024 None None 16 nothing_lawful)

@@ -1,5 +1,7 @@
 -- A stream that more bytes follow, part by part.
-use Rattle.std.proofs.Common.{◌≡◌, ℕ, zero, suc, ◌+◌, ◌*◌, ◌^◌, ◌<◌, ◌≤◌, ◌==◌, Bool, true, false, List, [], ◌∷◌, ◌++◌, length, get_or, take, drop, Option, Some, None, refl, sym, ap, ap₂, subst, ◌∙◌, arith, inl, inr, ltb-false, eqb-true, ◌⊎◌, length-append, length-drop, append-nil}
+use Rattle.std.proofs.Common.{◌≡◌, ℕ, zero, suc, ◌+◌, ◌*◌, ◌^◌, ◌<◌, ◌≤◌, ◌==◌, Bool, true, false, List, [], ◌∷◌, ◌++◌, length, get_or, take, drop}
+use Rattle.std.proofs.Common.{Option, Some, None, refl, sym, ap, ap₂, subst, ◌∙◌, arith, inl, inr, ltb-false, eqb-true, ◌⊎◌, length-append}
+use Rattle.std.proofs.Common.{length-drop, append-nil}
 use Rattle.std.specs.Prelude.{nat_lt, if◌then◌else◌, not, ◌||◌, ◌&&◌, option_map, unwrap_or}
 use Rattle.std.proofs.lemmas.Bool.{cases_lt, le-ltb, lt-ltb, and_parts}
 use Rattle.std.proofs.lemmas.List.{take-append-le, drop-append-le, get_or_append_left}
@@ -11,11 +13,14 @@ use Rattle.dsdiff_spec.specs.Chunks.{Head, head_at, body_place, body_end, next_p
 use Rattle.dsdiff_spec.specs.Parts.{form_size, form_end}
 use Rattle.dsdiff_spec.specs.Rules.{local_fault}
 use Rattle.dsdiff_spec.specs.Streams.{Stream, Ending, Front, ended, stopped, cut_off, nothing_but, with_front, with_frame, up_to, kept, whole_end, shape_in}
-use Rattle.dsdiff_spec.specs.Streams.{ending_at_head, frame_head_fault, with_frame_in, in_sound_chunk, found_with, counted, frames_from, Came, nothing_came, missing}
-use Rattle.dsdiff_spec.specs.Streams.{version_head_fault, later_head_fault, chunk_head_fault, chunk_body_fault, version_body_fault, prop_body_fault, came_with, frte_fault_at, in_sound, in_form_chunk, in_form, form_head_fault, stream}
+use Rattle.dsdiff_spec.specs.Streams.{ending_at_head, frame_head_fault, with_frame_in, in_sound_chunk, found_with, counted, frames_from, Came}
+use Rattle.dsdiff_spec.specs.Streams.{nothing_came, missing}
+use Rattle.dsdiff_spec.specs.Streams.{version_head_fault, later_head_fault, chunk_head_fault, chunk_body_fault, version_body_fault, prop_body_fault}
+use Rattle.dsdiff_spec.specs.Streams.{came_with, frte_fault_at, in_sound, in_form_chunk, in_form, form_head_fault, stream}
 use Rattle.dsdiff_spec.specs.declared.faults.FileFault.{FileFault}
 use Rattle.dsdiff_spec.specs.declared.faults.FileFault.TheVariants.{NotForm, FormTooLarge, FormType, Overrun, Version, TooManyChunks, FrameRate, TooManyFrames}
-use Rattle.dsdiff_spec.proofs.StreamSteps.{reaches, head_passes, head_is_cut, head_is_whole, sound_ends, sound_has_no_more, sound_ends_at_head, sound_has_chunk, form_ends, form_has_no_more, form_ends_at_head, form_has_sound, form_has_chunk}
+use Rattle.dsdiff_spec.proofs.StreamSteps.{reaches, head_passes, head_is_cut, head_is_whole, sound_ends, sound_has_no_more, sound_ends_at_head}
+use Rattle.dsdiff_spec.proofs.StreamSteps.{sound_has_chunk, form_ends, form_has_no_more, form_ends_at_head, form_has_sound, form_has_chunk}
 use Rattle.dsdiff_spec.proofs.Lawful.{later_gives_none, when_not}
 use Rattle.stream_spec.specs.More.{GoesOn, MoreBytesLaw}
 
@@ -148,8 +153,10 @@ both_go s t x y e f h = subst (λ a. Goes a t) (sym e) (subst (Goes x) (sym f) h
 frames_go : (w more : List ℕ) (f : Shape) (told end most found place : ℕ) →
     Goes (frames_from w f told end most found place) (frames_from (w ++ more) f told end most found place)
 frames_go w more f told end zero found place = elim (cases_lt place end) [
-  | inr ge ↦ both_go _ _ _ _ (sound_ends w f told end zero found place ge) (sound_ends (w ++ more) f told end zero found place ge) (same_goes (nothing_but (counted told found)))
-  | inl lt ↦ both_go _ _ _ _ (sound_has_no_more w f told end found place lt) (sound_has_no_more (w ++ more) f told end found place lt) (same_goes (nothing_but (stopped TooManyChunks)))
+  | inr ge ↦ both_go _ _ _ _ (sound_ends w f told end zero found place ge) (sound_ends (w ++ more) f told end zero found place ge)
+      (same_goes (nothing_but (counted told found)))
+  | inl lt ↦ both_go _ _ _ _ (sound_has_no_more w f told end found place lt) (sound_has_no_more (w ++ more) f told end found place lt)
+      (same_goes (nothing_but (stopped TooManyChunks)))
 ]
 frames_go w more f told end (suc most) found place = elim (cases_lt place end) [
   | inr ge ↦ both_go _ _ _ _ (sound_ends w f told end (suc most) found place ge) (sound_ends (w ++ more) f told end (suc most) found place ge)
@@ -170,7 +177,8 @@ frames_go w more f told end (suc most) found place = elim (cases_lt place end) [
         ((n p : ℕ) → Goes (frames_from w f told end most n p) (frames_from (w ++ more) f told end most n p)) →
         Goes (frames_from w f told end (suc most) found place) (frames_from (w ++ more) f told end (suc most) found place)
     go lt (Some (cut_off fault)) e b d h next =
-        subst (λ a. Goes a (frames_from (w ++ more) f told end (suc most) found place)) (sym (sound_ends_at_head w f told end most found place (cut_off fault) lt e))
+        subst (λ a. Goes a (frames_from (w ++ more) f told end (suc most) found place))
+        (sym (sound_ends_at_head w f told end most found place (cut_off fault) lt e))
         (cut_goes fault (frames_from (w ++ more) f told end (suc most) found place))
     go lt (Some (stopped fault)) e b d h next =
         both_go _ _ _ _ (sound_ends_at_head w f told end most found place (stopped fault) lt e)
@@ -180,8 +188,10 @@ frames_go w more f told end (suc most) found place = elim (cases_lt place end) [
         (sound_ends_at_head (w ++ more) f told end most found place ended lt (d ∙ h)) (same_goes (nothing_but ended))
     go lt None e b d h next =
         both_go _ _ _ _ (sound_has_chunk w f told end most found place lt e) (sound_has_chunk (w ++ more) f told end most found place lt (d ∙ h))
-        (subst (λ i. Goes (in_sound_chunk w end (head_at w place) (frames_from w f told end most (found_with (head_at w place) found) (next_place (head_at w place))))
-        (in_sound_chunk (w ++ more) end i (frames_from (w ++ more) f told end most (found_with i found) (next_place i)))) (sym (there (head_is_there w end place _ e)))
+        (subst (λ i. Goes (in_sound_chunk w end (head_at w place)
+        (frames_from w f told end most (found_with (head_at w place) found) (next_place (head_at w place))))
+        (in_sound_chunk (w ++ more) end i (frames_from (w ++ more) f told end most (found_with i found) (next_place i))))
+        (sym (there (head_is_there w end place _ e)))
         (sound_chunk_goes w more end (head_at w place) _ _ (next (found_with (head_at w place) found) (next_place (head_at w place)))))
 
 -- ---- `FRTE`, and the frames behind it
@@ -252,7 +262,8 @@ form_chunk_goes w more end came h s t some goes =
 first_size : (h : Head) (end : ℕ) (came : Came) → chunk_head_fault end came h ≡ None → came.version ≡ None → 0 < h.size
 first_size h end came none e = go came.version e (later_gives_none (Overrun h.place when body_end h above end) _ none)
   where
-    go : (v : Option (List ℕ)) → v ≡ None → ◌≡◌ {A = Option FileFault} (elim v [ None ↦ version_head_fault h | Some version ↦ later_head_fault came.prop h ]) None → 0 < h.size
+    go : (v : Option (List ℕ)) → v ≡ None → ◌≡◌ {A = Option FileFault}
+        (elim v [ None ↦ version_head_fault h | Some version ↦ later_head_fault came.prop h ]) None → 0 < h.size
     go (Some v) e n = absurd cc
     go None e n = is_four (and_parts (h.id is "FVER") (h.size == 4) (not_false _ (when_not Version _ n))).1
       where
@@ -276,11 +287,14 @@ no_fault w end place f e = go f (sym (head_is_whole w end place f (fits (cases_l
 
 form_goes : (w more : List ℕ) (end most : ℕ) (came : Came) (place : ℕ) → Goes (in_form w end most came place) (in_form (w ++ more) end most came place)
 form_goes w more end zero came place = elim (cases_lt place end) [
-  | inr ge ↦ both_go _ _ _ _ (form_ends w end zero came place ge) (form_ends (w ++ more) end zero came place ge) (same_goes (nothing_but (stopped (missing came))))
-  | inl lt ↦ both_go _ _ _ _ (form_has_no_more w end came place lt) (form_has_no_more (w ++ more) end came place lt) (same_goes (nothing_but (stopped TooManyChunks)))
+  | inr ge ↦ both_go _ _ _ _ (form_ends w end zero came place ge) (form_ends (w ++ more) end zero came place ge)
+      (same_goes (nothing_but (stopped (missing came))))
+  | inl lt ↦ both_go _ _ _ _ (form_has_no_more w end came place lt) (form_has_no_more (w ++ more) end came place lt)
+      (same_goes (nothing_but (stopped TooManyChunks)))
 ]
 form_goes w more end (suc most) came place = elim (cases_lt place end) [
-  | inr ge ↦ both_go _ _ _ _ (form_ends w end (suc most) came place ge) (form_ends (w ++ more) end (suc most) came place ge) (same_goes (nothing_but (stopped (missing came))))
+  | inr ge ↦ both_go _ _ _ _ (form_ends w end (suc most) came place ge) (form_ends (w ++ more) end (suc most) came place ge)
+      (same_goes (nothing_but (stopped (missing came))))
   | inl lt ↦ go lt (ending_at_head w end place (rules (head_at w place))) refl (ending_at_head (w ++ more) end place (rules (head_at (w ++ more) place))) refl
       (head_goes w more end place (rules (head_at w place)) (rules (head_at (w ++ more) place)) (λ there. ap rules (head_stays w more place there)))
       ((head_at w place).id is "DST ") refl (λ c p. form_goes w more end most c p)
@@ -301,16 +315,19 @@ form_goes w more end (suc most) came place = elim (cases_lt place end) [
         subst (λ a. Goes a (in_form (w ++ more) end (suc most) came place)) (sym (form_ends_at_head w end most came place (cut_off fault) lt e))
         (cut_goes fault (in_form (w ++ more) end (suc most) came place))
     go lt (Some (stopped fault)) e b d h c i next =
-        both_go _ _ _ _ (form_ends_at_head w end most came place (stopped fault) lt e) (form_ends_at_head (w ++ more) end most came place (stopped fault) lt (d ∙ h))
+        both_go _ _ _ _ (form_ends_at_head w end most came place (stopped fault) lt e)
+        (form_ends_at_head (w ++ more) end most came place (stopped fault) lt (d ∙ h))
         (same_goes (nothing_but (stopped fault)))
     go lt (Some ended) e b d h c i next =
         both_go _ _ _ _ (form_ends_at_head w end most came place ended lt e) (form_ends_at_head (w ++ more) end most came place ended lt (d ∙ h))
         (same_goes (nothing_but ended))
     go lt None e b d h true i next =
-        both_go _ _ _ _ (form_has_sound w end most came place lt e i) (form_has_sound (w ++ more) end most came place lt (d ∙ h) (ap (λ j. j.id is "DST ") (same e) ∙ i))
+        both_go _ _ _ _ (form_has_sound w end most came place lt e i)
+        (form_has_sound (w ++ more) end most came place lt (d ∙ h) (ap (λ j. j.id is "DST ") (same e) ∙ i))
         (subst (λ j. Goes (in_sound w came (head_at w place)) (in_sound (w ++ more) came j)) (sym (same e)) (in_sound_goes w more came (head_at w place)))
     go lt None e b d h false i next =
-        both_go _ _ _ _ (form_has_chunk w end most came place lt e i) (form_has_chunk (w ++ more) end most came place lt (d ∙ h) (ap (λ j. j.id is "DST ") (same e) ∙ i))
+        both_go _ _ _ _ (form_has_chunk w end most came place lt e i)
+        (form_has_chunk (w ++ more) end most came place lt (d ∙ h) (ap (λ j. j.id is "DST ") (same e) ∙ i))
         (subst (λ j. Goes (in_form_chunk w end came (head_at w place) (in_form w end most (came_with w came (head_at w place)) (next_place (head_at w place))))
         (in_form_chunk (w ++ more) end came j (in_form (w ++ more) end most (came_with (w ++ more) came j) (next_place j)))) (sym (same e))
         (form_chunk_goes w more end came (head_at w place) _ _ (first_size (head_at w place) end came (no_fault w end place _ e))
@@ -344,7 +361,8 @@ more_bytes w more = elim (cases_lt (length w) 16) [
   | inl lt ↦ subst (λ s. Goes s (stream (w ++ more))) (sym (is_whole w ∙ ap (λ b. whole b w) (lt-ltb (length w) 16 lt))) (cut_goes NotForm (stream (w ++ more)))
   | inr le ↦
       let longer = length-append w more in
-      both_go _ _ _ _ (is_whole w ∙ ap (λ b. whole b w) (le-ltb (length w) 16 le)) (is_whole (w ++ more) ∙ ap (λ b. whole b (w ++ more)) (le-ltb (length (w ++ more)) 16 (omega (arith, le, longer))))
+      both_go _ _ _ _ (is_whole w ∙ ap (λ b. whole b w) (le-ltb (length w) 16 le))
+      (is_whole (w ++ more) ∙ ap (λ b. whole b (w ++ more)) (le-ltb (length (w ++ more)) 16 (omega (arith, le, longer))))
       (kept_goes _ _ _ _ (head_fault_stays w more le)
       (subst (λ n. Goes (in_form w (form_end w) 1024 nothing_came 16) (in_form (w ++ more) (12 + n) 1024 nothing_came 16))
       (sym (number_stays w more 8 4 (omega (arith, le)))) (form_goes w more (form_end w) 1024 nothing_came 16)))

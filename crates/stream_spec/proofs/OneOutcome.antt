@@ -32,7 +32,8 @@ one_sound f frame a b shape bytes (inl m) (inr n) = absurd (n.0 a m)
 one_sound f frame a b shape bytes (inr m) (inl n) = absurd (m.0 b n)
 one_sound f frame a b shape bytes (inr m) (inr n) = m.1 ∙ sym n.1
 
-pub some_sounds : (f : Shape) (frames : List (List ℕ)) → IsShape f → AllByRecursion AreBytes frames → (sounds : List (List ℕ)) × AllZip (MeansOrZeros f) frames sounds
+pub some_sounds : (f : Shape) (frames : List (List ℕ)) → IsShape f → AllByRecursion AreBytes frames → (sounds : List (List ℕ))
+    × AllZip (MeansOrZeros f) frames sounds
 some_sounds f [] shape bytes = ([], tt)
 some_sounds f (x ∷ xs) shape bytes =
     let here = some_sound f x shape bytes.0 in
@@ -49,7 +50,8 @@ one_list f (g ∷ gs) (x ∷ xs) [] shape bytes p q = absurd q
 one_list f (g ∷ gs) (x ∷ xs) (y ∷ ys) shape bytes p q =
     ap₂ {A = List ℕ} (λ s ss. s ∷ ss) (one_sound f g x y shape bytes.0 p.0 q.0) (one_list f gs xs ys shape bytes.1 p.1 q.1)
 
-one_out : (s : Stream) (front : Front) (a b : List ℕ) → IsShape (shape_in front.prop) → AllByRecursion AreBytes s.frames → PipeOut s front a → PipeOut s front b → a ≡ b
+one_out : (s : Stream) (front : Front) (a b : List ℕ) → IsShape (shape_in front.prop) → AllByRecursion AreBytes s.frames → PipeOut s front a →
+    PipeOut s front b → a ≡ b
 one_out s front a b shape bytes p q =
     p.written ∙ ap (piped front) (one_list (shape_in front.prop) s.frames p.sounds q.sounds shape bytes p.each q.each) ∙ sym q.written
 

@@ -49,6 +49,7 @@ pub file_without_sound_is_made : Outcome (words ("make" ∷ "0" ∷ "a" ∷ "0" 
 unfolding writing_open
 file_without_sound_is_made = inr (tt, refl)
 
-pub nothing_is_made_and_run : Outcome (words ("make" ∷ "0" ∷ "--run" ∷ "0" ∷ "1" ∷ [])) [] (says 0 [] ("made 0 frames, sound 0 bytes, coded 0 bytes, restored 0 bytes" ∷ []))
+pub nothing_is_made_and_run : Outcome (words ("make" ∷ "0" ∷ "--run" ∷ "0" ∷ "1" ∷ [])) []
+    (says 0 [] ("made 0 frames, sound 0 bytes, coded 0 bytes, restored 0 bytes" ∷ []))
 unfolding writing_open
 nothing_is_made_and_run = inr (tt, refl)

@@ -4,7 +4,8 @@ use Rattle.std.specs.Prelude.{ℕ, ◌*◌, ◌/◌, Bool, ◌==◌, if◌then�
 use Rattle.std.specs.List.{range_with_len}
 use Rattle.dsdiff_spec.specs.Bytes.{◌is◌, ◌above◌}
 use Rattle.dsdiff_spec.specs.Faults.{first_some}
-use Rattle.dsdiff_spec.specs.Words.{Word, Command, Task, encode, decode, cut, frame, check, show, show_frame, index, make, make_run, encode_dsf, decode_dsf, range}
+use Rattle.dsdiff_spec.specs.Words.{Word, Command, Task, encode, decode, cut, frame, check, show, show_frame, index, make, make_run, encode_dsf}
+use Rattle.dsdiff_spec.specs.Words.{decode_dsf, range}
 use Rattle.words_spec.specs.Slots.{Slot, file, number}
 use Rattle.words_spec.specs.Slots.{within, fixed, read_slots, Setting, level, workers, by_index, rate, read_settings, set_or}
 use Prim.Native.String.{String}

@@ -15,4 +15,5 @@ unfolding level_and_workers_in
 returns-in_default-6-clause-set c =
     let words : List Word = map string_bytes c.args.options.now in
     let long : length words ≡ length c.args.options.now = length-map c.args.options.now (λ s. string_bytes s) in
-    sym (ap (option_map (λ (o : List (Word × ℕ)). (level_of o, workers_of o))) (too_many_words 2 (level ∷ workers ∷ []) words (refl, (refl, tt)) (omega (arith, c.in_default.len_at_least, long))))
+    sym (ap (option_map (λ (o : List (Word × ℕ)). (level_of o, workers_of o)))
+    (too_many_words 2 (level ∷ workers ∷ []) words (refl, (refl, tt)) (omega (arith, c.in_default.len_at_least, long))))

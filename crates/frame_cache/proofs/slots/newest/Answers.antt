@@ -6,7 +6,8 @@ use Rattle.frame_cache.proofs.slots.newest.Goals as goal
 
 pub unreachable-requires : goal.unreachable-requires
 unreachable-requires c =
-    none_first c.args.slots.now.entries c.requires.some.0 c.requires.some.1 (sym c.peek_mru.ensures ∙ ap (option_map deref_pair) c.in_default.is) c.requires.some.2
+    none_first c.args.slots.now.entries c.requires.some.0 c.requires.some.1 (sym c.peek_mru.ensures ∙ ap (option_map deref_pair) c.in_default.is)
+    c.requires.some.2
 
 pub returns-clause-sound : goal.returns-clause-sound
 returns-clause-sound c x xs is =

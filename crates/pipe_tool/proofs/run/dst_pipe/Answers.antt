@@ -4,7 +4,8 @@ use Rattle.dsdiff_spec.specs.Lines.{words_line, report}
 use Rattle.stream_spec.specs.Outcome.{stream_refused}
 use Rattle.dsdiff_spec.specs.Outcome.{frame_refused}
 use Rattle.pipe_tool.specs.Runs.{status_of, line_of, OfWords}
-use Rattle.pipe_tool.proofs.Runs.{ends_of, ends_by, file_of, frame_of, reports_of, not_seven, refused_words, refused_words_fit, line_fits, headline_of, complete_of, with_words, by_status}
+use Rattle.pipe_tool.proofs.Runs.{ends_of, ends_by, file_of, frame_of, reports_of, not_seven, refused_words, refused_words_fit, line_fits}
+use Rattle.pipe_tool.proofs.Runs.{headline_of, complete_of, with_words, by_status}
 use Rattle.pipe_tool.proofs.run.dst_pipe.Goals as goal
 
 pub returns-then-not-is_pipe-clause-headline : goal.returns-then-not-is_pipe-clause-headline
@@ -25,7 +26,8 @@ returns-then-not-is_pipe-clause-ends g c w told =
       1,
       words_line ∷ [],
       inr (inr (inr (refused_words _ w (g.K.Sink.written c.args.sink.now) b))),
-      reports_of 1 c.report_line.result words_line _ _ _ c.report_line.ensures.reported c.report_line.ensures.whole c.report_line.ensures.cut_short c.words_not_understood.ensures,
+      reports_of 1 c.report_line.result words_line _ _ _ c.report_line.ensures.reported c.report_line.ensures.whole c.report_line.ensures.cut_short
+          c.words_not_understood.ensures,
     )
 
 pub returns-then-not-is_pipe-clause-sure_report : goal.returns-then-not-is_pipe-clause-sure_report
@@ -41,7 +43,8 @@ returns-clause-headline g c w told flow sink report_quiet =
     let ends = ends_of a.result _ _ _ _ a.ensures.decoded a.ensures.file a.ensures.frame a.ensures.cut_short a.ensures.sure
     (λ e. ap g.K.Sink.written (a.ensures.memory e)) w told in
     let same = not_seven _ c.report_line-2.result _ _ c.report_line-2.ensures.reported c.report_line-2.ensures.cause report_quiet in
-    headline_of _ a.result w c.report_line-2.result _ _ (g.R.Sink.written c.args.report.now) _ _ b ends (λ e. flow (a.ensures.read e)) (λ e. sink (a.ensures.write e))
+    headline_of _ a.result w c.report_line-2.result _ _ (g.R.Sink.written c.args.report.now) _ _ b ends (λ e. flow (a.ensures.read e))
+    (λ e. sink (a.ensures.write e))
     (same ∙ c.told-status.ensures.status) (c.report_line-2.ensures.whole same ∙ ap (and_then (g.R.Sink.written c.args.report.now)) c.told-status.ensures.line)
 
 pub returns-clause-complete : goal.returns-clause-complete
@@ -77,7 +80,8 @@ returns-clause-sure_report g c w told o outcome flow sink n room least fits seve
     let own = subst (λ x. OfWords x w o) b outcome in
     c.report_line-2.ensures.sure seven n room
     (subst (λ line. length line ≤ n) (sym c.told-status.ensures.line)
-    (line_fits a.result w _ _ _ o n (g.met.F.Flow.told_are_bytes c.args.flow.now w told) ends own (λ e. flow (a.ensures.read e)) (λ e. sink (a.ensures.write e)) least fits))
+    (line_fits a.result w _ _ _ o n (g.met.F.Flow.told_are_bytes c.args.flow.now w told) ends own (λ e. flow (a.ensures.read e))
+    (λ e. sink (a.ensures.write e)) least fits))
 
 pub returns-clause-refused : goal.returns-clause-refused
 returns-clause-refused g c five w told =
@@ -90,7 +94,8 @@ returns-clause-refused g c five w told =
       out.0,
       subst (λ x. OfWords x w (stream_refused is_file.0 out.0)) (sym b) out.1,
       out.2,
-      c.report_line-2.ensures.whole same ∙ ap (and_then (g.R.Sink.written c.args.report.now)) (c.told-status.ensures.line ∙ ap (λ r. report (line_of r ∷ [])) is_file.1),
+      c.report_line-2.ensures.whole same ∙ ap (and_then (g.R.Sink.written c.args.report.now))
+          (c.told-status.ensures.line ∙ ap (λ r. report (line_of r ∷ [])) is_file.1),
     )
 
 pub returns-clause-frame : goal.returns-clause-frame
@@ -105,5 +110,6 @@ returns-clause-frame g c six w told =
       out.0,
       subst (λ x. OfWords x w (frame_refused is_frame.0 is_frame.1 out.0)) (sym b) out.1,
       out.2,
-      c.report_line-2.ensures.whole same ∙ ap (and_then (g.R.Sink.written c.args.report.now)) (c.told-status.ensures.line ∙ ap (λ r. report (line_of r ∷ [])) is_frame.2),
+      c.report_line-2.ensures.whole same ∙ ap (and_then (g.R.Sink.written c.args.report.now))
+          (c.told-status.ensures.line ∙ ap (λ r. report (line_of r ∷ [])) is_frame.2),
     )

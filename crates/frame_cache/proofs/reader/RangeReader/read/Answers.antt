@@ -1,5 +1,6 @@
 -- Frame by frame the buffer is filled; a frame that can't be had leaves what was wanted before it.
-use Rattle.std.proofs.Common.{rules, ◌≡◌, ℕ, ◌+◌, ◌-◌, ◌*◌, ◌/◌, ◌<◌, ◌≤◌, List, [], ◌∷◌, ◌++◌, length, take, Some, Err, Result, refl, ap, sym, subst, ◌∙◌, arith}
+use Rattle.std.proofs.Common.{rules, ◌≡◌, ℕ, ◌+◌, ◌-◌, ◌*◌, ◌/◌, ◌<◌, ◌≤◌, List, [], ◌∷◌, ◌++◌, length, take, Some, Err, Result, refl, ap, sym, subst}
+use Rattle.std.proofs.Common.{◌∙◌, arith}
 use Rattle.std.specs.Prelude.{min, max}
 use Rattle.std.specs.List.{range_with_len}
 use Rattle.dst_spec.specs.Sample.{sound_bytes}
@@ -9,7 +10,8 @@ use Rattle.dsdiff_spec.specs.Ranges.{touched}
 use Rattle.frame_cache.specs.declared.reader.RangeFault.TheVariants.{Frame}
 use Rattle.frame_cache.specs.Reader.{Reader, wanted, order}
 use Rattle.frame_cache.specs.Reads.{IsRefusedAt}
-use Rattle.frame_cache.proofs.Ending.{frame_below, size_is_small, decoded_below, one_decoded, front_is, one_more_wanted, front_part, part_way, refused_at, all_read, some_bytes, all_bytes}
+use Rattle.frame_cache.proofs.Ending.{frame_below, size_is_small, decoded_below, one_decoded, front_is, one_more_wanted, front_part, part_way}
+use Rattle.frame_cache.proofs.Ending.{refused_at, all_read, some_bytes, all_bytes}
 use Rattle.frame_cache.proofs.Filling.{part_more}
 use Rattle.frame_cache.proofs.reader.RangeReader.read.Goals as goal
 
