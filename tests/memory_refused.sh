@@ -108,3 +108,4 @@ each make 7 out 2 1
 each make 7 --run 2 1
 each encode-dsf sound.dsf out
 each decode-dsf coded.dff out
+each range coded.dff out 0 4 4700 10
