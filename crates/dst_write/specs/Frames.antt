@@ -4,6 +4,7 @@ use Rattle.dst_spec.specs.Sample.{Shape, sound_bytes}
 use Rattle.dst_streams.specs.Told.{Loan}
 use Rattle.dsdiff_spec.specs.Coded.{Picks, stored_frames}
 use Rattle.dsdiff_chunks.specs.Forms.{plain_seen}
+use Rattle.dst_commands.specs.Rooms.{jobs_in}
 use Rattle.dst_write.specs.declared.faults.EncodeFault.{EncodeFault}
 use Rattle.dst_write.specs.declared.feed.SoundPieces.{SoundPieces}
 use Rattle.dst_write.specs.declared.drain.FrameWriter.{FrameWriter}
@@ -13,10 +14,11 @@ use Rattle.dst_write.specs.Feeding as feeding
 use Rattle.dst_write.specs.Draining as draining
 use Rattle.dst_write.specs.Encoding.{FramesEnd, HasItsCause}
 
--- what workers store with, jobs for frames of this shape, a size 0 for each frame, and a buffer
+-- what workers store with, jobs for frames of this shape, as many as these workers have, a size 0 for each frame, and a buffer of 65,536 bytes
 pub record HasRoomFor (f : Shape) (frames : ℕ) (w : Workspace) : Type 0 where
   pub scratches : AreScratchesFor f w.scratches.items
   pub jobs : AreJobsFor f w.jobs.items
+  pub count : length w.jobs.items ≡ jobs_in f frames (length w.scratches.items)
   pub sizes : w.sizes.items ≡ replicate frames 0
   pub buffer : length w.buffer.items ≡ 65536
 

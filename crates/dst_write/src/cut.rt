@@ -1,5 +1,6 @@
 // Cutting frames out of a coded file.
 ghost use Rattle.std.specs.Prelude.{◌≡◌, ◌⊎◌, ◌≤◌, ◌<◌, ℕ, List, length, true, Option, Some, IfOk, IfErr, OnOk, Err, ◌∷◌, []};
+ghost use Rattle.std.specs.declared.alloc.AllocError.{AllocError};
 ghost use Rattle.dst_streams.specs.Causes.{Rose};
 ghost use Rattle.dst_streams.specs.Told.{IsCutShort, and_then};
 ghost use Rattle.dsdiff_spec.specs.declared.faults.FileFault.{FileFault};
@@ -67,15 +68,16 @@ pub fn cut_file<S: Source, K: Sink>(
     ensures sure { result ≡ Err CutFault.Write → (file : List ℕ) → S.bytes source.old ≡ Some file → (o : Answer) → OutcomeOf (words.cut first last) file o →
         (room : ℕ) → K.room sink.old ≡ Some room → length o.out ≤ room → ⊥ }
     // want of memory, before anything is written
-    ensures memory { result ≡ Err (CutFault.Source OpenFault.Memory) → sink.new ≡ sink.old }
+    ensures memory { (refused : AllocError) → result ≡ Err (CutFault.Source (OpenFault.Memory refused)) → sink.new ≡ sink.old }
 {
     let rules = CutFrames { first, last };
     let cut = match open_file(alloc, source, &rules) {
         Ok(cut) => cut,
         Err(fault) => return Err(CutFault::Source(fault)),
     };
-    let Ok(mut buffer) = vec![in alloc; 0u8; BUFFER] else {
-        return Err(CutFault::Source(OpenFault::Memory));
+    let mut buffer = match vec![in alloc; 0u8; BUFFER] {
+        Ok(buffer) => buffer,
+        Err(refused) => return Err(CutFault::Source(OpenFault::Memory(refused))),
     };
     match write_cut(source, sink, &cut, &mut buffer) {
         Ok(()) => Ok(Cut {
@@ -92,7 +94,7 @@ fn write_cut<S: Source, K: Sink>(
     cut: &CutForm,
     buffer: &mut [u8],
 ) -> Result<(), CutFault>
-    requires buffer { 0 < length buffer.old }
+    requires buffer { length buffer.old ≡ 65536 }
     requires size { (n : ℕ) × (S.known source.old ≡ Some n) × (cut.now.form.end ≤ n) }
     ensures bytes { S.bytes source.new ≡ S.bytes source.old }
     ensures source_later { S.faults source.old ≤ S.faults source.new }

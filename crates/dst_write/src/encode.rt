@@ -1,5 +1,6 @@
 // Encoding a plain file.
 ghost use Rattle.std.specs.Prelude.{◌≡◌, ◌⊎◌, ◌≤◌, ◌<◌, ℕ, List, length, true, Some, None, IfOk, IfErr, OnOk, Err};
+ghost use Rattle.std.specs.declared.alloc.AllocError.{AllocError};
 ghost use Rattle.dst_streams.specs.Causes.{Rose};
 ghost use Rattle.dst_streams.specs.Told.{and_then};
 ghost use Rattle.dsdiff_spec.specs.declared.faults.FileFault.{FileFault};
@@ -64,15 +65,16 @@ pub fn encode_file<R: Threads + Sync, S: Source, K: Sink, P: Picker + Sync, G: G
         length (coded (P.picks picker.now) file (accepted file)) ≤ room → ⊥ }
     ensures write_accepted { result ≡ Err EncodeFault.Write → (file : List ℕ) → S.bytes source.old ≡ Some file → (level : ℕ) → refusal (encode level) file ≡ None }
     // want of memory, before anything is written; and so it is of a file that is refused, whatever fails
-    ensures memory { result ≡ Err (EncodeFault.Source OpenFault.Memory) → sink.new ≡ sink.old }
+    ensures memory { (refused : AllocError) → result ≡ Err (EncodeFault.Source (OpenFault.Memory refused)) → sink.new ≡ sink.old }
     ensures refused { (file : List ℕ) → S.bytes source.old ≡ Some file → (level : ℕ) (fault : FileFault) → refusal (encode level) file ≡ Some fault → sink.new ≡ sink.old }
 {
     let form = match open_file(alloc, source, &PlainFile) {
         Ok(form) => form,
         Err(fault) => return Err(EncodeFault::Source(fault)),
     };
-    let Ok(mut workspace) = Workspace::new(alloc, form.channels, form.frames, workers) else {
-        return Err(EncodeFault::Source(OpenFault::Memory));
+    let mut workspace = match Workspace::new(alloc, form.channels, form.frames, workers) {
+        Ok(workspace) => workspace,
+        Err(refused) => return Err(EncodeFault::Source(OpenFault::Memory(refused))),
     };
     write_encoded(rt, source, sink, &form, picker, gate, &mut workspace)
 }

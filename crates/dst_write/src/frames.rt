@@ -43,7 +43,8 @@ impl Workspace {
     ) -> Result<Workspace, AllocError>
         requires least { 0 < workers }
         requires most { workers ≤ 16 }
-        ensures { IfOk result (HasRoomFor channels frames) }
+        ensures room { IfOk result (HasRoomFor channels frames) }
+        ensures workers { IfOk result (λ w. length w.scratches.items ≡ workers) }
     {
         Ok(Workspace {
             scratches: scratches_for(alloc, channels, workers)?,

@@ -1,7 +1,7 @@
 // The memory that frames are stored in.
-ghost use Rattle.std.specs.Prelude.{◌≡◌, ◌<◌, ◌≤◌, IfOk};
+ghost use Rattle.std.specs.Prelude.{◌≡◌, ◌<◌, ◌≤◌, length, IfOk};
 ghost use Rattle.dst_spec.specs.Sample.{IsShape};
-ghost use Rattle.dst_commands.specs.Rooms.{shape_number};
+ghost use Rattle.dst_commands.specs.Rooms.{jobs_in, shape_number};
 ghost use Rattle.dst_write.specs.Jobs.{shape_of_job, shape_of_scratch, AreJobsFor, AreScratchesFor};
 
 use dst_commands::job_count;
@@ -70,7 +70,8 @@ pub(crate) fn jobs_for(
     frames: u32,
     workers: u32,
 ) -> Result<Vec<Job>, AllocError>
-    ensures { IfOk result (λ jobs. AreJobsFor channels jobs.items) }
+    ensures jobs { IfOk result (λ jobs. AreJobsFor channels jobs.items) }
+    ensures count { IfOk result (λ jobs. length jobs.items ≡ jobs_in channels frames workers) }
 {
     let count = job_count(channels, frames, workers);
     let mut jobs = Vec::with_capacity(alloc, count as usize)?;
@@ -88,7 +89,8 @@ pub(crate) fn scratches_for(
 ) -> Result<Vec<Scratch>, AllocError>
     requires least { 0 < workers }
     requires most { workers ≤ 16 }
-    ensures { IfOk result (λ scratches. AreScratchesFor channels scratches.items) }
+    ensures scratches { IfOk result (λ scratches. AreScratchesFor channels scratches.items) }
+    ensures count { IfOk result (λ scratches. length scratches.items ≡ workers) }
 {
     let mut scratches = Vec::with_capacity(alloc, workers as usize)?;
     for _ in 0..workers {
