@@ -9,9 +9,9 @@ use Rattle.dsdiff_spec.specs.Outcome.{Answer, done, run_line}
 use Rattle.dsdiff_spec.specs.Refusal.{refusal}
 use Rattle.dsdiff_spec.proofs.Stopping.{One}
 use Rattle.dst_commands.specs.Commands.{OutcomeOf}
-use Rattle.dst_write.specs.Making.{multiple_of, made_file}
-use Rattle.dst_write.specs.declared.make.Made.{Made}
-use Rattle.dst_write.specs.declared.make.MakeFault.{MakeFault}
+use Rattle.dst_make.specs.Making.{multiple_of, made_file}
+use Rattle.dst_make.specs.declared.make.Made.{Made}
+use Rattle.dst_make.specs.declared.make.MakeFault.{MakeFault}
 use Rattle.dst_write.specs.declared.faults.Encoded.{Encoded}
 use Rattle.dst_write.proofs.MadeSounds.{octets_of}
 use Rattle.dst_read.specs.declared.faults.Decoded.{Decoded}

@@ -16,7 +16,7 @@ use Rattle.dsdiff_laws.proofs.Restoring.{same_size}
 use Rattle.dsdiff_laws.proofs.Filed.{length-file}
 use Rattle.dsdiff_laws.proofs.Headline.{headline, level_picks_law}
 use Rattle.dsdiff_laws.proofs.MadeFile.{IsMade, made_chunks, is_file, made_long, made_is_accepted, made_frames, made_size, made_room}
-use Rattle.dst_write.specs.Making.{multiple_of, made_file}
+use Rattle.dst_make.specs.Making.{multiple_of, made_file}
 use Rattle.dst_write.proofs.MadeSounds.{length-made_sound, octets_of}
 
 -- what a sink that held nothing holds

@@ -13,10 +13,11 @@ use crate::answers::{
 use crate::making::make_run;
 use dst_dsf::{decode_dsf, encode_dsf};
 use dst_lines::lines;
+use dst_make::make_file;
 use dst_read::{check_file, decode_file, frame_out, index_file, show_file};
 use dst_streams::{Sink, Source};
 use dst_words::Command;
-use dst_write::{cut_file, encode_file, make_file};
+use dst_write::{cut_file, encode_file};
 use filter_analyser::LevelPicker;
 use frame_crew::OpenGate;
 use std::alloc::Global;

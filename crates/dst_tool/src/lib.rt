@@ -22,13 +22,12 @@ mod command;
 mod making;
 mod run;
 
+pub use dst_make::{Made, MakeFault, make_file};
 pub use dst_read::{
     CheckFault, Checked, DecodeFault, Decoded, FrameWritten, ListFault, Reported, ShowFault,
     check_file, decode_file, frame_out, index_file, show_file,
 };
 pub use dst_words::{Command, Task, read_words};
-pub use dst_write::{
-    Cut, CutFault, EncodeFault, Encoded, Made, MakeFault, cut_file, encode_file, make_file,
-};
+pub use dst_write::{Cut, CutFault, EncodeFault, Encoded, cut_file, encode_file};
 pub use making::{RunFault, make_run};
 pub use run::dst_run;

@@ -10,14 +10,15 @@ ghost use Rattle.dsdiff_spec.specs.Outcome.{coded_at, stored_at, done, run_line}
 ghost use Rattle.dsdiff_spec.specs.Refusal.{refusal};
 ghost use Rattle.dsdiff_spec.specs.Rules.{accepted};
 ghost use Rattle.dsdiff_spec.specs.Words.{encode, decode};
-ghost use Rattle.dst_write.specs.Making.{made_file};
+ghost use Rattle.dst_make.specs.Making.{made_file};
 ghost use Rattle.dst_write.specs.Unfinished.{HoldsNothing};
 
 use dsdiff_chunks::OpenFault;
+use dst_make::{MakeFault, make_file};
 use dst_num::Channels;
 use dst_read::{DecodeFault, Decoded, decode_file};
 use dst_streams::{HonestSource, MemorySink, Sink};
-use dst_write::{EncodeFault, Encoded, MakeFault, encode_file, make_file};
+use dst_write::{EncodeFault, Encoded, encode_file};
 use filter_analyser::LevelPicker;
 use frame_crew::Gate;
 use std::alloc::{AllocError, Global};

@@ -13,4 +13,3 @@ mod CutWhole
 mod CutOutcome
 mod CutCopied
 mod CutRules
-pub mod MadeSounds

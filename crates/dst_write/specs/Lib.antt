@@ -7,4 +7,3 @@ pub mod Draining
 pub mod Frames
 pub mod CutLayout
 pub mod Cutting
-pub mod Making

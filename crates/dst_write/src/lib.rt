@@ -1,8 +1,8 @@
 //! The commands that write coded files: each of them alone, over a source and a sink.
 //!
 //! [`encode_file`] writes the coded file of a plain one, with the parameters that a picker finds for each frame. [`cut_file`] writes some
-//! frames of a coded file as a coded file, without coding them again, and [`make_file`] a plain file of made sound. Each answers what it
-//! did, or the first fault, of a type that has the faults that it can give and no others.
+//! frames of a coded file as a coded file, without coding them again. Each answers what it did, or the first fault, of a type that has
+//! the faults that it can give and no others.
 //!
 //! ```text
 //! match encode_file(&rt, alloc, &mut source, &mut sink, &picker, 4, &OpenGate) {
@@ -25,7 +25,6 @@ mod faults;
 mod feed;
 mod frames;
 mod jobs;
-mod make;
 mod sizes;
 #[cfg(test)]
 mod tests;
@@ -34,4 +33,3 @@ mod work;
 pub use cut::{Cut, CutFault, cut_file};
 pub use encode::encode_file;
 pub use faults::{EncodeFault, Encoded};
-pub use make::{Made, MakeFault, make_file};

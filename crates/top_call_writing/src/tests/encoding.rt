@@ -1,9 +1,9 @@
 // Files that are coded: known byte for byte, or decoded again.
 use super::{answers, gives};
+use dst_make::make_file;
 use dst_num::Channels;
 use dst_streams::{HonestSource, MemorySink, MemorySource};
 use dst_tool::dst_run;
-use dst_write::make_file;
 use example_files::{
     EXAMPLE, NOTHING_KEPT, PLAIN_CMPR, PLAIN_PROP, SILENT, THREE_KEPT, VERSION, chunk, coded,
     coded_silent, counting, frame, joined, odd_plain, two_frames, with_bytes,

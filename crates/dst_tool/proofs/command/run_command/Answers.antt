@@ -15,7 +15,7 @@ use Rattle.dst_commands.specs.Commands.{OutcomeOf}
 use Rattle.dst_tool.proofs.OneLine.{IsAnswer, few_given, most_for_any, TellsLine, run_of_answer, at_file, same_run, nothing_added, nothing_cut, finished_alone, cut_or_nothing, encoding_is_no_frame, decoding_is_no_frame, encoding_dsf_is_no_frame, decoding_dsf_is_no_frame, cutting_is_no_frame, making_is_no_frame, running_is_no_frame, checking_is_no_frame, showing_is_no_frame, showing_one_is_no_frame, listing_is_no_frame}
 use Rattle.dst_read.specs.declared.faults.DecodeFault.{DecodeFault}
 use Rattle.dst_read.specs.declared.faults.DecodeFault.TheVariants as decoding
-use Rattle.dst_write.specs.declared.make.MakeFault.TheVariants as making
+use Rattle.dst_make.specs.declared.make.MakeFault.TheVariants as making
 use Rattle.dst_read.specs.declared.faults.ShowFault.TheVariants as showing
 use Rattle.dst_read.specs.declared.faults.ListFault.TheVariants as listing
 use Rattle.dst_tool.specs.Runs.{WholeOf}
@@ -23,9 +23,9 @@ use Rattle.dst_tool.specs.Answers.{answered, done_line, line_of, status_of, of_c
 use Rattle.dst_tool.proofs.Inverting.{back_from, encode_again, encode_refuses, encode_reports, to_encode, if_done, check_again, check_reports, check_writes, decode_again, decode_reports, if_answered, list_again, list_refuses, list_writes, show_again, show_writes, to_check, to_cut, to_decode, to_list, to_show}
 use Rattle.dst_tool.proofs.Inverting.{cut_again, cut_refuses, cut_reports, made_memory, made_no_other, made_write, ran_no_other}
 use Rattle.dst_write.specs.declared.faults.Encoded.{Encoded}
-use Rattle.dst_write.specs.Making.{made_file}
+use Rattle.dst_make.specs.Making.{made_file}
 use Rattle.dst_write.specs.declared.cut.Cut.{Cut}
-use Rattle.dst_write.specs.declared.make.Made.{Made}
+use Rattle.dst_make.specs.declared.make.Made.{Made}
 use Rattle.dst_read.specs.declared.faults.Decoded.{Decoded}
 use Rattle.dst_read.specs.declared.faults.FrameWritten.{FrameWritten}
 use Rattle.dst_read.specs.declared.faults.Checked.{Checked}

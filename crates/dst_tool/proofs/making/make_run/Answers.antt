@@ -9,7 +9,7 @@ use Rattle.dsdiff_spec.specs.Outcome.{coded_at, stored_at, done}
 use Rattle.dsdiff_spec.specs.Refusal.{refusal}
 use Rattle.dsdiff_spec.specs.Rules.{accepted}
 use Rattle.dsdiff_spec.specs.Words.{encode, decode}
-use Rattle.dst_write.specs.Making.{made_file}
+use Rattle.dst_make.specs.Making.{made_file}
 use Rattle.dst_tool.proofs.MadeRuns.{held, file_accepted, file_frames, file_sound, coded_fits, file_comes_back, coded_frames, coded_sound}
 use Rattle.dst_tool.proofs.making.make_run.Goals as goal
 

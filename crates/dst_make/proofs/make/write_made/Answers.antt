@@ -1,9 +1,9 @@
 -- What stands in front, the sound, and the end.
 use Rattle.dsdiff_spec.specs.Made.{made_sound}
 use Rattle.dst_commands.proofs.Writing.{adds_same, adds_then, stops_first, stops_same, stops_then, then_settled}
-use Rattle.dst_write.specs.Making.{made_file, made_front}
-use Rattle.dst_write.proofs.MadeSounds.{file_is}
-use Rattle.dst_write.proofs.make.write_made.Goals as goal
+use Rattle.dst_make.specs.Making.{made_file, made_front}
+use Rattle.dst_make.proofs.MadeSounds.{file_is}
+use Rattle.dst_make.proofs.make.write_made.Goals as goal
 
 pub returns-in_default-clause-written : goal.returns-in_default-clause-written
 returns-in_default-clause-written g c =

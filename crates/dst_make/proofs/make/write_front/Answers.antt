@@ -1,7 +1,7 @@
 -- The pieces are what stands in front of the sound.
 use Rattle.std.proofs.Common.{◌*◌, ap, ◌∙◌}
-use Rattle.dst_write.proofs.MadeSounds.{front_is, in_one_call}
-use Rattle.dst_write.proofs.make.write_front.Goals as goal
+use Rattle.dst_make.proofs.MadeSounds.{front_is, in_one_call}
+use Rattle.dst_make.proofs.make.write_front.Goals as goal
 
 pub returns-clause-written : goal.returns-clause-written
 returns-clause-written g c =

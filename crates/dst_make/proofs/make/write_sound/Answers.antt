@@ -4,8 +4,8 @@ use Rattle.dsdiff_spec.specs.Made.{made_sound}
 use Rattle.sound_maker.specs.Making.{after_frame, frame_of}
 use Rattle.sound_maker.proofs.Making.{maker_behind_a_frame, nothing_made, one_frame_more}
 use Rattle.dst_commands.proofs.Writing.{added, adds_nothing, adds_same, adds_then, cut_off, stops_same, stops_then}
-use Rattle.dst_write.proofs.MadeSounds.{stops_in_frame}
-use Rattle.dst_write.proofs.make.write_sound.Goals as goal
+use Rattle.dst_make.proofs.MadeSounds.{stops_in_frame}
+use Rattle.dst_make.proofs.make.write_sound.Goals as goal
 
 pub loop-frame-init : goal.loop-frame-init
 loop-frame-init g c = record {

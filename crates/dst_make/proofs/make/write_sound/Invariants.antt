@@ -4,7 +4,7 @@ use Rattle.dst_spec.specs.Sample.{sound_bytes}
 use Rattle.dsdiff_spec.specs.Made.{made_sound}
 use Rattle.sound_maker.specs.Making.{maker_after}
 use Rattle.dst_commands.specs.Writing.{Adds}
-use Rattle.dst_write.proofs.make.write_sound.Given as goal
+use Rattle.dst_make.proofs.make.write_sound.Given as goal
 
 abbrev pub invariant-loop-frame : goal.invariant-loop-frame
 invariant-loop-frame g l = record {

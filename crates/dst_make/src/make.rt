@@ -6,16 +6,13 @@ ghost use Rattle.dst_streams.specs.Causes.{Rose, HasCause};
 ghost use Rattle.dst_streams.specs.Told.{IsCutShort, and_then};
 ghost use Rattle.dsdiff_spec.specs.Made.{made_sound};
 ghost use Rattle.dst_commands.specs.Writing.{Adds, Stops};
-ghost use Rattle.dst_write.specs.Making.{made_file, made_front};
+ghost use Rattle.dst_make.specs.Making.{made_file, made_front};
 
 use dsdiff_chunks::append_all;
 use dst_num::Channels;
 use dst_streams::{Failed, Sink};
 use sound_maker::SoundMaker;
 use std::alloc::{AllocError, Global};
-
-#[cfg(test)]
-mod tests;
 
 /// A plain file of made sound was written: how many frames it has.
 #[derive(Clone, Copy, Debug, PartialEq, Eq)]

@@ -16,7 +16,7 @@ use Rattle.sound_maker.proofs.Making.{row, sound-more, one_frame_more}
 use Rattle.dst_streams.specs.Told.{and_then, IsCutShort, IsSure}
 use Rattle.dst_commands.specs.Writing.{Adds, Stops}
 use Rattle.dst_commands.proofs.Writing.{added, adds_same, cut_off, stops_first, stops_same}
-use Rattle.dst_write.specs.Making.{multiple_of, made_file, made_front}
+use Rattle.dst_make.specs.Making.{multiple_of, made_file, made_front}
 
 -- ---- the sound
 length-sound_of : (F : ℕ → ℕ → ℕ) (channels octets : ℕ) → length (sound_of F channels octets) ≡ octets * channels
