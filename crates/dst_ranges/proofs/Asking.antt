@@ -1,13 +1,12 @@
 -- The parts of pairs: what they are in the words of the definitions, and how the parts of one pair more follow.
-use Rattle.std.proofs.Common.{◌≡◌, ℕ, zero, suc, ◌+◌, ◌-◌, ◌*◌, ◌<◌, ◌≤◌, List, [], ◌∷◌, ◌++◌, length, get_or, map, take, refl, sym, ap, ap₂, ◌∙◌, arith, append-nil}
-use Rattle.std.specs.Prelude.{flat_map, sum}
+use Rattle.std.proofs.Common.{◌≡◌, ℕ, zero, suc, ◌+◌, ◌*◌, ◌<◌, ◌≤◌, List, [], ◌∷◌, ◌++◌, length, get_or, map, take, refl, ap, ap₂, ◌∙◌, arith, append-nil}
+use Rattle.std.specs.Prelude.{flat_map}
 use Rattle.std.proofs.lemmas.Grind.{flat_map-append}
 use Rattle.std.proofs.lemmas.List.{map-append, take_more}
 use Rattle.std.proofs.lemmas.List.Sums.{sum_by-cons}
-use Rattle.dsdiff_spec.specs.Bytes.{between}
 use Rattle.dsdiff_spec.specs.Form.{Form, sound_bytes_of}
-use Rattle.dsdiff_spec.specs.Ranges.{Want, touched, wants, wants_between, range_of}
-use Rattle.dst_ranges.specs.Parts.{Part, part, parts_between, parts_of, frames_wanted, counts_of, bytes_of}
+use Rattle.dsdiff_spec.specs.Ranges.{Want, touched, wants, range_of}
+use Rattle.dst_ranges.specs.Parts.{Part, parts_between, parts_of, frames_wanted, counts_of, bytes_of}
 use Rattle.dst_ranges.specs.Asked.{groups_asked}
 use Rattle.dst_ranges.proofs.Geometry.{bytes_are, count_is, counts_first}
 

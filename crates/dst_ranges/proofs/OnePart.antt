@@ -1,23 +1,20 @@
 -- One part: read and written, or what it stops at.
-use Rattle.std.proofs.Common.{◌≡◌, ℕ, ◌+◌, List, [], ◌∷◌, ◌++◌, length, Option, Some, None, refl, sym, ap, ap₂, subst, ◌∙◌, arith, append-nil}
+use Rattle.std.proofs.Common.{◌≡◌, ℕ, List, [], ◌∷◌, ◌++◌, length, Option, refl, sym, ap, subst, ◌∙◌, arith, append-nil}
 use Rattle.dst_spec.specs.Means.{Means}
 use Rattle.dst_spec.specs.Offends.{Offends}
 use Rattle.dst_spec.specs.declared.faults.FrameFault.{FrameFault}
-use Rattle.dst_spec.specs.Sample.{Shape}
-use Rattle.dst_streams.specs.Told.{and_then}
 use Rattle.dsdiff_spec.specs.Bytes.{bytes_at}
 use Rattle.dsdiff_spec.specs.Form.{Form, shape}
 use Rattle.dsdiff_spec.specs.Outcome.{nth_frame}
-use Rattle.dsdiff_spec.specs.Walk.{Entry, entry, entries, frame_at}
+use Rattle.dsdiff_spec.specs.Walk.{Entry, entry, frame_at}
 use Rattle.dsdiff_chunks.specs.declared.open.OpenFault.TheVariants.{Read}
 use Rattle.dst_commands.specs.Writing.{Adds, Stops}
 use Rattle.dst_commands.proofs.Writing.{and_then-nothing, adds_same, stops_same, stops_at_once, stops_for}
-use Rattle.frame_cache.specs.Reader.{Reader, IsReaderOf, KeepsSounds, frame_in}
+use Rattle.frame_cache.specs.Reader.{Reader, IsReaderOf, frame_in}
 use Rattle.frame_cache.specs.Reads.{HasWanted, IsRefusedAt, MeanSounds}
-use Rattle.dst_read.specs.declared.faults.DecodeFault.{DecodeFault}
 use Rattle.dst_read.specs.declared.faults.DecodeFault.TheVariants.{Source, Write, Frame}
-use Rattle.dst_ranges.specs.Parts.{Part, part, frames_wanted, counts_of, bytes_of}
-use Rattle.dst_ranges.specs.Reading.{AreRead, OfSound, Wrote, IsRefused, IsCut, Stopped}
+use Rattle.dst_ranges.specs.Parts.{part, bytes_of}
+use Rattle.dst_ranges.specs.Reading.{AreRead, OfSound, Wrote, Stopped}
 
 -- ---- a frame of the reader is that frame of the form
 frame_of_reader : (file : List ℕ) (form : Form) (r : Reader) (k : ℕ) → IsReaderOf file form r → frame_in file r k ≡ nth_frame file form k

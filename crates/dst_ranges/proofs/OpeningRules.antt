@@ -1,14 +1,13 @@
 -- The rules of parts behind those of listing a file's frames: each pair lies in the sound.
-use Rattle.std.proofs.Common.{◌≡◌, ℕ, suc, ◌+◌, ◌*◌, ◌/◌, ◌<◌, ◌≤◌, false, true, if◌then◌else◌, List, [], ◌∷◌, length, get_or, drop, Option, Some, None, Ok, Err, Result, refl, sym, ap, ap₂, subst, ◌∙◌, arith, drop-cons}
+use Rattle.std.proofs.Common.{◌≡◌, ℕ, suc, ◌+◌, ◌*◌, ◌<◌, ◌≤◌, if◌then◌else◌, List, [], ◌∷◌, length, get_or, drop, Option, Some, None, refl, sym, ap, ap₂, subst, ◌∙◌, arith, drop-cons}
 use Rattle.std.specs.List.{AllByRecursion}
 use Rattle.std.proofs.Math.Nat.{le-div_iff_mul-le}
 use Rattle.std.proofs.lemmas.Bool.{ltb-false, lt-ltb, le-ltb}
 use Rattle.dst_spec.specs.Sample.{Shape, IsShape}
-use Rattle.dst_streams.specs.Causes.{Rose}
 use Rattle.dsdiff_spec.specs.Bytes.{◌above◌}
 use Rattle.dsdiff_spec.specs.Faults.{◌when◌, ◌otherwise◌, first_some}
 use Rattle.dsdiff_spec.specs.Form.{Form, size_of_sound}
-use Rattle.dsdiff_spec.specs.Refusal.{command_fault, form_refusal, not_walked, past_fault, groups, refusal}
+use Rattle.dsdiff_spec.specs.Refusal.{form_refusal, not_walked, past_fault, groups, refusal}
 use Rattle.dsdiff_spec.specs.Rules.{form_fault, accepted}
 use Rattle.dsdiff_spec.specs.Words.{range, index}
 use Rattle.dsdiff_spec.specs.declared.faults.FileFault.{FileFault}

@@ -1,15 +1,15 @@
 -- What writing parts comes to: the outcome of the command, or a prefix of what it writes.
-use Rattle.std.proofs.Common.{◌≡◌, ◌⊎◌, inl, inr, ℕ, ◌+◌, ◌*◌, ◌<◌, List, [], ◌∷◌, ◌++◌, length, map, take, Option, None, Some, Err, Ok, refl, sym, ap, ap₂, subst, ◌∙◌, arith, append-nil}
+use Rattle.std.proofs.Common.{◌≡◌, ◌⊎◌, inl, inr, ℕ, ◌+◌, ◌*◌, ◌<◌, List, [], ◌∷◌, ◌++◌, length, map, take, Option, None, Err, refl, sym, ap, ap₂, subst, ◌∙◌, append-nil}
 use Rattle.std.proofs.lemmas.List.{map-append}
 use Rattle.dst_spec.specs.Bits.{AreBytes}
 use Rattle.dst_spec.specs.Sample.{IsShape}
 use Rattle.dst_spec.specs.Offends.{Offends}
 use Rattle.dst_spec.specs.declared.faults.FrameFault.{FrameFault}
 use Rattle.dst_streams.specs.Told.{and_then}
-use Rattle.dsdiff_spec.specs.Form.{Form, shape, sound_bytes_of}
+use Rattle.dsdiff_spec.specs.Form.{shape, sound_bytes_of}
 use Rattle.dsdiff_spec.specs.Lines.{range_line}
 use Rattle.dsdiff_spec.specs.Outcome.{Answer, OfCommand, IsStopped, IsDone, NoneRefused, done, frame_refused, nth_frame, run}
-use Rattle.dsdiff_spec.specs.Ranges.{Sound, Want, wants, range_of, range_before, place_of}
+use Rattle.dsdiff_spec.specs.Ranges.{Sound, wants, range_of, range_before, place_of}
 use Rattle.dsdiff_spec.specs.Refusal.{refusal}
 use Rattle.dsdiff_spec.specs.Rules.{accepted}
 use Rattle.dsdiff_spec.specs.Words.{range}
@@ -22,10 +22,9 @@ use Rattle.dst_commands.proofs.Writing.{stops_at_once, stops_in}
 use Rattle.dst_read.specs.declared.faults.DecodeFault.{DecodeFault}
 use Rattle.dst_read.specs.declared.faults.DecodeFault.TheVariants.{Source, Write, Frame}
 use Rattle.dst_ranges.specs.Asked.{groups_asked}
-use Rattle.dst_ranges.specs.Ending.{RangeEnds, IsStoppedShort, LacksRoomForOutcome}
-use Rattle.dst_ranges.specs.Parts.{Part, counts_of, bytes_of}
+use Rattle.dst_ranges.specs.Ending.{RangeEnds, IsStoppedShort}
+use Rattle.dst_ranges.specs.Parts.{Part, bytes_of}
 use Rattle.dst_ranges.specs.Reading.{AreRead, IsRefused, IsCut, StopsIn}
-use Rattle.dst_ranges.specs.declared.range.RangeWritten.{RangeWritten}
 use Rattle.dst_ranges.proofs.Asking.{want_of, wants_are, range_is, bytes_append, all_counts}
 use Rattle.dst_ranges.proofs.Wants.{all_parts, with_frame, none_refused, frame_of_want, place_behind, place_first, written_before, counts_in}
 

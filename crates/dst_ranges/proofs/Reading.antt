@@ -6,15 +6,15 @@ use Rattle.dst_streams.specs.Told.{and_then}
 use Rattle.dst_streams.proofs.Told.{and_then-twice}
 use Rattle.dsdiff_spec.specs.Form.{Form, shape}
 use Rattle.dsdiff_spec.specs.Outcome.{nth_frame}
-use Rattle.dst_commands.specs.Writing.{Adds, Stops}
+use Rattle.dst_commands.specs.Writing.{Adds}
 use Rattle.dst_commands.proofs.Writing.{adds_nothing, adds_then, adds_same, stops_then, stops_same, stops_unsettled, stops_for}
-use Rattle.frame_cache.specs.Reader.{Reader, IsReaderOf, IsSame, KeepsSounds}
+use Rattle.frame_cache.specs.Reader.{Reader, IsReaderOf, IsSame}
 use Rattle.frame_cache.specs.Reads.{HasWanted}
 use Rattle.frame_cache.proofs.Wanting.{none_wanted, wanted_then}
 use Rattle.dst_read.specs.declared.faults.DecodeFault.{DecodeFault}
 use Rattle.dst_read.specs.declared.faults.DecodeFault.TheVariants.{Source, Write, Frame}
-use Rattle.dst_ranges.specs.Parts.{Part, frames_wanted, counts_of, bytes_of}
-use Rattle.dst_ranges.specs.Reading.{AreRead, OfSound, Wrote, IsRefused, IsCut, StopsIn, Stopped}
+use Rattle.dst_ranges.specs.Parts.{Part, frames_wanted, bytes_of}
+use Rattle.dst_ranges.specs.Reading.{AreRead, Wrote, IsCut, StopsIn, Stopped}
 use Rattle.dst_ranges.proofs.Asking.{frames_append, counts_append, bytes_append}
 
 -- ---- parts that are read

@@ -5,11 +5,10 @@ use Rattle.std.specs.List.{AllByRecursion}
 use Rattle.dst_spec.specs.Bits.{AreBytes}
 use Rattle.dst_spec.specs.Means.{Means}
 use Rattle.dst_spec.specs.Sample.{Shape, IsShape, sound_bytes}
-use Rattle.dst_streams.specs.Told.{counted}
-use Rattle.dsdiff_spec.specs.Form.{shape, sound_bytes_of}
+use Rattle.dsdiff_spec.specs.Form.{sound_bytes_of}
 use Rattle.dsdiff_spec.specs.Ranges.{Want, wants, decoded_of}
 use Rattle.dsdiff_spec.specs.Rules.{accepted}
-use Rattle.dsdiff_spec.specs.Walk.{Entry, entry, entries}
+use Rattle.dsdiff_spec.specs.Walk.{Entry, entry}
 use Rattle.dsdiff_spec.proofs.OneSound.{one_sound}
 use Rattle.dst_commands.specs.Writing.{Adds}
 use Rattle.frame_cache.specs.Reader.{Reader, KeepsSounds, frame_in, order, stored_bytes}

@@ -1,12 +1,11 @@
 -- The rules in their order; what is opened is ready for the pairs.
-use Rattle.std.proofs.Common.{◌≡◌, ℕ, ◌+◌, ◌*◌, ◌<◌, ◌≤◌, length, refl, sym, ap, ap₂, subst, ◌∙◌, arith}
-use Rattle.std.specs.List.{AllByRecursion}
+use Rattle.std.proofs.Common.{◌≡◌, ◌<◌, sym, ap, subst, ◌∙◌, arith}
 use Rattle.dst_spec.specs.Sample.{Shape, IsShape, sound_bytes}
-use Rattle.dsdiff_spec.specs.Form.{Form, shape, size_of_sound}
+use Rattle.dsdiff_spec.specs.Form.{shape, size_of_sound}
 use Rattle.dsdiff_spec.specs.Walk.{entries}
 use Rattle.dsdiff_chunks.specs.Forms.{coded_seen}
 use Rattle.frame_cache.specs.Reader.{Reader}
-use Rattle.dst_ranges.proofs.OpeningRules.{all_inside, inside_reader, pairs_asked, stops_first}
+use Rattle.dst_ranges.proofs.OpeningRules.{inside_reader, pairs_asked, stops_first}
 use Rattle.dst_ranges.proofs.opened.open_parts.Goals as goal
 
 pub returns-in-Err-clause-stops : goal.returns-in-Err-clause-stops

@@ -1,7 +1,6 @@
 -- One part more is written, or it stops there.
-use Rattle.std.proofs.Common.{◌≡◌, ◌+◌, ◌/◌, ◌<◌, ◌≤◌, ◌∷◌, [], ◌++◌, length, take, drop, refl, sym, ap, ◌∙◌, arith, length-append, length-drop}
+use Rattle.std.proofs.Common.{◌≡◌, ◌/◌, ◌∷◌, [], length, take, drop, refl, ◌∙◌, arith, length-append, length-drop}
 use Rattle.std.proofs.lemmas.List.{length-take-le}
-use Rattle.dst_spec.specs.Sample.{sound_bytes}
 use Rattle.dst_ranges.specs.Parts.{part}
 use Rattle.dst_ranges.proofs.Geometry.{first_count, first_fits}
 use Rattle.dst_ranges.proofs.Underway.{at_first, one_more, all_done, stopped_there, wrote_as, stopped_as, part_as}

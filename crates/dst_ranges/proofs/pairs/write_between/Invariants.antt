@@ -1,5 +1,5 @@
 -- The parts in front of the place are written.
-use Rattle.std.proofs.Common.{◌≡◌, ℕ, ◌-◌, ◌≤◌, length}
+use Rattle.std.proofs.Common.{◌≡◌, ◌-◌, ◌≤◌, length}
 use Rattle.dst_ranges.proofs.Underway.{IsUnderway}
 use Rattle.dst_ranges.proofs.pairs.write_between.Given as goal
 

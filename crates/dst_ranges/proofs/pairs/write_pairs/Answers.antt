@@ -1,13 +1,11 @@
 -- One pair more is written, or it stops in it.
-use Rattle.std.proofs.Common.{◌≡◌, ℕ, ◌+◌, ◌*◌, ◌<◌, ◌≤◌, length, get_or, take, refl, sym, ap, ap₂, subst, ◌∙◌, arith}
+use Rattle.std.proofs.Common.{◌≡◌, ℕ, ◌+◌, ◌*◌, ◌<◌, ◌≤◌, length, get_or, take, refl, ap, ap₂, ◌∙◌, arith}
 use Rattle.std.proofs.lemmas.List.{take_all}
 use Rattle.dst_spec.specs.Sample.{sound_bytes}
 use Rattle.dst_spec.proofs.Lists.{get_all}
-use Rattle.frame_cache.specs.Reader.{Reader}
 use Rattle.frame_cache.proofs.Bringing.{length-written}
 use Rattle.dst_ranges.specs.Asked.{groups_asked}
-use Rattle.dst_ranges.specs.Parts.{parts_between, parts_of}
-use Rattle.dst_ranges.specs.Reading.{Wrote}
+use Rattle.dst_ranges.specs.Parts.{parts_of}
 use Rattle.dst_ranges.proofs.Asking.{asked_more, pair_asked}
 use Rattle.dst_ranges.proofs.Underway.{one_pair_more, parts_at, pair_parts, stopped_in_pair, stopped_as, wrote_as}
 use Rattle.dst_ranges.proofs.pairs.write_pairs.Goals as goal

@@ -1,7 +1,6 @@
 -- The part lies in one frame: it is read and written, or what it stops at.
-use Rattle.std.proofs.Common.{◌≡◌, ◌+◌, ◌/◌, ◌<◌, ◌∷◌, [], length, Err, ap, arith}
+use Rattle.std.proofs.Common.{◌+◌, ◌/◌, ◌<◌, length, Err, ap, arith}
 use Rattle.dst_spec.specs.Sample.{sound_bytes}
-use Rattle.dsdiff_spec.specs.Ranges.{touched}
 use Rattle.dst_commands.proofs.Writing.{added, cut_off}
 use Rattle.dst_ranges.proofs.Geometry.{one_touched, ends_in_frame}
 use Rattle.dst_ranges.proofs.OnePart.{one_wrote, one_unwritten, one_refused}

@@ -1,20 +1,14 @@
 -- Each answer is one of opening, or one of writing.
-use Rattle.std.proofs.Common.{◌≡◌, inl, inr, ℕ, ◌+◌, ◌*◌, ◌^◌, ◌<◌, ◌≤◌, List, ◌∷◌, [], Option, Some, Result, Ok, Err, ap, sym, subst, ◌∙◌, arith}
+use Rattle.std.proofs.Common.{◌≡◌, inl, inr, ℕ, ◌+◌, ◌^◌, ◌<◌, ◌≤◌, List, ◌∷◌, [], Option, Some, Result, Ok, Err, subst, ◌∙◌, arith}
 use Rattle.std.specs.Prelude.{IfOk, OnOk}
-use Rattle.dst_spec.specs.Sample.{Shape}
 use Rattle.dst_streams.specs.Told.{and_then}
-use Rattle.dsdiff_spec.specs.Form.{Form}
-use Rattle.dsdiff_spec.specs.Refusal.{refusal}
 use Rattle.dsdiff_spec.specs.Rules.{accepted}
 use Rattle.dsdiff_spec.specs.Lines.{range_line}
 use Rattle.dsdiff_spec.specs.Outcome.{done}
 use Rattle.dsdiff_spec.specs.Words.{range}
-use Rattle.dsdiff_chunks.specs.declared.open.OpenFault.{OpenFault}
-use Rattle.dsdiff_chunks.specs.Opening as opening
 use Rattle.dst_commands.specs.Commands.{OutcomeOf}
 use Rattle.dst_read.specs.declared.faults.DecodeFault.{DecodeFault}
-use Rattle.dst_read.specs.declared.faults.DecodeFault.TheVariants.{Source}
-use Rattle.dst_ranges.specs.Asked.{groups_asked, bytes_read}
+use Rattle.dst_ranges.specs.Asked.{bytes_read}
 use Rattle.dst_ranges.specs.Ending.{RangeEnds}
 use Rattle.dst_ranges.specs.declared.range.RangeWritten.{RangeWritten}
 use Rattle.dst_ranges.proofs.Outcomes.{nothing_written}

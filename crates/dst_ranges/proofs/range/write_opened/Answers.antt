@@ -1,5 +1,5 @@
 -- The pairs are written and settled, or it stops there.
-use Rattle.std.proofs.Common.{◌≡◌, ◌∙◌, refl, sym}
+use Rattle.std.proofs.Common.{refl}
 use Rattle.dst_read.specs.declared.faults.DecodeFault.TheVariants.{Write}
 use Rattle.dst_ranges.proofs.Reading.{stopped_unsettled}
 use Rattle.dst_ranges.proofs.Whole.{ends_done, ends_short, given_most}
