@@ -1,5 +1,6 @@
 // Opening a DSF file: the rules in order, by its size and its head.
 ghost use Rattle.std.specs.Prelude.{◌≡◌, ◌+◌, ◌*◌, ◌/◌, ◌≤◌, ℕ, List, true, Some, None, Err, IfOk, IfErr, OnOk};
+ghost use Rattle.std.specs.declared.alloc.AllocError.{AllocError};
 ghost use Rattle.dst_num.specs.Channels.{shape_of};
 ghost use Rattle.dst_streams.specs.Causes.{Rose};
 ghost use Rattle.dsdiff_spec.specs.declared.faults.FileFault.{FileFault};
@@ -26,7 +27,7 @@ pub fn open_dsf<S: Source>(source: &mut S) -> Result<DsfForm, OpenFault>
     ensures form { IfOk result (λ f. (xs : List ℕ) → S.bytes source.old ≡ Some xs → IsFormOf xs f) }
     ensures fault { (fault : FileFault) → result ≡ Err (OpenFault.File fault) → (xs : List ℕ) → S.bytes source.old ≡ Some xs → dsf_fault xs ≡ Some fault }
     ensures read { result ≡ Err OpenFault.Read → Rose (S.faults source.old) (S.faults source.new) }
-    ensures never_memory { result ≡ Err OpenFault.Memory → ⊥ }
+    ensures never_memory { (refused : AllocError) → result ≡ Err (OpenFault.Memory refused) → ⊥ }
     ensures later { S.faults source.old ≤ S.faults source.new }
     ensures given { S.given source.new ≤ S.given source.old + 92 }
 {

@@ -1,5 +1,6 @@
 // Decoding a coded file to a DSF file.
 ghost use Rattle.std.specs.Prelude.{◌≡◌, ◌⊎◌, ◌≤◌, ◌<◌, ℕ, true, List, length, Some, IfOk, IfErr, OnOk, Err, ◌∷◌, []};
+ghost use Rattle.std.specs.declared.alloc.AllocError.{AllocError};
 ghost use Rattle.dst_spec.specs.declared.faults.FrameFault.{FrameFault};
 ghost use Rattle.dst_streams.specs.Causes.{Rose};
 ghost use Rattle.dst_streams.specs.Told.{IsCutShort, and_then};
@@ -66,16 +67,17 @@ pub fn decode_dsf<R: Threads + Sync, S: Source, K: Sink, G: Gate>(
     ensures sure { result ≡ Err DecodeFault.Write → (file : List ℕ) → S.bytes source.old ≡ Some file → (o : Answer) → OutcomeOf words.decode_dsf file o →
         (room : ℕ) → K.room sink.old ≡ Some room → length o.out ≤ room → ⊥ }
     // want of memory, before anything is written
-    ensures memory { result ≡ Err (DecodeFault.Source OpenFault.Memory) → sink.new ≡ sink.old }
+    ensures memory { (refused : AllocError) → result ≡ Err (DecodeFault.Source (OpenFault.Memory refused)) → sink.new ≡ sink.old }
 {
     let opened = match open_file(alloc, source, &DsfFrames) {
         Ok(opened) => opened,
         Err(fault) => return Err(DecodeFault::Source(fault)),
     };
     let DsfWalked { walked, .. } = &opened;
-    let Ok(mut workspace) = Workspace::new(alloc, walked.form.channels, walked.form.frames, workers)
-    else {
-        return Err(DecodeFault::Source(OpenFault::Memory));
+    let channels = walked.form.channels;
+    let mut workspace = match Workspace::new(alloc, channels, walked.form.frames, workers) {
+        Ok(workspace) => workspace,
+        Err(refused) => return Err(DecodeFault::Source(OpenFault::Memory(refused))),
     };
     write_decoded(rt, source, sink, &opened, gate, &mut workspace)
 }
@@ -90,7 +92,7 @@ fn write_decoded<R: Threads + Sync, S: Source, K: Sink, G: Gate>(
     workspace: &mut Workspace,
 ) -> Result<Decoded, DecodeFault>
     requires size { (n : ℕ) × (S.known source.old ≡ Some n) × (opened.now.walked.form.end ≤ n) }
-    requires room { HasRoomFor opened.now.walked.form.channels workspace.old }
+    requires room { HasRoomFor opened.now.walked.form.channels opened.now.walked.form.frames workspace.old }
     requires walked { (file : List ℕ) → S.bytes source.old ≡ Some file → IsOpened file (coded_seen opened.now.walked.form) opened.now.walked.index }
     requires opened { (file : List ℕ) → S.bytes source.old ≡ Some file → IsOpenedAs file (coded_seen opened.now.walked.form) (dsf_seen opened.now.said) }
     ensures bytes { S.bytes source.new ≡ S.bytes source.old }

@@ -1,5 +1,6 @@
 // Encoding a DSF file.
 ghost use Rattle.std.specs.Prelude.{◌≡◌, ◌⊎◌, ◌≤◌, ◌<◌, ℕ, List, length, true, Some, None, IfOk, OnOk, Err};
+ghost use Rattle.std.specs.declared.alloc.AllocError.{AllocError};
 ghost use Rattle.dst_streams.specs.Causes.{Rose};
 ghost use Rattle.dst_streams.specs.Told.{and_then};
 ghost use Rattle.dsdiff_spec.specs.declared.faults.FileFault.{FileFault};
@@ -55,7 +56,7 @@ pub fn encode_dsf<R: Threads + Sync, S: Source, K: Sink, P: Picker + Sync, G: Ga
         length (coded (P.picks picker.now) (dsdiff file) (accepted (dsdiff file))) ≤ room → ⊥ }
     ensures write_accepted { result ≡ Err EncodeFault.Write → (file : List ℕ) → S.bytes source.old ≡ Some file → (level : ℕ) → refusal (words.encode_dsf level) file ≡ None }
     // want of memory, before anything is written; and so it is of a file that is refused, whatever fails
-    ensures memory { result ≡ Err (EncodeFault.Source OpenFault.Memory) → sink.new ≡ sink.old }
+    ensures memory { (refused : AllocError) → result ≡ Err (EncodeFault.Source (OpenFault.Memory refused)) → sink.new ≡ sink.old }
     ensures refused { (file : List ℕ) → S.bytes source.old ≡ Some file → (level : ℕ) (fault : FileFault) → refusal (words.encode_dsf level) file ≡ Some fault → sink.new ≡ sink.old }
 {
     let form = match open_dsf(source) {

@@ -1,5 +1,5 @@
 // The memory that a file is decoded in.
-ghost use Rattle.std.specs.Prelude.{◌<◌, ◌≤◌, IfOk};
+ghost use Rattle.std.specs.Prelude.{◌≡◌, ◌<◌, ◌≤◌, length, IfOk};
 ghost use Rattle.dst_dsf.specs.Rooms.{HasRoomFor};
 
 use dst_num::Channels;
@@ -23,7 +23,8 @@ impl Workspace {
     ) -> Result<Workspace, AllocError>
         requires least { 0 < workers }
         requires most { workers ≤ 16 }
-        ensures { IfOk result (HasRoomFor channels) }
+        ensures room { IfOk result (HasRoomFor channels frames) }
+        ensures workers { IfOk result (λ w. length w.tables.items ≡ workers) }
     {
         Ok(Workspace {
             tables: tables_for(alloc, channels, workers)?,

@@ -48,11 +48,13 @@ pub(crate) fn open_parts<S: Source>(
         return Err(OpenFault::File(fault));
     }
     let channels = form.channels;
-    let Ok(reader) = RangeReader::new(alloc, &form, index, KEPT_FRAMES) else {
-        return Err(OpenFault::Memory);
+    let reader = match RangeReader::new(alloc, &form, index, KEPT_FRAMES) {
+        Ok(reader) => reader,
+        Err(refused) => return Err(OpenFault::Memory(refused)),
     };
-    let Ok(buffer) = vec![in alloc; 0; channels.sound_bytes()] else {
-        return Err(OpenFault::Memory);
+    let buffer = match vec![in alloc; 0; channels.sound_bytes()] {
+        Ok(buffer) => buffer,
+        Err(refused) => return Err(OpenFault::Memory(refused)),
     };
     Ok(OpenedParts {
         channels,

@@ -43,8 +43,9 @@ fn three_bytes(
         return Err(OpenFault::File(FileFault::NotCoded));
     };
     let index = walk(alloc, &mut source, &form)?;
-    let Ok(mut reader) = RangeReader::new(alloc, &form, index, capacity) else {
-        return Err(OpenFault::Memory);
+    let mut reader = match RangeReader::new(alloc, &form, index, capacity) {
+        Ok(reader) => reader,
+        Err(refused) => return Err(OpenFault::Memory(refused)),
     };
     let first = byte_at(&mut reader, &mut source, places[0]);
     let second = byte_at(&mut reader, &mut source, places[1]);
