@@ -17,7 +17,8 @@ use Rattle.dsdiff_chunks.specs.declared.open.OpenFault.{OpenFault}
 use Rattle.dsdiff_chunks.specs.declared.open.OpenFault.TheVariants.{Read, Memory, File}
 
 -- A call reads a source: bytes, size and loan stay, the count of faults doesn't fall, and at most so many bytes are given.
-pub record Reads {S : Type 0} (bytes : S → Option (List ℕ)) (known : S → Option ℕ) (loan : S → Loan) (faults given : S → ℕ) (old new : S) (most : ℕ) : Type 0 where
+pub record Reads {S : Type 0} (bytes : S → Option (List ℕ)) (known : S → Option ℕ) (loan : S → Loan) (faults given : S → ℕ) (old new : S) (most : ℕ) :
+    Type 0 where
   pub same_bytes : bytes new ≡ bytes old
   pub same_size : known new ≡ known old
   pub same_loan : loan new ≡ loan old

@@ -1,5 +1,6 @@
 -- How decoding to a DSF file ends, from how its parts end.
-use Rattle.std.proofs.Common.{◌≡◌, ◌⊎◌, inl, inr, ℕ, ◌*◌, ◌/◌, ◌≤◌, List, [], ◌∷◌, ◌++◌, length, Option, Some, None, Result, Ok, Err, false, true, refl, ap, sym, subst, ◌∙◌, arith}
+use Rattle.std.proofs.Common.{◌≡◌, ◌⊎◌, inl, inr, ℕ, ◌*◌, ◌/◌, ◌≤◌, List, [], ◌∷◌, ◌++◌, length, Option, Some, None, Result, Ok, Err, false, true}
+use Rattle.std.proofs.Common.{refl, ap, sym, subst, ◌∙◌, arith}
 use Rattle.dst_spec.specs.Bits.{AreBytes}
 use Rattle.dst_streams.specs.Told.{and_then, IsCutShort, IsSure}
 use Rattle.dst_streams.proofs.Told.{and_then-twice}
@@ -114,13 +115,15 @@ module _ (file : List ℕ) (form : Form) (d : Dsf) (o : IsFor file form d) (byte
         (stops_unsettled (dsf_header d ++ rows_of d (sound_of form sounds) (rows d)) old last new room left
         (adds_then (dsf_header d) (rows_of d (sound_of form sounds) (rows d)) old mid last room half left head body) same sure)
 
-    pub ends_done : (s : Decoded) (sounds : List (List ℕ)) (old mid last new : Option (List ℕ)) (room half left : Option ℕ) → AreDecoded file form form.frames sounds →
+    pub ends_done : (s : Decoded) (sounds : List (List ℕ)) (old mid last new : Option (List ℕ)) (room half left : Option ℕ) →
+        AreDecoded file form form.frames sounds →
         Adds (dsf_header d) old mid room half → Adds (rows_of d (sound_of form sounds) (rows d)) mid last half left → new ≡ last →
         s.frames ≡ form.frames → s.bytes ≡ size_of_sound form → DecodingEnds (Ok s) file old new room
     ends_done s sounds old mid last new room half left h head body same frames size = (
       dsf_header d ++ rows_of d (sound_of form sounds) (rows d),
       subst (λ n. OutcomeOf decode_dsf file (done (dsf_header d ++ rows_of d (sound_of form sounds) (rows d)) (decoded_line n s.bytes ∷ []))) (sym frames)
-          (subst (λ n. OutcomeOf decode_dsf file (done (dsf_header d ++ rows_of d (sound_of form sounds) (rows d)) (decoded_line form.frames n ∷ []))) (sym size)
+          (subst (λ n. OutcomeOf decode_dsf file (done (dsf_header d ++ rows_of d (sound_of form sounds) (rows d)) (decoded_line form.frames n ∷ [])))
+          (sym size)
           (done_outcome file form d o sounds h)),
       same ∙ (adds_then (dsf_header d) (rows_of d (sound_of form sounds) (rows d)) old mid last room half left head body).written,
     )

@@ -22,16 +22,29 @@ module _ {S K : Type 0} (bytes : S → Option (List ℕ)) (known : S → Option 
     (sink_faults : K → ℕ) (form : Form) (s s' : StoredFrames S) (t t' : RowWriter K) where
   -- it stopped in the frames
   rows_stopped : (fault : DecodeFault) (file : List ℕ) (old : Option (List ℕ)) (before : Option ℕ) → t'.row.form ≡ t.row.form →
-      RowsEnd written room (Err fault) file form old before t' → FramesEnd (Err fault) file form (dsf_seen t.row.form) old (written t'.sink.now) before (room t'.sink.now)
+      RowsEnd written room (Err fault) file form old before t' →
+      FramesEnd (Err fault) file form (dsf_seen t.row.form) old (written t'.sink.now) before (room t'.sink.now)
   rows_stopped (Frame k fault) file old before same (sounds, at, told) = (
     sounds,
     at,
     told ∙ ap (λ (f : DsfForm). and_then old (rows_of (dsf_seen f) (sound_of form sounds) (length (sound_of form sounds) / (4096 * f.channels.channels)))) same,
   )
-  rows_stopped Write file old before same (k, sounds, h, few, stop) =
-      (k, sounds, h, few, inl (subst (λ (f : DsfForm). IsStoppedInRows (Write ≡ Write) (dsf_seen f) (sound_of form sounds) old (written t'.sink.now) before) same stop))
-  rows_stopped (Source fault) file old before same (k, sounds, h, few, stop) =
-      (k, sounds, h, few, inl (subst (λ (f : DsfForm). IsStoppedInRows (Source fault ≡ Write) (dsf_seen f) (sound_of form sounds) old (written t'.sink.now) before) same stop))
+  rows_stopped Write file old before same (k, sounds, h, few, stop) = (
+    k,
+    sounds,
+    h,
+    few,
+    inl (subst (λ (f : DsfForm). IsStoppedInRows (Write ≡ Write) (dsf_seen f) (sound_of form sounds) old (written t'.sink.now)
+        before) same stop),
+  )
+  rows_stopped (Source fault) file old before same (k, sounds, h, few, stop) = (
+    k,
+    sounds,
+    h,
+    few,
+    inl (subst (λ (f : DsfForm). IsStoppedInRows (Source fault ≡ Write) (dsf_seen f) (sound_of form sounds) old
+        (written t'.sink.now) before) same stop),
+  )
 
   pub stopped : (fault : DecodeFault) → HasRun bytes known faults written room sink_faults form s s' t t' (Err fault) →
       HasWritten bytes known faults written room sink_faults form s s' t t' (Err fault)
@@ -58,7 +71,8 @@ module _ {S K : Type 0} (bytes : S → Option (List ℕ)) (known : S → Option 
         let e = h.ends file told in (
           e.0,
           e.1,
-          subst (λ (f : DsfForm). Adds (rows_of (dsf_seen f) (sound_of form e.0) (rows (dsf_seen f))) (written t.sink.now) (written u.sink.now) (room t.sink.now) (room u.sink.now))
+          subst (λ (f : DsfForm). Adds (rows_of (dsf_seen f) (sound_of form e.0) (rows (dsf_seen f))) (written t.sink.now) (written u.sink.now)
+              (room t.sink.now) (room u.sink.now))
               h.drain.form_is (adds (sound_of form e.0) (written t.sink.now) (room t.sink.now) e.2),
         );
   }
@@ -82,7 +96,8 @@ module _ {S K : Type 0} (bytes : S → Option (List ℕ)) (known : S → Option 
           inr (
             refl,
             stops_for (Unit {0}) (Write ≡ Write) _ _ _ _ (λ w. tt {0})
-                (subst (λ (f : DsfForm). Stops (Unit {0}) (rows_of (dsf_seen f) (sound_of form e.0) (rows (dsf_seen f))) (written t.sink.now) (written u.sink.now) (room t.sink.now))
+                (subst (λ (f : DsfForm). Stops (Unit {0}) (rows_of (dsf_seen f) (sound_of form e.0) (rows (dsf_seen f))) (written t.sink.now)
+                (written u.sink.now) (room t.sink.now))
                 h.drain.form_is (stops (sound_of form e.0) (written t.sink.now) (room t.sink.now) e.2)),
           ),
         );

@@ -1,5 +1,6 @@
 -- Sound that is gathered into rows: what a row has when bytes are put into it, and what is written when it is full.
-use Rattle.std.proofs.Common.{◌≡◌, ◌⊎◌, inl, inr, ℕ, zero, suc, ◌+◌, ◌-◌, ◌*◌, ◌/◌, ◌%◌, ◌^◌, ◌<◌, ◌≤◌, List, [], ◌∷◌, ◌++◌, map, length, take, drop, get_or, replicate, Option, Result, Ok, Err, take-append-drop}
+use Rattle.std.proofs.Common.{◌≡◌, ◌⊎◌, inl, inr, ℕ, zero, suc, ◌+◌, ◌-◌, ◌*◌, ◌/◌, ◌%◌, ◌^◌, ◌<◌, ◌≤◌, List, [], ◌∷◌, ◌++◌, map, length, take, drop}
+use Rattle.std.proofs.Common.{get_or, replicate, Option, Result, Ok, Err, take-append-drop}
 use Rattle.std.proofs.Common.{refl, sym, ap, ap₂, subst, ◌∙◌, arith, length-append, append_assoc, append-nil}
 use Rattle.std.specs.Prelude.{◌==◌, if◌then◌else◌, reverse, min, MatchResult, OnOk}
 use Rattle.std.specs.List.{flat_map, range_with_len}
@@ -165,7 +166,8 @@ module _ {K : Type 0} (written : K → Option (List ℕ)) (room : K → Option �
               (subst (λ (f : DsfForm). Adds (rows_of (dsf_seen f) (sound ++ part) q) old (written t.sink.now) before (room t.sink.now)) (sym put.form_is)
               (subst (λ w. Adds (rows_of d (sound ++ part) q) old w before (room t.sink.now)) (sym told)
               (subst (λ r. Adds (rows_of d (sound ++ part) q) old (written s.sink.now) before r) (sym sure)
-              (adds_same (rows_of d sound q) (rows_of d (sound ++ part) q) old (written s.sink.now) before (room s.sink.now) (rows_before d sound part q whole) h.adds))));
+              (adds_same (rows_of d sound q) (rows_of d (sound ++ part) q) old (written s.sink.now) before (room s.sink.now)
+              (rows_before d sound part q whole) h.adds))));
         }
 
     -- it is full and written
@@ -192,18 +194,22 @@ module _ {K : Type 0} (written : K → Option (List ℕ)) (room : K → Option �
               (empty_row c (sound ++ part) (q + 1) t.row.bytes empty (omega (arith, long, full.0, h.count))));
           adds = subst (λ n. Adds (rows_of (dsf_seen t.row.form) (sound ++ part) n) old (written t.sink.now) before (room t.sink.now)) (sym there)
               (subst (λ (f : DsfForm). Adds (rows_of (dsf_seen f) (sound ++ part) (q + 1)) old (written t.sink.now) before (room t.sink.now)) (sym put.form_is)
-              (adds_same (rows_of d (sound ++ part) q ++ dsf_row d (samples_of d (sound ++ part)) q) (rows_of d (sound ++ part) (q + 1)) old (written t.sink.now) before
+              (adds_same (rows_of d (sound ++ part) q ++ dsf_row d (samples_of d (sound ++ part)) q) (rows_of d (sound ++ part) (q + 1)) old
+              (written t.sink.now) before
               (room t.sink.now) (sym (one_more_row d (sound ++ part) q))
-              (adds_then (rows_of d (sound ++ part) q) (dsf_row d (samples_of d (sound ++ part)) q) old (written s.sink.now) (written t.sink.now) before (room s.sink.now)
+              (adds_then (rows_of d (sound ++ part) q) (dsf_row d (samples_of d (sound ++ part)) q) old (written s.sink.now) (written t.sink.now)
+              before (room s.sink.now)
               (room t.sink.now)
-              (adds_same (rows_of d sound q) (rows_of d (sound ++ part) q) old (written s.sink.now) before (room s.sink.now) (rows_before d sound part q whole) h.adds)
+              (adds_same (rows_of d sound q) (rows_of d (sound ++ part) q) old (written s.sink.now) before (room s.sink.now)
+              (rows_before d sound part q whole) h.adds)
               row)));
         }
 
     -- or the sink fails at it
     pub is_stopped : (s t : RowWriter K) (part sound : List ℕ) (old : Option (List ℕ)) (before : Option ℕ) → IsPut s t part →
         (t.row.taken / (4096 * s.row.form.channels.channels) ≡ s.row.taken / (4096 * s.row.form.channels.channels) → ⊥) →
-        Stops (Unit {0}) (dsf_row (dsf_seen s.row.form) (samples_of (dsf_seen s.row.form) (sound ++ part)) (s.row.taken / (4096 * s.row.form.channels.channels)))
+        Stops (Unit {0}) (dsf_row (dsf_seen s.row.form) (samples_of (dsf_seen s.row.form) (sound ++ part))
+        (s.row.taken / (4096 * s.row.form.channels.channels)))
         (written s.sink.now) (written t.sink.now) (room s.sink.now) →
         HasTaken written room sound old before s → FailsAtRow (dsf_seen s.row.form) (sound ++ part) old (written t.sink.now) before
     is_stopped s t part sound old before put other row h =
@@ -218,9 +224,11 @@ module _ {K : Type 0} (written : K → Option (List ℕ)) (room : K → Option �
           within = omega (arith, length-append sound part, full.0, h.count);
           stops = stops_same (Unit {0}) (rows_of d (sound ++ part) q ++ dsf_row d (samples_of d (sound ++ part)) q) (rows_of d (sound ++ part) (q + 1)) old
               (written t.sink.now) before (sym (one_more_row d (sound ++ part) q))
-              (stops_then (Unit {0}) (rows_of d (sound ++ part) q) (dsf_row d (samples_of d (sound ++ part)) q) old (written s.sink.now) (written t.sink.now) before
+              (stops_then (Unit {0}) (rows_of d (sound ++ part) q) (dsf_row d (samples_of d (sound ++ part)) q) old (written s.sink.now)
+              (written t.sink.now) before
               (room s.sink.now)
-              (adds_same (rows_of d sound q) (rows_of d (sound ++ part) q) old (written s.sink.now) before (room s.sink.now) (rows_before d sound part q whole) h.adds)
+              (adds_same (rows_of d sound q) (rows_of d (sound ++ part) q) old (written s.sink.now) before (room s.sink.now)
+              (rows_before d sound part q whole) h.adds)
               row);
         }
 
@@ -245,7 +253,8 @@ all_rows d size some whole =
     let left : size % (4096 * d.channels) ≡ octets d % 4096 * d.channels =
     omega (arith, there, whole, spread, ap (λ q. q * (4096 * d.channels)) quotient) in (
       (λ none. count_whole d.samples (octets d % 4096) d.channels refl (omega (arith, left, none)) some ∙ sym quotient),
-      (λ rest. count_part d.samples (octets d % 4096) refl (λ e. rest (left ∙ ap (λ n. n * d.channels) e ∙ nothing d.channels)) ∙ ap (λ q. q + 1) (sym quotient)),
+      (λ rest. count_part d.samples (octets d % 4096) refl (λ e. rest (left ∙ ap (λ n. n * d.channels) e ∙ nothing d.channels))
+          ∙ ap (λ q. q + 1) (sym quotient)),
     )
   where
     nothing : (c : ℕ) → 0 * c ≡ 0
@@ -279,7 +288,8 @@ module _ {K : Type 0} (written : K → Option (List ℕ)) (room : K → Option �
         rows (dsf_seen s.row.form) ≡ s.row.taken / (4096 * s.row.form.channels.channels) + 1
     last_number s k some = (all_rows (dsf_seen s.row.form) s.row.taken k.some (k.all ∙ k.whole)).1 some
 
-    pub ends_in_row : {T E : Type 0} (result : Result T E) (s : RowWriter K) (sound : List ℕ) (q : ℕ) (old new : Option (List ℕ)) (before left : Option ℕ) → IsAll s →
+    pub ends_in_row : {T E : Type 0} (result : Result T E) (s : RowWriter K) (sound : List ℕ) (q : ℕ) (old new : Option (List ℕ))
+        (before left : Option ℕ) → IsAll s →
         (s.row.taken % (4096 * s.row.form.channels.channels) ≡ 0 → ⊥) → q ≡ s.row.taken / (4096 * s.row.form.channels.channels) →
         MatchResult result
         (λ _. Adds (dsf_row (dsf_seen s.row.form) (samples_of (dsf_seen s.row.form) sound) q) (written s.sink.now) new (room s.sink.now) left)
@@ -310,7 +320,8 @@ module _ {K : Type 0} (written : K → Option (List ℕ)) (room : K → Option �
         IsPut written room s t part →
         (t.row.taken / (4096 * s.row.form.channels.channels) ≡ s.row.taken / (4096 * s.row.form.channels.channels) → ⊥) →
         OnOk result (t.row.bytes ≡ replicate 24576 0) →
-        IsDrained result s.row.form (sound ++ part) (s.row.taken / (4096 * s.row.form.channels.channels)) (written s.sink.now) (written t.sink.now) (room s.sink.now)
+        IsDrained result s.row.form (sound ++ part) (s.row.taken / (4096 * s.row.form.channels.channels)) (written s.sink.now) (written t.sink.now)
+        (room s.sink.now)
         (room t.sink.now) →
         HasTaken written room sound old before s → MatchResult result
         (λ _. HasTaken written room (sound ++ part) old before t)
@@ -318,7 +329,8 @@ module _ {K : Type 0} (written : K → Option (List ℕ)) (room : K → Option �
     drained (Ok u) s t part sound old before put other empty row h = is_written written room s t part sound old before put other empty row h
     drained (Err fault) s t part sound old before put other empty row h = is_stopped written room s t part sound old before put other row h
 
-    pub row_is_drained : {T E : Type 0} (result : Result T E) (s t : RowWriter K) (f : DsfForm) (q : ℕ) (part sound : List ℕ) (old : Option (List ℕ)) (before : Option ℕ) →
+    pub row_is_drained : {T E : Type 0} (result : Result T E) (s t : RowWriter K) (f : DsfForm) (q : ℕ) (part sound : List ℕ) (old : Option (List ℕ))
+        (before : Option ℕ) →
         IsPut written room s t part →
         (t.row.taken / (4096 * s.row.form.channels.channels) ≡ s.row.taken / (4096 * s.row.form.channels.channels) → ⊥) →
         f ≡ s.row.form → q ≡ s.row.taken / (4096 * s.row.form.channels.channels) →

@@ -1,5 +1,6 @@
 -- What a coded form says of a DSF file, by its chunk `DSFK` or without one.
-use Rattle.std.proofs.Common.{◌≡◌, ℕ, suc, ◌+◌, ◌*◌, ◌/◌, ◌%◌, ◌≤◌, Bool, true, false, List, [], ◌∷◌, length, refl, sym, ap, ap₂, ◌∙◌, arith, Option, Some, None}
+use Rattle.std.proofs.Common.{◌≡◌, ℕ, suc, ◌+◌, ◌*◌, ◌/◌, ◌%◌, ◌≤◌, Bool, true, false, List, [], ◌∷◌, length, refl, sym, ap, ap₂, ◌∙◌, arith, Option}
+use Rattle.std.proofs.Common.{Some, None}
 use Rattle.std.specs.Prelude.{not, ◌||◌, ◌==◌, if◌then◌else◌, filter, option_map, bytes_eq, codes}
 use Rattle.std.proofs.Math.Bool.{or_self}
 use Rattle.std.proofs.Math.Dec.{eqb-suc-zero}
@@ -73,8 +74,10 @@ several_kept file form h i more found =
 pub whole_groups : (form : CodedForm) → size_of_sound (coded_seen form) % form.channels.channels ≡ 0
 whole_groups form = go form.origin (coded_parts (coded_seen form) form.lawful refl).origin
   where
-    go : (o : Option Origin) → IsOriginIfAny form.channels.channels (sound_bytes (record { channels = form.channels.channels; octets = 4704 * (form.channels.octets / 4704) })) form.frames (option_map origin_seen o) →
-        plain_size (option_map origin_seen o) (form.frames * sound_bytes (record { channels = form.channels.channels; octets = 4704 * (form.channels.octets / 4704) })) % form.channels.channels ≡ 0
+    go : (o : Option Origin) → IsOriginIfAny form.channels.channels
+        (sound_bytes (record { channels = form.channels.channels; octets = 4704 * (form.channels.octets / 4704) })) form.frames (option_map origin_seen o) →
+        plain_size (option_map origin_seen o) (form.frames * sound_bytes
+        (record { channels = form.channels.channels; octets = 4704 * (form.channels.octets / 4704) })) % form.channels.channels ≡ 0
     go None h =
         let split : form.frames * (4704 * (form.channels.octets / 4704) * form.channels.channels)
         ≡ form.frames * (4704 * (form.channels.octets / 4704)) * form.channels.channels = omega arith in

@@ -1,5 +1,6 @@
 -- What every outcome begins with, and how decoding to a DSF file ends, by the sounds of the frames.
-use Rattle.std.proofs.Common.{◌≡◌, ◌⊎◌, inl, inr, ℕ, zero, suc, ◌+◌, ◌-◌, ◌*◌, ◌/◌, ◌%◌, ◌^◌, ◌<◌, ◌≤◌, List, [], ◌∷◌, ◌++◌, map, length, take, drop, get_or, Option, Some, None}
+use Rattle.std.proofs.Common.{◌≡◌, ◌⊎◌, inl, inr, ℕ, zero, suc, ◌+◌, ◌-◌, ◌*◌, ◌/◌, ◌%◌, ◌^◌, ◌<◌, ◌≤◌, List, [], ◌∷◌, ◌++◌, map, length, take, drop}
+use Rattle.std.proofs.Common.{get_or, Option, Some, None}
 use Rattle.std.proofs.Common.{refl, sym, ap, subst, ◌∙◌, arith, length-append, append_assoc, append-nil, take-append-drop}
 use Rattle.std.specs.List.{concat, AllZip, range_with_len}
 use Rattle.std.specs.Prelude.{◌==◌, if◌then◌else◌, reverse}
@@ -78,10 +79,12 @@ rows_cut d all n =
     let F = samples_of d (take (octets d * d.channels) all) in
     let G = samples_of d all in
     flat_alike (dsf_row d F) (dsf_row d G) 0 n (λ r l.
-    flat_alike (λ c. map (λ j. dsf_byte d F c (4096 * r + j)) (range_with_len 0 4096)) (λ c. map (λ j. dsf_byte d G c (4096 * r + j)) (range_with_len 0 4096)) 0 d.channels
+    flat_alike (λ c. map (λ j. dsf_byte d F c (4096 * r + j)) (range_with_len 0 4096))
+    (λ c. map (λ j. dsf_byte d G c (4096 * r + j)) (range_with_len 0 4096)) 0 d.channels
     (λ c k. map_alike (λ j. dsf_byte d F c (4096 * r + j)) (λ j. dsf_byte d G c (4096 * r + j)) 0 4096
     (λ j m. ap (λ w. number_from (if d.bits == 1 then reverse w else w) 0 8)
-    (map_alike (λ s. F c (8 * (4096 * r + j) + s)) (λ s. G c (8 * (4096 * r + j) + s)) 0 8 (λ s i. sample_cut d all c (8 * (4096 * r + j) + s) (omega (arith, k)))))))
+    (map_alike (λ s. F c (8 * (4096 * r + j) + s)) (λ s. G c (8 * (4096 * r + j) + s)) 0 8
+    (λ s i. sample_cut d all c (8 * (4096 * r + j) + s) (omega (arith, k)))))))
 
 take_of_take : {A : Type 0} (k n : ℕ) (xs : List A) → k ≤ n → take k (take n xs) ≡ take k xs
 take_of_take zero n xs h = refl
@@ -135,7 +138,8 @@ module _ (file : List ℕ) (form : Form) (d : Dsf) (o : IsFor file form d)
         ∙ mul-div-mul_right (k * (shape form).octets) 4096 o.some
 
     pub refused_outcome : (k : ℕ) (fault : FrameFault) (sounds : List (List ℕ)) → StopsAt file form k fault sounds →
-        OutcomeOf decode_dsf file (frame_refused k fault (dsf_header d ++ rows_of d (sound_of form sounds) (length (sound_of form sounds) / (4096 * d.channels))))
+        OutcomeOf decode_dsf file (frame_refused k fault
+        (dsf_header d ++ rows_of d (sound_of form sounds) (length (sound_of form sounds) / (4096 * d.channels))))
     refused_outcome k fault sounds s =
         let out = dsf_header d ++ rows_of d (sound_of form sounds) (length (sound_of form sounds) / (4096 * d.channels)) in
         outcome (frame_refused k fault out) (inl (by_number file form (frame_refused k fault out) (record {
@@ -173,7 +177,8 @@ module _ (file : List ℕ) (form : Form) (d : Dsf) (o : IsFor file form d)
         ))
 
     -- ---- every outcome begins with the rows that some sounds fill
-    begins_by : (sounds all more : List (List ℕ)) (r n : ℕ) (out : List ℕ) → all ≡ sounds ++ more → r * (4096 * d.channels) ≤ length (sound_of form sounds) → r ≤ n →
+    begins_by : (sounds all more : List (List ℕ)) (r n : ℕ) (out : List ℕ) → all ≡ sounds ++ more →
+        r * (4096 * d.channels) ≤ length (sound_of form sounds) → r ≤ n →
         out ≡ to_dsf all file form n → BeginsWith out (dsf_header d ++ rows_of d (sound_of form sounds) r)
     begins_by sounds all more r n out joined within few out_is =
         let size = size_of_sound form in
@@ -205,7 +210,8 @@ module _ (file : List ℕ) (form : Form) (d : Dsf) (o : IsFor file form d)
                 let later : k ≤ s.k = not_earlier (cases_order s.k k) in
                 let first = take s.k (frames_of file form) in
                 let same : take k first ≡ take k (frames_of file form) = take_of_take k s.k (frames_of file form) later in
-                let more = fewer_sounds decode (shape form) first sounds s.written.sounds k (all_take (IsAnswered decode (shape form)) s.k (frames_of file form) answered)
+                let more = fewer_sounds decode (shape form) first sounds s.written.sounds k
+                (all_take (IsAnswered decode (shape form)) s.k (frames_of file form) answered)
                 (subst (NoneOf decode (shape form)) (sym same) h.none) (subst (λ fs. AllZip (Means (shape form)) fs sounds) (sym same) h.each) s.written.each in
                 let most : k * sound_bytes_of form ≤ s.k * sound_bytes_of form = mul-le-mul_right (sound_bytes_of form) later in
                 begins_by sounds s.written.sounds more.0 r (s.k * (shape form).octets / 4096) a.out more.1 within
@@ -216,7 +222,8 @@ module _ (file : List ℕ) (form : Form) (d : Dsf) (o : IsFor file form d)
               where
                 not_earlier : (s.k ≡ k) ⊎ ((s.k < k) ⊎ (k < s.k)) → k ≤ s.k
                 not_earlier (inl e) = omega arith
-                not_earlier (inr (inl l)) = absurd (stop_is_not_earlier decode (shape form) (frames_of file form) s.k k s.fault h.none l s.stops.within s.stops.refuses)
+                not_earlier (inr (inl l)) = absurd (stop_is_not_earlier decode (shape form) (frames_of file form) s.k k s.fault h.none l
+                    s.stops.within s.stops.refuses)
                 not_earlier (inr (inr l)) = omega arith
         go (inr (none, (out, whole, e))) =
             let never = none_of_numbered decode form 0 (frames_of file form) none in

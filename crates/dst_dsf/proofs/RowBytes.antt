@@ -1,5 +1,6 @@
 -- The bytes of a row of a DSF file by those of the sound in it.
-use Rattle.std.proofs.Common.{◌≡◌, ◌⊎◌, inl, inr, ℕ, zero, suc, ◌+◌, ◌-◌, ◌*◌, ◌/◌, ◌%◌, ◌^◌, ◌<◌, ◌≤◌, Bool, true, false, if◌then◌else◌, List, map, reverse, take, length, get_or}
+use Rattle.std.proofs.Common.{◌≡◌, ◌⊎◌, inl, inr, ℕ, zero, suc, ◌+◌, ◌-◌, ◌*◌, ◌/◌, ◌%◌, ◌^◌, ◌<◌, ◌≤◌, Bool, true, false, if◌then◌else◌, List, map}
+use Rattle.std.proofs.Common.{reverse, take, length, get_or}
 use Rattle.std.proofs.Common.{refl, sym, ap, ap₂, subst, ◌∙◌, arith}
 use Rattle.std.specs.Prelude.{◌==◌}
 use Rattle.std.specs.List.{flat_map, range_with_len}
@@ -82,7 +83,8 @@ joined_turned a b c d e f g h p q r s t u v w =
 reversed_number : (F : ℕ → ℕ → ℕ) (c i : ℕ) → ((t : ℕ) → F c t < 2) → number_from (reverse (eight F c i)) 0 8 ≡ turned (number_from (eight F c i) 0 8)
 reversed_number F c i bits =
     reversed_joined F c i
-    ∙ joined_turned (F c (8 * i + 0)) (F c (8 * i + 1)) (F c (8 * i + 2)) (F c (8 * i + 3)) (F c (8 * i + 4)) (F c (8 * i + 5)) (F c (8 * i + 6)) (F c (8 * i + 7))
+    ∙ joined_turned (F c (8 * i + 0)) (F c (8 * i + 1)) (F c (8 * i + 2)) (F c (8 * i + 3)) (F c (8 * i + 4)) (F c (8 * i + 5)) (F c (8 * i + 6))
+    (F c (8 * i + 7))
     (bits (8 * i + 0)) (bits (8 * i + 1)) (bits (8 * i + 2)) (bits (8 * i + 3)) (bits (8 * i + 4)) (bits (8 * i + 5)) (bits (8 * i + 6)) (bits (8 * i + 7))
     ∙ ap turned (sym (eight_joined F c i))
 
@@ -102,7 +104,8 @@ byte_of_row d F number c j mine small =
     let block : ℕ → List ℕ = λ k. map (λ m. dsf_byte d F k (4096 * number + m)) (range_with_len 0 4096) in
     let there : get_or all c 0 ≡ c = get_or-range 0 d.channels c mine ∙ omega arith in
     let front : length (take c all) ≡ c = omega (arith, length-take c all, length-range 0 d.channels) in
-    let before : length (flat_map block (take c all)) ≡ 4096 * c = length-parts 4096 block (take c all) (λ k. length-block d F number k) ∙ ap (λ n. n * 4096) front ∙ omega arith in
+    let before : length (flat_map block (take c all)) ≡ 4096 * c = length-parts 4096 block (take c all) (λ k. length-block d F number k)
+    ∙ ap (λ n. n * 4096) front ∙ omega arith in
     ap (λ n. get_or (flat_map block all) (n + j) 0) (sym before)
     ∙ get_or-flat_map block all c j 0 0 (omega (arith, mine, length-range 0 d.channels)) (omega (arith, small, length-block d F number (get_or all c 0)))
     ∙ ap (λ k. get_or (block k) j 0) there
@@ -146,7 +149,12 @@ module _ (d : Dsf) (sound : List ℕ) (number : ℕ) (raw clear new : List ℕ) 
             let k = d.samples % 8 in
             let count : d.samples ≡ 8 * (4096 * number + j) + k = the_rest d.samples (4096 * number + j) more less in
             let some = is_some d.samples (4096 * number + j) more less in
-            let here : ends_within d number j = ((λ e. omega (arith, e, some)), row_there d.samples number j more less small, octet_there d.samples number j more less small) in
+            let here : ends_within d number j = (
+              (λ e. omega (arith, e, some)),
+              row_there d.samples number j more less small,
+              octet_there d.samples
+                  number j more less small,
+            ) in
             h.cleared.last c j mine small here
             ∙ ap (cleared (8 - k)) (raw_byte c j mine small)
             ∙ sym (part_number d sound c (4096 * number + j) k (byte_small c j mine small) count some (omega arith))

@@ -21,7 +21,8 @@ use Rattle.dst_read.proofs.Feeding as fed
 use Rattle.dst_dsf.proofs.Underway as under
 
 -- what is known before the first frame
-pub record IsBegun {S K : Type 0} (bytes : S → Option (List ℕ)) (written : K → Option (List ℕ)) (room : K → Option ℕ) (form : Form) (f : Shape) (s : StoredFrames S) (t : RowWriter K) : Type 0 where
+pub record IsBegun {S K : Type 0} (bytes : S → Option (List ℕ)) (written : K → Option (List ℕ)) (room : K → Option ℕ) (form : Form) (f : Shape)
+    (s : StoredFrames S) (t : RowWriter K) : Type 0 where
   pub same : shape form ≡ f
   pub lawful : IsShape f
   pub first : s.next ≡ 0

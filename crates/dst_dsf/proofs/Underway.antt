@@ -1,5 +1,6 @@
 -- Frames that are read, decoded and gathered into rows, up to some number.
-use Rattle.std.proofs.Common.{◌≡◌, ◌⊎◌, ℕ, zero, suc, ◌+◌, ◌-◌, ◌*◌, ◌/◌, ◌≤◌, List, [], ◌∷◌, ◌++◌, length, take, Option, Some, None, Ok, Err, refl, ap, sym, subst, ◌∙◌, arith}
+use Rattle.std.proofs.Common.{◌≡◌, ◌⊎◌, ℕ, zero, suc, ◌+◌, ◌-◌, ◌*◌, ◌/◌, ◌≤◌, List, [], ◌∷◌, ◌++◌, length, take, Option, Some, None, Ok, Err, refl}
+use Rattle.std.proofs.Common.{ap, sym, subst, ◌∙◌, arith}
 use Rattle.std.specs.Prelude.{option_map}
 use Rattle.std.specs.List.{concat}
 use Rattle.std.proofs.lemmas.List.{length-take}
@@ -47,7 +48,8 @@ sound_in_frames form lawful = go form.origin (coded_parts (coded_seen form) form
     go : (o : Option Origin) → IsOriginIfAny form.channels.channels (sound_bytes_of (coded_seen form)) form.frames (option_map origin_seen o) →
         plain_size (option_map origin_seen o) (form.frames * sound_bytes_of (coded_seen form)) ≤ form.frames * sound_bytes_of (coded_seen form)
     go None h = omega arith
-    go (Some o) h = (needed (sound_bytes_of (coded_seen form)) o.sound form.frames (some_bytes (shape (coded_seen form)) (subst IsShape (sym form.shape) lawful)) h.count).0
+    go (Some o) h = (needed (sound_bytes_of (coded_seen form)) o.sound form.frames
+        (some_bytes (shape (coded_seen form)) (subst IsShape (sym form.shape) lawful)) h.count).0
 
 one_less : (size n whole : ℕ) → size - n * whole - whole ≡ size - (n + 1) * whole
 one_less size n whole =
@@ -93,7 +95,13 @@ module _ {S K : Type 0} (bytes : S → Option (List ℕ)) (known : S → Option 
       nothing (suc n) = refl
 
   pub drained_on : (t u : RowWriter K) → draining.IsLater sink_faults t0 t → draining.IsLater sink_faults t u → draining.IsLater sink_faults t0 u
-  drained_on t u p q = record { lent = q.lent ∙ p.lent; form_is = q.form_is ∙ p.form_is; size_is = q.size_is ∙ p.size_is; later = omega (arith, p.later, q.later) }
+  drained_on t u p q = record {
+    lent = q.lent ∙ p.lent;
+    form_is = q.form_is ∙ p.form_is;
+    size_is = q.size_is ∙ p.size_is;
+    later =
+        omega (arith, p.later, q.later);
+  }
 
   understood : (s : StoredFrames S) (t : RowWriter K) (u : StoredFrames S) (job worked : Job) (n tail : ℕ) (file : List ℕ) → IsShape (shape form) →
       IsUnderway n s t → feeding.GivesFrame bytes known faults s job u →
@@ -154,15 +162,18 @@ module _ {S K : Type 0} (bytes : S → Option (List ℕ)) (known : S → Option 
       (before.0, subst (λ n. AreDecoded file form n before.0) all before.1.decoded, before.1.taken)
 
   -- the rows that are written
-  rows_so_far : (P : Type 0) (t : RowWriter K) (sound : List ℕ) (old : Option (List ℕ)) (before : Option ℕ) → (P → ⊥) → HasTaken written room sound old before t →
+  rows_so_far : (P : Type 0) (t : RowWriter K) (sound : List ℕ) (old : Option (List ℕ)) (before : Option ℕ) → (P → ⊥) →
+      HasTaken written room sound old before t →
       IsStoppedInRows P (dsf_seen t.row.form) sound old (written t.sink.now) before
   rows_so_far P t sound old before not h = record {
     rows = t.row.taken / (4096 * t.row.form.channels.channels);
     within = omega (arith, within_row t.row.taken (4096 * t.row.form.channels.channels), h.count);
-    stops = stops_behind P (rows_of (dsf_seen t.row.form) sound (t.row.taken / (4096 * t.row.form.channels.channels))) old (written t.sink.now) before (room t.sink.now) not h.adds;
+    stops = stops_behind P (rows_of (dsf_seen t.row.form) sound (t.row.taken / (4096 * t.row.form.channels.channels))) old (written t.sink.now) before
+        (room t.sink.now) not h.adds;
   }
 
-  pub ends_at_read : (n : ℕ) (s : StoredFrames S) (t : RowWriter K) (file : List ℕ) → IsUnderway n s t → length s0.walked.now.index ≡ form.frames → bytes s0.source.now ≡ Some file →
+  pub ends_at_read : (n : ℕ) (s : StoredFrames S) (t : RowWriter K) (file : List ℕ) → IsUnderway n s t → length s0.walked.now.index ≡ form.frames →
+      bytes s0.source.now ≡ Some file →
       IsOpened file form s0.walked.now.index → RowsEnd written room (Err (Source Read)) file form (written t0.sink.now) (room t0.sink.now) t
   ends_at_read n s t file p count told o =
       let before = p.done file told o in (
@@ -189,8 +200,10 @@ module _ {S K : Type 0} (bytes : S → Option (List ℕ)) (known : S → Option 
         subst (λ k. StopsAt file form k fault before.0) place
             (refused_at file form s0.walked.now.index n fault before.0 o within count before.1.decoded offends),
         same ∙ before.1.taken.adds.written
-            ∙ ap (λ k. and_then (written t0.sink.now) (rows_of (dsf_seen t.row.form) (sound_of form before.0) (k / (4096 * t.row.form.channels.channels)))) before.1.taken.count
-            ∙ ap (λ (f : DsfForm). and_then (written t0.sink.now) (rows_of (dsf_seen f) (sound_of form before.0) (length (sound_of form before.0) / (4096 * f.channels.channels)))) (sym later.form_is),
+            ∙ ap (λ k. and_then (written t0.sink.now)
+            (rows_of (dsf_seen t.row.form) (sound_of form before.0) (k / (4096 * t.row.form.channels.channels)))) before.1.taken.count
+            ∙ ap (λ (f : DsfForm). and_then (written t0.sink.now)
+            (rows_of (dsf_seen f) (sound_of form before.0) (length (sound_of form before.0) / (4096 * f.channels.channels)))) (sym later.form_is),
       )
   ends_at_job lawful n s u t t' job worked Write file p count given work later stop told o =
       let before = p.done file told o in
@@ -203,7 +216,8 @@ module _ {S K : Type 0} (bytes : S → Option (List ℕ)) (known : S → Option 
         before.0 ++ worked.sound.items ∷ [],
         one_more file form s0.walked.now.index n before.0 worked.sound.items o within before.1.decoded here,
         omega (arith, within, count),
-        subst (λ (f : DsfForm). IsStoppedInRows (Write ≡ Write) (dsf_seen f) (sound_of form (before.0 ++ worked.sound.items ∷ [])) (written t0.sink.now) (written t'.sink.now) (room t0.sink.now))
+        subst (λ (f : DsfForm). IsStoppedInRows (Write ≡ Write) (dsf_seen f) (sound_of form (before.0 ++ worked.sound.items ∷ []))
+            (written t0.sink.now) (written t'.sink.now) (room t0.sink.now))
             (sym later.form_is)
             (record { rows = fails.rows; within = fails.within; stops = stops_for (Unit {0}) (Write ≡ Write) _ _ _ _ (λ e. tt {0}) fails.stops }),
       )

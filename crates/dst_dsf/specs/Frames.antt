@@ -23,12 +23,14 @@ pub record IsStoppedInRows (sink_is_at_fault : Type 0) (d : Dsf) (sound : List �
   pub stops : Stops sink_is_at_fault (rows_of d sound rows) old new before
 
 -- the rows that the sounds of the frames fill, in front of the first one that is refused
-abbrev pub RowsEnd : {K : Type 0} → (K → Option (List ℕ)) → (K → Option ℕ) → Result (Unit {0}) DecodeFault → List ℕ → Form → (old : Option (List ℕ)) → (before : Option ℕ) → RowWriter K → Type 0
+abbrev pub RowsEnd : {K : Type 0} → (K → Option (List ℕ)) → (K → Option ℕ) → Result (Unit {0}) DecodeFault → List ℕ → Form → (old : Option (List ℕ)) →
+    (before : Option ℕ) → RowWriter K → Type 0
 RowsEnd written room (Ok u) file form old before t =
     (sounds : List (List ℕ)) × AreDecoded file form form.frames sounds × HasTaken written room (sound_of form sounds) old before t
 RowsEnd written room (Err (Frame k fault)) file form old before t =
     (sounds : List (List ℕ)) × StopsAt file form k fault sounds
-    × (written t.sink.now ≡ and_then old (rows_of (dsf_seen t.row.form) (sound_of form sounds) (length (sound_of form sounds) / (4096 * t.row.form.channels.channels))))
+    × (written t.sink.now ≡ and_then old (rows_of (dsf_seen t.row.form) (sound_of form sounds)
+    (length (sound_of form sounds) / (4096 * t.row.form.channels.channels))))
 RowsEnd written room (Err fault) file form old before t =
     (k : ℕ) × (sounds : List (List ℕ)) × AreDecoded file form k sounds × (k ≤ form.frames)
     × IsStoppedInRows (fault ≡ Write) (dsf_seen t.row.form) (sound_of form sounds) old (written t.sink.now) before

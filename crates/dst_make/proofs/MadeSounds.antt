@@ -1,5 +1,6 @@
 -- Made sound frame by frame, and the file around it.
-use Rattle.std.proofs.Common.{◌≡◌, ℕ, zero, suc, ◌+◌, ◌-◌, ◌*◌, ◌/◌, ◌%◌, ◌<◌, ◌≤◌, List, [], ◌∷◌, ◌++◌, length, get_or, take, Option, Result, Ok, Err, refl, ap, sym, inl, inr, ◌∙◌, arith, append_assoc, append-nil, length-append}
+use Rattle.std.proofs.Common.{◌≡◌, ℕ, zero, suc, ◌+◌, ◌-◌, ◌*◌, ◌/◌, ◌%◌, ◌<◌, ◌≤◌, List, [], ◌∷◌, ◌++◌, length, get_or, take, Option, Result, Ok}
+use Rattle.std.proofs.Common.{Err, refl, ap, sym, inl, inr, ◌∙◌, arith, append_assoc, append-nil, length-append}
 use Rattle.std.specs.Prelude.{◌==◌, codes, if◌then◌else◌, MatchResult}
 use Rattle.std.specs.Fmt.{digits}
 use Rattle.std.proofs.lemmas.List.FromFn.{length-map-range_with_len}
@@ -66,13 +67,16 @@ stops_in_frame start k frames f old new room below s =
 -- the pieces in front of the sound: the numbers in them, and the ids of the channels
 abbrev pub pieces : (size prop rate chnl count ids sound : List ℕ) → List ℕ
 pieces size prop rate chnl count ids sound =
-    codes "FRM8" ++ (size ++ ((codes "DSD " ++ fver ++ codes "PROP") ++ (prop ++ ((codes "SND FS  " ++ big_bytes 8 4) ++ (rate ++ (codes "CHNL" ++ (chnl ++ (count ++ (ids ++ ((cmpr_plain ++ codes "DSD ") ++ (sound ++ [])))))))))))
+    codes "FRM8" ++ (size ++ ((codes "DSD " ++ fver ++ codes "PROP") ++
+    (prop ++ ((codes "SND FS  " ++ big_bytes 8 4) ++
+    (rate ++ (codes "CHNL" ++ (chnl ++ (count ++ (ids ++ ((cmpr_plain ++ codes "DSD ") ++ (sound ++ [])))))))))))
 
 abbrev pub ids : List ℕ
 ids = codes "C000C001C002C003C004C005"
 
 front_by : (m size sound c : ℕ) → 1 ≤ c → c ≤ 6 →
-    pieces (big_bytes 8 size) (big_bytes 8 (66 + 4 * c)) (big_bytes 4 (2822400 * m)) (big_bytes 8 (2 + 4 * c)) (big_bytes 2 c) (take (4 * c) ids) (big_bytes 8 sound)
+    pieces (big_bytes 8 size) (big_bytes 8 (66 + 4 * c)) (big_bytes 4 (2822400 * m)) (big_bytes 8 (2 + 4 * c)) (big_bytes 2 c) (take (4 * c) ids)
+    (big_bytes 8 sound)
     ≡ codes "FRM8" ++ big_bytes 8 size ++ codes "DSD " ++ fver ++ prop_of c m ++ codes "DSD " ++ big_bytes 8 sound
 unfolding digits
 front_by m size sound zero least most = absurd (omega (arith, least))
@@ -84,24 +88,31 @@ front_by m size sound (suc (suc (suc (suc (suc zero))))) least most = refl
 front_by m size sound (suc (suc (suc (suc (suc (suc zero)))))) least most = refl
 front_by m size sound (suc (suc (suc (suc (suc (suc (suc c))))))) least most = absurd (omega (arith, most))
 
-pub front_is : (frames count multiple n : ℕ) (f : Shape) (size prop rate chnl counted sound : List ℕ) → IsShape f → count ≡ f.channels → f.octets ≡ 4704 * multiple → n ≡ frames * sound_bytes f →
-    size ≡ big_bytes 8 (110 + 4 * count + n) → prop ≡ big_bytes 8 (66 + 4 * count) → rate ≡ big_bytes 4 (2822400 * multiple) → chnl ≡ big_bytes 8 (2 + 4 * count) → counted ≡ big_bytes 2 count → sound ≡ big_bytes 8 n →
+pub front_is : (frames count multiple n : ℕ) (f : Shape) (size prop rate chnl counted sound : List ℕ) → IsShape f → count ≡ f.channels →
+    f.octets ≡ 4704 * multiple → n ≡ frames * sound_bytes f →
+    size ≡ big_bytes 8 (110 + 4 * count + n) → prop ≡ big_bytes 8 (66 + 4 * count) → rate ≡ big_bytes 4 (2822400 * multiple) →
+    chnl ≡ big_bytes 8 (2 + 4 * count) → counted ≡ big_bytes 2 count → sound ≡ big_bytes 8 n →
     pieces size prop rate chnl counted (take (4 * count) ids) sound ≡ made_front frames f
 front_is frames count multiple n f size prop rate chnl counted sound shape is_count is_multiple is_n is_size is_prop is_rate is_chnl is_counted is_sound =
     let m : multiple ≡ multiple_of f = omega (arith, is_multiple) in
     let by_numbers : pieces size prop rate chnl counted (take (4 * count) ids) sound
-    ≡ pieces (big_bytes 8 (110 + 4 * count + n)) (big_bytes 8 (66 + 4 * count)) (big_bytes 4 (2822400 * multiple)) (big_bytes 8 (2 + 4 * count)) (big_bytes 2 count) (take (4 * count) ids) (big_bytes 8 n) =
+    ≡ pieces (big_bytes 8 (110 + 4 * count + n)) (big_bytes 8 (66 + 4 * count)) (big_bytes 4 (2822400 * multiple)) (big_bytes 8 (2 + 4 * count))
+    (big_bytes 2 count) (take (4 * count) ids) (big_bytes 8 n) =
     ap (λ w. pieces w prop rate chnl counted (take (4 * count) ids) sound) is_size
     ∙ ap (λ w. pieces (big_bytes 8 (110 + 4 * count + n)) w rate chnl counted (take (4 * count) ids) sound) is_prop
     ∙ ap (λ w. pieces (big_bytes 8 (110 + 4 * count + n)) (big_bytes 8 (66 + 4 * count)) w chnl counted (take (4 * count) ids) sound) is_rate
-    ∙ ap (λ w. pieces (big_bytes 8 (110 + 4 * count + n)) (big_bytes 8 (66 + 4 * count)) (big_bytes 4 (2822400 * multiple)) w counted (take (4 * count) ids) sound) is_chnl
-    ∙ ap (λ w. pieces (big_bytes 8 (110 + 4 * count + n)) (big_bytes 8 (66 + 4 * count)) (big_bytes 4 (2822400 * multiple)) (big_bytes 8 (2 + 4 * count)) w (take (4 * count) ids) sound) is_counted
-    ∙ ap (λ w. pieces (big_bytes 8 (110 + 4 * count + n)) (big_bytes 8 (66 + 4 * count)) (big_bytes 4 (2822400 * multiple)) (big_bytes 8 (2 + 4 * count)) (big_bytes 2 count) (take (4 * count) ids) w) is_sound in
+    ∙ ap (λ w. pieces (big_bytes 8 (110 + 4 * count + n)) (big_bytes 8 (66 + 4 * count)) (big_bytes 4 (2822400 * multiple)) w counted
+    (take (4 * count) ids) sound) is_chnl
+    ∙ ap (λ w. pieces (big_bytes 8 (110 + 4 * count + n)) (big_bytes 8 (66 + 4 * count)) (big_bytes 4 (2822400 * multiple))
+    (big_bytes 8 (2 + 4 * count)) w (take (4 * count) ids) sound) is_counted
+    ∙ ap (λ w. pieces (big_bytes 8 (110 + 4 * count + n)) (big_bytes 8 (66 + 4 * count)) (big_bytes 4 (2822400 * multiple))
+    (big_bytes 8 (2 + 4 * count)) (big_bytes 2 count) (take (4 * count) ids) w) is_sound in
     by_numbers
     ∙ front_by multiple (110 + 4 * count + n) n count (omega (arith, is_count, shape.least)) (omega (arith, is_count, shape.most))
     ∙ ap (λ c. codes "FRM8" ++ big_bytes 8 (110 + 4 * c + n) ++ codes "DSD " ++ fver ++ prop_of c multiple ++ codes "DSD " ++ big_bytes 8 n) is_count
     ∙ ap (λ k. codes "FRM8" ++ big_bytes 8 (110 + 4 * f.channels + n) ++ codes "DSD " ++ fver ++ prop_of f.channels k ++ codes "DSD " ++ big_bytes 8 n) m
-    ∙ ap (λ k. codes "FRM8" ++ big_bytes 8 (110 + 4 * f.channels + k) ++ codes "DSD " ++ fver ++ prop_of f.channels (multiple_of f) ++ codes "DSD " ++ big_bytes 8 k) is_n
+    ∙ ap (λ k. codes "FRM8" ++ big_bytes 8 (110 + 4 * f.channels + k) ++ codes "DSD " ++ fver ++ prop_of f.channels (multiple_of f) ++ codes "DSD " ++
+    big_bytes 8 k) is_n
 
 -- a call that appends it
 pub in_one_call : {T E : Type 0} (result : Result T E) (piece whole : List ℕ) (old new : Option (List ℕ)) (room left : Option ℕ) → piece ≡ whole →
@@ -157,7 +168,19 @@ file_is start frames f shape =
     let sound = sound_chunk s n long (sound_is_even frames f shape) in
     let whole = fver ++ (prop ++ (chunk "DSD " s ++ [])) in
     let size : 110 + 4 * f.channels + n ≡ 4 + length whole =
-    omega (arith, length-append fver (prop ++ (chunk "DSD " s ++ [])), length-append prop (chunk "DSD " s ++ []), length-prop_of m f.channels shape.least shape.most, ap length (append-nil (chunk "DSD " s)), ap length sound, length-append (codes "DSD " ++ big_bytes 8 n) s, length-append (codes "DSD ") (big_bytes 8 n), length-bytes_high_first 8 n, long) in
+    omega (
+      arith,
+      length-append fver (prop ++ (chunk "DSD " s ++ [])),
+      length-append prop (chunk "DSD " s ++ []),
+      length-prop_of m f.channels
+          shape.least shape.most,
+      ap length (append-nil (chunk "DSD " s)),
+      ap length sound,
+      length-append (codes "DSD " ++ big_bytes 8 n) s,
+      length-append (codes "DSD ") (big_bytes 8 n),
+      length-bytes_high_first 8 n,
+      long,
+    ) in
     let head = codes "FRM8" ++ big_bytes 8 (110 + 4 * f.channels + n) ++ codes "DSD " in
     let same : shape_of f.channels m ≡ f = ap (λ o. record { channels = f.channels; octets = o }) (octets_of f shape) in
     regrouped head fver prop (codes "DSD ") (big_bytes 8 n) s

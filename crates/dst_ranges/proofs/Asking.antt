@@ -43,7 +43,8 @@ asked_append (x ∷ xs) ys =
     let first : groups_asked (x ∷ xs) ≡ x.1 + groups_asked xs = asked_first x xs in
     omega (arith, asked_append xs ys, here, first)
 
-pub asked_more : (pairs : List (ℕ × ℕ)) (i : ℕ) (d : ℕ × ℕ) → i < length pairs → groups_asked (take (i + 1) pairs) ≡ groups_asked (take i pairs) + (get_or pairs i d).1
+pub asked_more : (pairs : List (ℕ × ℕ)) (i : ℕ) (d : ℕ × ℕ) → i < length pairs →
+    groups_asked (take (i + 1) pairs) ≡ groups_asked (take i pairs) + (get_or pairs i d).1
 asked_more pairs i d h = ap groups_asked (take_more pairs i d h) ∙ asked_append (take i pairs) (get_or pairs i d ∷ []) ∙ omega arith
 
 -- ---- in the words of the definitions

@@ -27,7 +27,8 @@ length-sound file f h =
     let ends : f.sound.place + 12 + f.sound.size ≤ f.end = sound_inside (plain_seen f) f.lawful in
     omega (arith, length-take f.sound.size (drop place file), length-drop place file)
 
-needed_for : (file : List ℕ) (f : PlainForm) → f.end ≤ length file → f.frames ≡ frames_for (sound_bytes_of (plain_seen f)) (length (body_of file (head_seen f.sound)))
+needed_for : (file : List ℕ) (f : PlainForm) → f.end ≤ length file →
+    f.frames ≡ frames_for (sound_bytes_of (plain_seen f)) (length (body_of file (head_seen f.sound)))
 needed_for file f h = f.lawful.of_kind.frames ∙ ap (frames_for (sound_bytes_of (plain_seen f))) (sym (length-sound file f h))
 
 pub length-frames : (picks : Picks) (file : List ℕ) (f : PlainForm) → f.end ≤ length file → length (frames_in picks file f) ≡ f.frames
@@ -37,7 +38,8 @@ length-frames picks file f h =
     let body = body_of file (head_seen f.sound) in
     length-map (pieces n body) (frame_for picks (shape (plain_seen f))) ∙ length-pieces n body ∙ sym (needed_for file f h)
 
-pub frame_at_number : (picks : Picks) (file : List ℕ) (f : PlainForm) (k : ℕ) → f.end ≤ length file → k < f.frames → get_or (frames_in picks file f) k [] ≡ frame_for picks f.channels (piece_in file f k)
+pub frame_at_number : (picks : Picks) (file : List ℕ) (f : PlainForm) (k : ℕ) → f.end ≤ length file → k < f.frames →
+    get_or (frames_in picks file f) k [] ≡ frame_for picks f.channels (piece_in file f k)
 unfolding stored_frames
 frame_at_number picks file f k h l =
     let n = sound_bytes_of (plain_seen f) in
@@ -48,7 +50,8 @@ frame_at_number picks file f k h l =
     ∙ ap (λ (g : Shape). frame_for picks g (piece_of (sound_bytes g) body k)) f.shape
 
 -- ---- one size more is noted
-pub one_more_size : (sizes : List ℕ) (k size : ℕ) (frames : List (List ℕ)) (frame : List ℕ) → k < length sizes → k < length frames → size ≡ length frame → frame ≡ get_or frames k [] →
+pub one_more_size : (sizes : List ℕ) (k size : ℕ) (frames : List (List ℕ)) (frame : List ℕ) → k < length sizes → k < length frames →
+    size ≡ length frame → frame ≡ get_or frames k [] →
     take k sizes ≡ map length (take k frames) → take (k + 1) (set sizes k size) ≡ map length (take (k + 1) frames)
 one_more_size sizes k size frames frame inside l long is before =
     take_more_set sizes k size inside

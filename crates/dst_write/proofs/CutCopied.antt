@@ -16,7 +16,8 @@ copied_whole piece n old new room left long written sure = record {
 }
 
 pub copied_short : (fault : CopyFault) (piece : List ℕ) (n : ℕ) (old new : Option (List ℕ)) (room : Option ℕ) → length piece ≡ n → IsCutShort old piece new →
-    ((m : ℕ) → room ≡ Some m → n ≤ m → ◌≡◌ {A = Result (Unit {0}) CopyFault} (Err fault) (Err CopyFault.Write) → ⊥) → Stops (fault ≡ CopyFault.Write) piece old new room
+    ((m : ℕ) → room ≡ Some m → n ≤ m → ◌≡◌ {A = Result (Unit {0}) CopyFault} (Err fault) (Err CopyFault.Write) → ⊥) →
+    Stops (fault ≡ CopyFault.Write) piece old new room
 copied_short fault piece n old new room long cut taken = record {
   cut = cut;
   lacks = λ is m e fits. taken m e (omega (arith, long, fits)) (ap Err is);

@@ -1,5 +1,6 @@
 -- What cutting comes to: a refused file, or the frames that are asked for; and what a failed device leaves of these.
-use Rattle.std.proofs.Common.{◌≡◌, inl, inr, ℕ, ◌+◌, ◌-◌, ◌≤◌, List, [], ◌∷◌, ◌++◌, length, Option, Some, None, Result, Ok, Err, refl, ap, sym, subst, ◌∙◌, arith, length-append}
+use Rattle.std.proofs.Common.{◌≡◌, inl, inr, ℕ, ◌+◌, ◌-◌, ◌≤◌, List, [], ◌∷◌, ◌++◌, length, Option, Some, None, Result, Ok, Err, refl, ap, sym, subst}
+use Rattle.std.proofs.Common.{◌∙◌, arith, length-append}
 use Rattle.std.specs.Prelude.{IfOk}
 use Rattle.dst_streams.specs.Told.{and_then, IsCutShort}
 use Rattle.dsdiff_spec.specs.Form.{Form}
@@ -34,7 +35,8 @@ cut_answer file first last = done (cutting.cut file (accepted file) first last) 
 is_outcome : (file : List ℕ) (first last : ℕ) → refusal (words.cut first last) file ≡ None → OutcomeOf (words.cut first last) file (cut_answer file first last)
 is_outcome file first last none = subst (λ r. OfCommand (words.cut first last) file r (cut_answer file first last)) (sym none) (inr (tt, refl))
 
-only_outcome : (file : List ℕ) (first last : ℕ) (o : Answer) → refusal (words.cut first last) file ≡ None → OutcomeOf (words.cut first last) file o → o ≡ cut_answer file first last
+only_outcome : (file : List ℕ) (first last : ℕ) (o : Answer) → refusal (words.cut first last) file ≡ None → OutcomeOf (words.cut first last) file o →
+    o ≡ cut_answer file first last
 only_outcome file first last o none h = go (subst (λ r. OfCommand (words.cut first last) file r o) none h)
   where
     go : OfCommand (words.cut first last) file None o → o ≡ cut_answer file first last
@@ -58,25 +60,31 @@ bytes_are file first last c is =
     ∙ ap (λ n. cutting.cut file (coded_seen c.form) n last) (sym is.first_is)
     ∙ ap (λ n. cutting.cut file (coded_seen c.form) c.first n) (sym is.last_is)
 
-pub cut_outcome : (file : List ℕ) (first last : ℕ) (c : CutForm) (frames : ℕ) → refusal (words.cut first last) file ≡ None → IsCutForm first last file c → frames ≡ c.last + 1 - c.first →
+pub cut_outcome : (file : List ℕ) (first last : ℕ) (c : CutForm) (frames : ℕ) → refusal (words.cut first last) file ≡ None →
+    IsCutForm first last file c → frames ≡ c.last + 1 - c.first →
     OutcomeOf (words.cut first last) file (done (cut_bytes file c) (cut_line frames ∷ []))
 cut_outcome file first last c frames none is e =
     let line : last + 1 - first ≡ frames = ap (λ n. n + 1 - first) (sym is.last_is) ∙ ap (λ n. c.last + 1 - n) (sym is.first_is) ∙ sym e in
     subst (λ w. OutcomeOf (words.cut first last) file (done w (cut_line frames ∷ []))) (bytes_are file first last c is)
-    (subst (λ n. OutcomeOf (words.cut first last) file (done (cutting.cut file (accepted file) first last) (cut_line n ∷ []))) line (is_outcome file first last none))
+    (subst (λ n. OutcomeOf (words.cut first last) file (done (cutting.cut file (accepted file) first last) (cut_line n ∷ []))) line
+    (is_outcome file first last none))
 
 -- ---- a device that failed
-pub cut_stopped : (P : Type 0) (file : List ℕ) (first last : ℕ) (c : CutForm) (old new : Option (List ℕ)) (room : Option ℕ) → refusal (words.cut first last) file ≡ None → IsCutForm first last file c →
+pub cut_stopped : (P : Type 0) (file : List ℕ) (first last : ℕ) (c : CutForm) (old new : Option (List ℕ)) (room : Option ℕ) →
+    refusal (words.cut first last) file ≡ None → IsCutForm first last file c →
     Stops P (cut_bytes file c) old new room → (o : Answer) × OutcomeOf (words.cut first last) file o × IsCutShort old o.out new
-cut_stopped P file first last c old new room none is s = (done (cut_bytes file c) (cut_line (c.last + 1 - c.first) ∷ []), cut_outcome file first last c (c.last + 1 - c.first) none is refl, s.cut)
+cut_stopped P file first last c old new room none is s =
+    (done (cut_bytes file c) (cut_line (c.last + 1 - c.first) ∷ []), cut_outcome file first last c (c.last + 1 - c.first) none is refl, s.cut)
 
-pub cut_lacks : (P : Type 0) (file : List ℕ) (first last : ℕ) (c : CutForm) (old new : Option (List ℕ)) (room : Option ℕ) → refusal (words.cut first last) file ≡ None → IsCutForm first last file c → P →
+pub cut_lacks : (P : Type 0) (file : List ℕ) (first last : ℕ) (c : CutForm) (old new : Option (List ℕ)) (room : Option ℕ) →
+    refusal (words.cut first last) file ≡ None → IsCutForm first last file c → P →
     Stops P (cut_bytes file c) old new room → (o : Answer) → OutcomeOf (words.cut first last) file o → Lacks room (length o.out)
 cut_lacks P file first last c old new room none is p s o h =
     let out : o.out ≡ cut_bytes file c = ap (λ (a : Answer). a.out) (only_outcome file first last o none h) ∙ bytes_are file first last c is in
     subst (λ w. Lacks room (length w)) (sym out) (s.lacks p)
 
-pub cut_nothing : (file : List ℕ) (first last : ℕ) (told : Option (List ℕ)) → (o : Answer) × OutcomeOf (words.cut first last) file o × IsCutShort told o.out told
+pub cut_nothing : (file : List ℕ) (first last : ℕ) (told : Option (List ℕ)) → (o : Answer) × OutcomeOf (words.cut first last) file o
+    × IsCutShort told o.out told
 cut_nothing file first last told =
     let one = some_outcome file first last in
     (one.0, one.1, (stops_at_once ⊥ one.0.out told None (λ p. p)).cut)
@@ -86,7 +94,8 @@ pub of_write : (fault : CopyFault) → of_device fault ≡ Write → fault ≡ C
 of_write CopyFault.Read e = absurd cc
 of_write CopyFault.Write e = refl
 
-pub parts_are : (file : List ℕ) (c : CutForm) → entries file (coded_seen c.form) ≡ c.index → c.form.end ≤ length file → whole c.index file (coded_seen c.form) c.first c.last ≡ cut_bytes file c
+pub parts_are : (file : List ℕ) (c : CutForm) → entries file (coded_seen c.form) ≡ c.index → c.form.end ≤ length file →
+    whole c.index file (coded_seen c.form) c.first c.last ≡ cut_bytes file c
 parts_are file c is fits =
     let form = coded_seen c.form in
     sym (cut_is c.index file form c.first c.last c.order is (are_cut_out form c.index c.first c.last c.form.lawful c.fits c.order c.there) fits)

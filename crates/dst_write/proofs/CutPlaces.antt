@@ -1,5 +1,6 @@
 -- Frames that are cut out: where they lie in the file, and how much sound stands before them.
-use Rattle.std.proofs.Common.{◌≡◌, ℕ, zero, suc, ◌+◌, ◌-◌, ◌*◌, ◌^◌, ◌<◌, ◌≤◌, ◌==◌, Bool, true, false, if◌then◌else◌, List, length, map, take, drop, get_or, refl, sym, ap, subst, ◌∙◌, arith, length-drop, eqb-true}
+use Rattle.std.proofs.Common.{◌≡◌, ℕ, zero, suc, ◌+◌, ◌-◌, ◌*◌, ◌^◌, ◌<◌, ◌≤◌, ◌==◌, Bool, true, false, if◌then◌else◌, List, length, map, take, drop}
+use Rattle.std.proofs.Common.{get_or, refl, sym, ap, subst, ◌∙◌, arith, length-drop, eqb-true}
 use Rattle.std.proofs.lemmas.Bool.{eqb-false}
 use Rattle.std.proofs.lemmas.List.{length-map, length-take, get_or-map, get_or-take, get_or-drop}
 use Rattle.dsdiff_spec.specs.Bytes.{between}
@@ -35,7 +36,8 @@ pub record AreCutOut (form : Form) (es : List Entry) (first last : ℕ) : Type 0
   pub from : (k : ℕ) → first ≤ k → k < length es → (entry es first).offset ≤ (entry es k).offset
   pub to : (k : ℕ) → k < length es → (entry es k).offset ≤ form.end
 
-pub are_cut_out : (form : Form) (es : List Entry) (first last : ℕ) → IsLawful form → IsIndexOf form es → first ≤ last → last < form.frames → AreCutOut form es first last
+pub are_cut_out : (form : Form) (es : List Entry) (first last : ℕ) → IsLawful form → IsIndexOf form es → first ≤ last → last < form.frames →
+    AreCutOut form es first last
 are_cut_out form es first last lawful h order there =
     let l : last < length es = omega (arith, there, h.count) in
     let f : first < length es = omega (arith, l, order) in
@@ -63,7 +65,8 @@ are_cut_out form es first last lawful h order there =
         )
 
 -- ---- the entries of the frames that are cut out
-pub length-left : (form : Form) (es : List Entry) (first last place : ℕ) → first ≤ last → last < length es → length (entries_left es first last place) ≡ count first last
+pub length-left : (form : Form) (es : List Entry) (first last place : ℕ) → first ≤ last → last < length es →
+    length (entries_left es first last place) ≡ count first last
 length-left form es first last place order l =
     length-map (take (count first last) (drop first es)) (moved (begins es first) place)
     ∙ omega (arith, length-take (count first last) (drop first es), length-drop first es, order, l)

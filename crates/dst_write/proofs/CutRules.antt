@@ -20,6 +20,7 @@ pub chunks_asked : (file : List ℕ) (given : kinds.Form) (f seen : CodedForm) (
 chunks_asked file given f seen first last fault is same walked there e =
     ap (λ k. command_fault (words.cut first last) file (form_seen k)) (is ∙ ap Coded (sym same))
     ∙ its_chunks_are_asked file (coded_seen seen) first last
-    (then_is (not_coded (coded_seen seen)) (walk_fault file (coded_seen seen)) (coded_passes (coded_seen seen) refl) ∙ ap (λ k. walk_fault file (coded_seen k)) same ∙ walked)
+    (then_is (not_coded (coded_seen seen)) (walk_fault file (coded_seen seen)) (coded_passes (coded_seen seen) refl)
+    ∙ ap (λ k. walk_fault file (coded_seen k)) same ∙ walked)
     there
     ∙ sym e

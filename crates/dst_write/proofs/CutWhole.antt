@@ -1,5 +1,6 @@
 -- What cutting writes by its chunks is what is written part by part; its chunks are counted, and its size is known before.
-use Rattle.std.proofs.Common.{◌≡◌, ℕ, ◌+◌, ◌-◌, ◌*◌, ◌%◌, ◌^◌, ◌<◌, ◌≤◌, ◌==◌, Bool, true, false, if◌then◌else◌, List, [], ◌∷◌, ◌++◌, length, map, take, drop, filter, Option, Some, None}
+use Rattle.std.proofs.Common.{◌≡◌, ℕ, ◌+◌, ◌-◌, ◌*◌, ◌%◌, ◌^◌, ◌<◌, ◌≤◌, ◌==◌, Bool, true, false, if◌then◌else◌, List, [], ◌∷◌, ◌++◌, length, map}
+use Rattle.std.proofs.Common.{take, drop, filter, Option, Some, None}
 use Rattle.std.proofs.Common.{refl, sym, ap, ap₂, subst, ◌∙◌, arith, length-append, length-drop, append_assoc, append-nil}
 use Rattle.std.specs.Prelude.{codes, is_some}
 use Rattle.std.specs.List.{concat}
@@ -22,7 +23,8 @@ use Rattle.dsdiff_spec.specs.declared.faults.FileFault.TheVariants.{TooManyChunk
 use Rattle.dst_commands.specs.Passing.{chunks_on}
 use Rattle.dst_commands.specs.declared.chunks.Side.{Side}
 use Rattle.dst_commands.specs.declared.chunks.Side.TheVariants.{Before, Behind}
-use Rattle.dst_write.specs.CutLayout.{begins, ends, count, is_last, before, behind, kept, kept_by, kept_count, size_left, pad_left, side_of, sound_size, form_size, sound_opening, front, padding, frames, index_bytes, entries_left, first_at, end, whole}
+use Rattle.dst_write.specs.CutLayout.{begins, ends, count, is_last, before, behind, kept, kept_by, kept_count, size_left, pad_left, side_of}
+use Rattle.dst_write.specs.CutLayout.{sound_size, form_size, sound_opening, front, padding, frames, index_bytes, entries_left, first_at, end, whole}
 use Rattle.dst_write.proofs.BySize.{even_chunk, length-padded, length-frte, length-index}
 use Rattle.dst_write.proofs.CutPlaces.{AreCutOut, length-left}
 
@@ -32,7 +34,8 @@ kept_is form first last None = refl
 kept_is form first last (Some o) = go (is_last form last) refl
   where
     go : (b : Bool) → is_last form last ≡ b →
-        concat ((if b then origin_chunk (o.sound - sound_bytes_of form * first) o.pad o.cmpr [] else origin_chunk (sound_bytes_of form * count first last) 0 o.cmpr []) ∷ [])
+        concat ((if b then origin_chunk (o.sound - sound_bytes_of form * first) o.pad o.cmpr [] else origin_chunk
+        (sound_bytes_of form * count first last) 0 o.cmpr []) ∷ [])
         ≡ origin_chunk (if b then o.sound - sound_bytes_of form * first else sound_bytes_of form * count first last) (if b then o.pad else 0) o.cmpr []
     go true e = append-nil (origin_chunk (o.sound - sound_bytes_of form * first) o.pad o.cmpr [])
     go false e = append-nil (origin_chunk (sound_bytes_of form * count first last) 0 o.cmpr [])
@@ -55,7 +58,8 @@ length-origin sound pad cmpr =
     ) in
     length-padded "KEPT" body 0 refl ∙ ap (λ n. 12 + n + n % 2) long
 
-pub length-kept_by : (form : Form) (first last : ℕ) (o : Option Origin) (k : Origin) (cmpr : List ℕ) → o ≡ Some k → cmpr ≡ k.cmpr → 12 + (14 + length cmpr) + (14 + length cmpr) % 2 ≡ length (kept_by form first last o)
+pub length-kept_by : (form : Form) (first last : ℕ) (o : Option Origin) (k : Origin) (cmpr : List ℕ) → o ≡ Some k → cmpr ≡ k.cmpr →
+    12 + (14 + length cmpr) + (14 + length cmpr) % 2 ≡ length (kept_by form first last o)
 length-kept_by form first last o k cmpr e c =
     ap (λ (w : List ℕ). 12 + (14 + length w) + (14 + length w) % 2) c
     ∙ sym (length-origin (size_left form first last k) (pad_left form last k) k.cmpr)
@@ -67,10 +71,12 @@ side_is Behind file form = refl
 
 -- ---- too many chunks, or too large a form
 pub none_fault : (chunks : List (List ℕ)) → length chunks ≤ 1024 → 4 + length (concat chunks) ≤ 2 ^ 50 → cut_fault chunks ≡ None
-none_fault chunks few small = ap₂ (λ (a b : Bool). TooManyChunks when a otherwise FormTooLarge when b) (le-ltb 1024 (length chunks) few) (le-ltb (2 ^ 50) (4 + length (concat chunks)) small)
+none_fault chunks few small = ap₂ (λ (a b : Bool). TooManyChunks when a otherwise FormTooLarge when b) (le-ltb 1024 (length chunks) few)
+    (le-ltb (2 ^ 50) (4 + length (concat chunks)) small)
 
 pub large_fault : (chunks : List (List ℕ)) → length chunks ≤ 1024 → 2 ^ 50 < 4 + length (concat chunks) → cut_fault chunks ≡ Some FormTooLarge
-large_fault chunks few large = ap₂ (λ (a b : Bool). TooManyChunks when a otherwise FormTooLarge when b) (le-ltb 1024 (length chunks) few) (lt-ltb (2 ^ 50) (4 + length (concat chunks)) large)
+large_fault chunks few large = ap₂ (λ (a b : Bool). TooManyChunks when a otherwise FormTooLarge when b) (le-ltb 1024 (length chunks) few)
+    (lt-ltb (2 ^ 50) (4 + length (concat chunks)) large)
 
 -- ---- chunks one behind the other
 joined : (b : List (List ℕ)) (d i : List ℕ) (o e : List (List ℕ)) → concat (b ++ d ∷ i ∷ o ++ e) ≡ concat b ++ (d ++ (i ++ (concat o ++ concat e)))
@@ -93,17 +99,25 @@ index_is es n e =
 length-dsti : (es : List Entry) → length (dsti es) ≡ 12 + 12 * length es
 length-dsti es = omega (arith, length-padded "DSTI" (index_bytes es) 0 refl, length-index es)
 
-pub count_is : (file : List ℕ) (form : Form) (first last : ℕ) → length (cut_chunks file form first last) ≡ length (before_sound form) + 2 + kept_count form.origin + length (behind_sound form)
+pub count_is : (file : List ℕ) (form : Form) (first last : ℕ) →
+    length (cut_chunks file form first last) ≡ length (before_sound form) + 2 + kept_count form.origin + length (behind_sound form)
 unfolding cut_chunks
 count_is file form first last =
     let b = copied file form (before_sound form) in
     let e = copied file form (behind_sound form) in
     let o = cut_origin form first last form.origin in
     let sizes : length b + 2 + length o + length e ≡ length (before_sound form) + 2 + kept_count form.origin + length (behind_sound form) =
-    omega (arith, length-kept form first last form.origin, length-map (before_sound form) (whole_chunk file form), length-map (behind_sound form) (whole_chunk file form)) in
+    omega (
+      arith,
+      length-kept form first last form.origin,
+      length-map (before_sound form) (whole_chunk file form),
+      length-map (behind_sound form)
+          (whole_chunk file form),
+    ) in
     counted b _ _ o e ∙ sizes
 
-module _ (es : List Entry) (file : List ℕ) (form : Form) (first last : ℕ) (order : first ≤ last) (is : entries file form ≡ es) (a : AreCutOut form es first last) (fits : form.end ≤ length file)
+module _ (es : List Entry) (file : List ℕ) (form : Form) (first last : ℕ) (order : first ≤ last) (is : entries file form ≡ es)
+    (a : AreCutOut form es first last) (fits : form.end ≤ length file)
   where
     abbrev bytes : List ℕ
     bytes = between file (begins es first) (ends es form last)
@@ -158,7 +172,8 @@ module _ (es : List Entry) (file : List ℕ) (form : Form) (first last : ℕ) (o
     joined_are : concat (cut_chunks file form first last) ≡ before file form ++ (chunk "DST " body ++ (dsti left ++ (kept form first last ++ behind file form)))
     joined_are =
         ap concat chunks_are
-        ∙ joined (copied file form (before_sound form)) (chunk "DST " body) (dsti left) (cut_origin form first last form.origin) (copied file form (behind_sound form))
+        ∙ joined (copied file form (before_sound form)) (chunk "DST " body) (dsti left) (cut_origin form first last form.origin)
+        (copied file form (behind_sound form))
         ∙ ap (λ w. before file form ++ (chunk "DST " body ++ (dsti left ++ (w ++ behind file form)))) (kept_is form first last form.origin)
 
     pub size_is : 4 + length (concat (cut_chunks file form first last)) ≡ form_size es file form first last
@@ -180,7 +195,8 @@ module _ (es : List Entry) (file : List ℕ) (form : Form) (first last : ℕ) (o
     cut_is =
         ap₂ (λ n w. codes "FRM8" ++ big_bytes 8 n ++ codes "DSD " ++ w) size_is
         (joined_are ∙ ap (λ w. before file form ++ (w ++ (dsti left ++ (kept form first last ++ behind file form)))) sound_chunk)
-        ∙ regroup (codes "FRM8") (big_bytes 8 (form_size es file form first last)) (codes "DSD ") (before file form) (sound_opening es form first last) (frames es file form first last) (dsti left) (kept form first last) (behind file form)
+        ∙ regroup (codes "FRM8") (big_bytes 8 (form_size es file form first last)) (codes "DSD ") (before file form)
+        (sound_opening es form first last) (frames es file form first last) (dsti left) (kept form first last) (behind file form)
       where
         regroup : (a b c d e f g h i : List ℕ) → a ++ b ++ c ++ (d ++ ((e ++ f) ++ (g ++ (h ++ i)))) ≡ ((a ++ b ++ c) ++ d ++ e) ++ f ++ (g ++ h ++ i)
         regroup a b c d e f g h i = simp append_assoc refl

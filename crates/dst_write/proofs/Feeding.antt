@@ -32,23 +32,29 @@ module _ {S : Type 0} (bytes : S → Option (List ℕ)) (known : S → Option �
     later = omega (arith, p.later, q.later);
   }
 
-  pub rose_since : (s t u : SoundPieces S) (e : Failed) → IsLater bytes known loan faults s t → FailsToRead bytes known loan faults t e u → Rose (faults s.source.now) (faults u.source.now)
+  pub rose_since : (s t u : SoundPieces S) (e : Failed) → IsLater bytes known loan faults s t → FailsToRead bytes known loan faults t e u →
+      Rose (faults s.source.now) (faults u.source.now)
   rose_since s t u e p q = Rose-earlier (faults s.source.now) (faults t.source.now) (faults u.source.now) p.later q.rose
 
   fed_on : (s t : SoundPieces S) (jobs : List Job) → Runs (GivesPiece bytes known loan faults) s jobs t → IsLater bytes known loan faults s t
-  fed_on s t jobs run = Runs-keep (GivesPiece bytes known loan faults) (IsLater bytes known loan faults s) (λ u job v p q. later_on s u v p q.same) s t jobs run (is_itself s)
+  fed_on s t jobs run = Runs-keep (GivesPiece bytes known loan faults) (IsLater bytes known loan faults s) (λ u job v p q. later_on s u v p q.same) s
+      t jobs run (is_itself s)
 
   -- behind a job, where the feed went on ahead and may have failed
-  pub fed_ahead : (s t u v w : SoundPieces S) (job : Job) (jobs : List Job) → IsLater bytes known loan faults s t → GivesPiece bytes known loan faults t job u → Runs (GivesPiece bytes known loan faults) u jobs v →
+  pub fed_ahead : (s t u v w : SoundPieces S) (job : Job) (jobs : List Job) → IsLater bytes known loan faults s t →
+      GivesPiece bytes known loan faults t job u → Runs (GivesPiece bytes known loan faults) u jobs v →
       ((w ≡ v) ⊎ ((e : Failed) × FailsToRead bytes known loan faults v e w)) → IsLater bytes known loan faults s w
-  fed_ahead s t u v w job jobs p given run (inl same) = subst (IsLater bytes known loan faults s) (sym same) (later_on s u v (later_on s t u p given.same) (fed_on u v jobs run))
+  fed_ahead s t u v w job jobs p given run (inl same) =
+      subst (IsLater bytes known loan faults s) (sym same) (later_on s u v (later_on s t u p given.same) (fed_on u v jobs run))
   fed_ahead s t u v w job jobs p given run (inr (e, fails)) = later_on s v w (later_on s u v (later_on s t u p given.same) (fed_on u v jobs run)) fails.same
 
   -- the piece that it gave is that of its number
-  pub given_piece : (s t u : SoundPieces S) (job : Job) (n : ℕ) (file : List ℕ) → IsLater bytes known loan faults s t → t.next ≡ n → GivesPiece bytes known loan faults t job u → bytes s.source.now ≡ Some file →
+  pub given_piece : (s t u : SoundPieces S) (job : Job) (n : ℕ) (file : List ℕ) → IsLater bytes known loan faults s t → t.next ≡ n →
+      GivesPiece bytes known loan faults t job u → bytes s.source.now ≡ Some file →
       job.sound.items ≡ piece_in file s.form.now n
   given_piece s t u job n file p at given told =
       given.piece file (p.bytes_are ∙ told) ∙ ap (λ (f : PlainForm). piece_in file f t.next) p.form_is ∙ ap (λ k. piece_in file s.form.now k) at
 
-  pub given_within : (s t u : SoundPieces S) (job : Job) (n : ℕ) → IsLater bytes known loan faults s t → t.next ≡ n → GivesPiece bytes known loan faults t job u → n < s.form.now.frames
+  pub given_within : (s t u : SoundPieces S) (job : Job) (n : ℕ) → IsLater bytes known loan faults s t → t.next ≡ n →
+      GivesPiece bytes known loan faults t job u → n < s.form.now.frames
   given_within s t u job n p at given = omega (arith, given.within, at, ap (λ (f : PlainForm). f.frames) p.form_is)

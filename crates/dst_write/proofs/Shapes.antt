@@ -15,11 +15,13 @@ pub record CanFill (known : Option ℕ) (end : ℕ) (size frame sound : ℕ) (f 
   pub inside : end ≤ bytes
   pub room : HasRoom longest size frame sound f g
 
-pub can_fill : (known : Option ℕ) (end size frame sound : ℕ) (f g : Shape) → room_number longest size frame sound f ≡ feed_shape known end g → CanFill known end size frame sound f g
+pub can_fill : (known : Option ℕ) (end size frame sound : ℕ) (f g : Shape) → room_number longest size frame sound f ≡ feed_shape known end g →
+    CanFill known end size frame sound f g
 can_fill None end size frame sound f g e = absurd (never_one longest size frame sound f e)
 can_fill (Some bytes) end size frame sound f g e = go (g.channels below 8 && not (end above bytes)) refl e
   where
-    go : (b : Bool) → (g.channels below 8 && not (end above bytes)) ≡ b → room_number longest size frame sound f ≡ (if b then shape_number g else 1) → CanFill (Some bytes) end size frame sound f g
+    go : (b : Bool) → (g.channels below 8 && not (end above bytes)) ≡ b → room_number longest size frame sound f ≡ (if b then shape_number g else 1) →
+        CanFill (Some bytes) end size frame sound f g
     go false h n = absurd (never_one longest size frame sound f n)
     go true h n =
         let p = and_parts _ _ h in

@@ -18,13 +18,15 @@ pub record IsLater {K : Type 0} (appended faults : K → ℕ) (s t : FrameWriter
   pub later : faults s.sink.now ≤ faults t.sink.now
 
 -- the frame is written in a chunk of its own, and its size noted at its number
-pub record TakesFrame {K : Type 0} (written : K → Option (List ℕ)) (appended : K → ℕ) (room : K → Option ℕ) (faults : K → ℕ) (s : FrameWriter K) (job : Job) (t : FrameWriter K) : Type 0 where
+pub record TakesFrame {K : Type 0} (written : K → Option (List ℕ)) (appended : K → ℕ) (room : K → Option ℕ) (faults : K → ℕ) (s : FrameWriter K)
+    (job : Job) (t : FrameWriter K) : Type 0 where
   pub same : IsLater appended faults s t
   pub adds : Adds (dstf (frame_in job)) (written s.sink.now) (written t.sink.now) (room s.sink.now) (room t.sink.now)
   pub noted : t.sizes.now ≡ slice_set s.sizes.now job.number job.size
 
 -- the sink fails at the frame
-pub record FailsAtFrame {K : Type 0} (written : K → Option (List ℕ)) (appended : K → ℕ) (room : K → Option ℕ) (faults : K → ℕ) (s : FrameWriter K) (job : Job) (fault : EncodeFault) (t : FrameWriter K) : Type 0 where
+pub record FailsAtFrame {K : Type 0} (written : K → Option (List ℕ)) (appended : K → ℕ) (room : K → Option ℕ) (faults : K → ℕ) (s : FrameWriter K)
+    (job : Job) (fault : EncodeFault) (t : FrameWriter K) : Type 0 where
   pub same : IsLater appended faults s t
   pub is_write : fault ≡ Write
   pub stops : Stops (Unit {0}) (dstf (frame_in job)) (written s.sink.now) (written t.sink.now) (room s.sink.now)

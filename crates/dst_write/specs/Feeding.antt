@@ -31,7 +31,8 @@ pub record IsLater {S : Type 0} (bytes : S → Option (List ℕ)) (known : S →
   pub later : faults s.source.now ≤ faults t.source.now
 
 -- the next piece is read
-pub record GivesPiece {S : Type 0} (bytes : S → Option (List ℕ)) (known : S → Option ℕ) (loan : S → Loan) (faults : S → ℕ) (s : SoundPieces S) (job : Job) (t : SoundPieces S) : Type 0 where
+pub record GivesPiece {S : Type 0} (bytes : S → Option (List ℕ)) (known : S → Option ℕ) (loan : S → Loan) (faults : S → ℕ) (s : SoundPieces S)
+    (job : Job) (t : SoundPieces S) : Type 0 where
   pub same : IsLater bytes known loan faults s t
   pub next : t.next ≡ s.next + 1
   pub within : s.next < s.form.now.frames
@@ -40,6 +41,7 @@ pub record GivesPiece {S : Type 0} (bytes : S → Option (List ℕ)) (known : S 
       job.sound.items ≡ piece_of (sound_bytes s.form.now.channels) (body_of file (head_seen s.form.now.sound)) s.next
 
 -- the source failed
-pub record FailsToRead {S : Type 0} (bytes : S → Option (List ℕ)) (known : S → Option ℕ) (loan : S → Loan) (faults : S → ℕ) (s : SoundPieces S) (failed : Failed) (t : SoundPieces S) : Type 0 where
+pub record FailsToRead {S : Type 0} (bytes : S → Option (List ℕ)) (known : S → Option ℕ) (loan : S → Loan) (faults : S → ℕ) (s : SoundPieces S)
+    (failed : Failed) (t : SoundPieces S) : Type 0 where
   pub same : IsLater bytes known loan faults s t
   pub rose : Rose (faults s.source.now) (faults t.source.now)

@@ -122,7 +122,13 @@ frame_read n part frame prop version taken body answered sound h next begins has
     let front_here : HasFront (begun begins.front begins.frames) version prop.bytes = rw begins.same at has_front in
     let event = frame_is_due taken body version prop.bytes answered sound h next begins from is_body ends goes in
     let counts : HasBegun (begun begins.front (begins.frames ++ body ∷ [])) (sound.found + 1) =
-    record { front = begins.front; frames = begins.frames ++ body ∷ []; same = refl; count = omega (arith, begins.count, length-append begins.frames (body ∷ [])) } in
+    record {
+      front = begins.front;
+      frames = begins.frames ++ body ∷ [];
+      same = refl;
+      count =
+          omega (arith, begins.count, length-append begins.frames (body ∷ []));
+    } in
     let at_end : body_end h ≡ n = ends ∙ sym count in
     let fresh_here : IsFresh next n = rw at_end at fresh in
     rw (answered_then (due taken answered) answered begins.front begins.frames body event begins.same)

@@ -11,7 +11,8 @@ use Rattle.dsdiff_spec.specs.Streams.{kept, ending_at_head, came_with, in_sound,
 use Rattle.dsdiff_spec.specs.Rules.{local_fault}
 use Rattle.dsdiff_spec.specs.declared.faults.FileFault.{FileFault}
 use Rattle.dsdiff_spec.specs.declared.faults.FileFault.TheVariants.{Overrun, TooManyChunks}
-use Rattle.dsdiff_spec.proofs.StreamSteps.{head_passes, reaches, falls_short, head_is_whole, form_ends, form_has_no_more, form_ends_at_head, form_has_sound, form_has_chunk}
+use Rattle.dsdiff_spec.proofs.StreamSteps.{head_passes, reaches, falls_short, head_is_whole, form_ends, form_has_no_more, form_ends_at_head}
+use Rattle.dsdiff_spec.proofs.StreamSteps.{form_has_sound, form_has_chunk}
 
 pub missing_at : (w : List ℕ) (end most : ℕ) (came : Came) (place : ℕ) (fault : FileFault) → end ≤ place → fault ≡ missing came →
     in_form w end most came place ≡ nothing_but (stopped fault)
@@ -43,7 +44,8 @@ opened prop h = refl
 
 pub rules_of_prop : (prop : Option (List ℕ)) (h : Head) → (h.id is "PROP") ≡ true → later_head_fault prop h ≡ prop_head_fault prop h
 unfolding by_ids
-rules_of_prop prop h p = opened prop h ∙ ap (λ a. by_ids a (h.id is "DSD ") (h.id is "DST ") (prop_head_fault prop h) (plain_head_fault prop) (sound_head_fault prop h)) p
+rules_of_prop prop h p = opened prop h ∙ ap
+    (λ a. by_ids a (h.id is "DSD ") (h.id is "DST ") (prop_head_fault prop h) (plain_head_fault prop) (sound_head_fault prop h)) p
 
 pub rules_of_plain : (prop : Option (List ℕ)) (h : Head) → (h.id is "PROP") ≡ false → (h.id is "DSD ") ≡ true →
     later_head_fault prop h ≡ plain_head_fault prop
@@ -177,6 +179,7 @@ prop_is_taken w end most version prop h body p there is_body no_fault =
     reaches w h.place (body_end h) _ there
     ∙ ap {A = Bool} (λ b. kept (if b then local_fault (body_place h) (body_of w h) else None) later) p
     ∙ ap (λ f. kept f later) (ap (local_fault (body_place h)) is_body ∙ no_fault)
-    ∙ ap {A = Bool} (λ b. up_to w h.place (whole_end end h) (in_form w end most (record { version = Some version; prop = if b then Some (body_of w h) else prop }) (next_place h))) p
+    ∙ ap {A = Bool} (λ b. up_to w h.place (whole_end end h)
+    (in_form w end most (record { version = Some version; prop = if b then Some (body_of w h) else prop }) (next_place h))) p
     ∙ ap (λ x. up_to w h.place (whole_end end h) (in_form w end most (record { version = Some version; prop = Some x }) (next_place h))) is_body
     ∙ ap (up_to w h.place (whole_end end h)) (next_is w end most (next_place h) taken)

@@ -1,5 +1,6 @@
 -- Bytes that are gathered, and the next stage where a part is whole: what was read stays what was read.
-use Rattle.std.proofs.Common.{◌≡◌, ℕ, ◌+◌, ◌-◌, ◌≤◌, List, [], ◌++◌, length, take, drop, Bool, true, false, refl, sym, ap, ◌∙◌, arith, append_assoc, length-append}
+use Rattle.std.proofs.Common.{◌≡◌, ℕ, ◌+◌, ◌-◌, ◌≤◌, List, [], ◌++◌, length, take, drop, Bool, true, false, refl, sym, ap, ◌∙◌, arith, append_assoc}
+use Rattle.std.proofs.Common.{length-append}
 use Rattle.std.proofs.lemmas.List.{drop-append-le, length-drop, take_at, drop_all}
 use Rattle.dsdiff_spec.specs.Streams.{stream}
 use Rattle.push_decoder.specs.Gathered.{Gathered}

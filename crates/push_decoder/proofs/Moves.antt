@@ -61,7 +61,8 @@ prop_goes_on w version prop part form head stage result e some has goes =
     ap (λ s. still_to_come version prop s w) e
     ∙ goes w version prop (body_in w part form head here) here.there
     ∙ ap (λ v. still_to_come v part result w) (sym (unchosen (form.chunks == 0) part version (some_chunk form.chunks some)))
-    ∙ ap (λ q. still_to_come (if form.chunks == 0 then part else version) q result w) (sym (unchosen (form.chunks == 0) prop part (some_chunk form.chunks some)))
+    ∙ ap (λ q. still_to_come (if form.chunks == 0 then part else version) q result w)
+    (sym (unchosen (form.chunks == 0) prop part (some_chunk form.chunks some)))
     ∙ ap (λ s. still_to_come (version_then s part version) (prop_then s part prop) result w) (sym e)
 
 pub count_goes_on : (w version prop part : List ℕ) (form : FormSoFar) (head : ChunkHead) (stage result : Stage) → stage ≡ FrameCount form head →

@@ -23,7 +23,8 @@ no_more_frames (f ∷ fs) ending e = absurd cc
 at_taken : (d : PushDecoder) (taken : List ℕ) (answered : Answered) → StandsFor d taken answered → AreOf answered (stream taken)
 at_taken d taken answered has = subst (λ w. AreOf answered (stream w)) (append-nil taken) (events_law d taken answered has [])
 
-all_came : (frames all : List (List ℕ)) (ending : Ending) → take (length frames) all ≡ frames → frame_event (drop (length frames) all) ending ≡ None → all ≡ frames
+all_came : (frames all : List (List ℕ)) (ending : Ending) → take (length frames) all ≡ frames → frame_event (drop (length frames) all) ending ≡ None →
+    all ≡ frames
 all_came frames all ending first none =
     sym (take-append-drop (length frames) all)
     ∙ ap (λ behind. take (length frames) all ++ behind) (no_more_frames (drop (length frames) all) ending none)
@@ -45,5 +46,6 @@ pieces_law d e taken (begun f fs) (begun g gs) has other none also =
     let b = at_taken e taken (begun g gs) other in
     let fronts : Some f ≡ Some g = sym a.0 ∙ b.0 in
     let front : f ≡ g = cc in
-    let frames : fs ≡ gs = sym (all_came fs (stream taken).frames (stream taken).ending a.1 none) ∙ all_came gs (stream taken).frames (stream taken).ending b.1 also in
+    let frames : fs ≡ gs = sym (all_came fs (stream taken).frames (stream taken).ending a.1 none)
+    ∙ all_came gs (stream taken).frames (stream taken).ending b.1 also in
     ap (λ x. begun x fs) front ∙ ap (begun g) frames

@@ -1,11 +1,13 @@
 -- While a stage lacks bytes, nothing is due: the stream ends inside its chunk.
-use Rattle.std.proofs.Common.{◌≡◌, ℕ, suc, ◌+◌, ◌-◌, ◌<◌, ◌≤◌, List, ◌++◌, length, take, Bool, true, false, None, sym, ap, ◌∙◌, arith, length-append, append_assoc, inl, inr, drop}
+use Rattle.std.proofs.Common.{◌≡◌, ℕ, suc, ◌+◌, ◌-◌, ◌<◌, ◌≤◌, List, ◌++◌, length, take, Bool, true, false, None, sym, ap, ◌∙◌, arith, length-append}
+use Rattle.std.proofs.Common.{append_assoc, inl, inr, drop}
 use Rattle.std.proofs.lemmas.Bool.{lt-ltb, cases_order}
 use Rattle.std.proofs.lemmas.List.{length-take, length-drop, take_all}
 use Rattle.std.proofs.Math.Seq.{take-add}
 use Rattle.dsdiff_spec.specs.Chunks.{head_at}
 use Rattle.dsdiff_spec.specs.Parts.{form_end}
-use Rattle.dsdiff_spec.specs.Streams.{Stream, cut_off, nothing_but, kept, form_head_fault, nothing_came, stream, in_form, frames_from, chunk_head_fault, frame_head_fault}
+use Rattle.dsdiff_spec.specs.Streams.{Stream, cut_off, nothing_but, kept, form_head_fault, nothing_came, stream, in_form, frames_from}
+use Rattle.dsdiff_spec.specs.Streams.{chunk_head_fault, frame_head_fault}
 use Rattle.dsdiff_spec.specs.declared.faults.FileFault.TheVariants.{NotForm, Overrun}
 use Rattle.dsdiff_spec.proofs.StreamSteps.{falls_short, head_is_cut, form_ends_at_head, sound_ends_at_head}
 use Rattle.push_decoder.specs.declared.stage.Stage.{Stage}

@@ -1,5 +1,6 @@
 -- `DST ` at the place of a chunk, and its next chunk, by what the chunk is.
-use Rattle.std.proofs.Common.{◌≡◌, ℕ, zero, suc, ◌+◌, ◌-◌, ◌<◌, ◌≤◌, List, [], length, Bool, true, false, Option, Some, None, refl, sym, ap, ◌∙◌, arith, inl, inr}
+use Rattle.std.proofs.Common.{◌≡◌, ℕ, zero, suc, ◌+◌, ◌-◌, ◌<◌, ◌≤◌, List, [], length, Bool, true, false, Option, Some, None, refl, sym, ap, ◌∙◌}
+use Rattle.std.proofs.Common.{arith, inl, inr}
 use Rattle.std.specs.Prelude.{if◌then◌else◌, ◌==◌, ◌||◌, not, nat_lt, option_map, min, unwrap_or}
 use Rattle.std.proofs.lemmas.Bool.{le-ltb, cases_order}
 use Rattle.dst_spec.specs.Sample.{Shape}
@@ -148,7 +149,8 @@ frte_is_refused w frte came h fault le at there is_fault =
     ∙ ap (λ x. kept x (opened_with w (body_end h) (body_place h + 18) came.version came.prop (number_at w (body_place h + 12) 4)))
     (same_rules w frte h le (sym at) ∙ is_fault)
 
-pub frte_is_taken : (w frte : List ℕ) (came : Came) (version prop : List ℕ) (h : Head) (told : ℕ) (f : Shape) → 18 ≤ h.size → bytes_at w (body_place h) 18 ≡ frte →
+pub frte_is_taken : (w frte : List ℕ) (came : Came) (version prop : List ℕ) (h : Head) (told : ℕ) (f : Shape) → 18 ≤ h.size →
+    bytes_at w (body_place h) 18 ≡ frte →
     body_place h + 18 ≤ length w → frte_fault frte ≡ None → told ≡ number_at frte 12 4 → came.version ≡ Some version → came.prop ≡ Some prop →
     f ≡ shape_in prop →
     in_sound w came h
@@ -156,7 +158,8 @@ pub frte_is_taken : (w frte : List ℕ) (came : Came) (version prop : List ℕ) 
 unfolding opened_with front_with
 frte_is_taken w frte came version prop h told f le at there no_fault is_told v p is_shape =
     reaches w (body_place h) (body_place h + 18) _ there
-    ∙ ap (λ x. kept x (opened_with w (body_end h) (body_place h + 18) came.version came.prop (number_at w (body_place h + 12) 4))) (same_rules w frte h le (sym at) ∙ no_fault)
+    ∙ ap (λ x. kept x (opened_with w (body_end h) (body_place h + 18) came.version came.prop (number_at w (body_place h + 12) 4)))
+    (same_rules w frte h le (sym at) ∙ no_fault)
     ∙ ap (opened_with w (body_end h) (body_place h + 18) came.version came.prop) (sym (is_told ∙ told_in_part w frte (body_place h) (sym at)))
     ∙ ap (λ x. opened_with w (body_end h) (body_place h + 18) x came.prop told) v
     ∙ ap (λ x. opened_with w (body_end h) (body_place h + 18) (Some version) x told) p

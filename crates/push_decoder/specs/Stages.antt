@@ -8,7 +8,8 @@ use Rattle.dsdiff_spec.specs.declared.faults.FileFault.{FileFault}
 use Rattle.dsdiff_spec.specs.declared.faults.FileFault.TheVariants.{NotForm, Overrun, FrameTooLong, TooManyFrames, CountDiffers}
 use Rattle.dsdiff_spec.specs.Chunks.{Head, next_place}
 use Rattle.dsdiff_spec.specs.Parts.{compression}
-use Rattle.dsdiff_spec.specs.Streams.{Ending, Stream, ended, stopped, cut_off, nothing_but, with_front, up_to, shape_in, in_sound_chunk, found_with, frames_from}
+use Rattle.dsdiff_spec.specs.Streams.{Ending, Stream, ended, stopped, cut_off, nothing_but, with_front, up_to, shape_in, in_sound_chunk, found_with}
+use Rattle.dsdiff_spec.specs.Streams.{frames_from}
 use Rattle.dsdiff_spec.specs.Streams.{Came, came_with, in_sound, in_form_chunk, in_form, stream}
 use Rattle.dsdiff_chunks.specs.Seen.{head_seen}
 use Rattle.dsdiff_chunks.specs.declared.prop.PropFields.{PropFields}

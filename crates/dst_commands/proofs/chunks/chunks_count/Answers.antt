@@ -9,10 +9,12 @@ none = record { id = []; place = 0; size = 0 }
 
 pub loop-head-preserved-then-not-passes : goal.loop-head-preserved-then-not-passes
 loop-head-preserved-then-not-passes c =
-    let more = one_more_counted c.args.side c.args.passed.now c.heads-head-items.result.now c.loop-head.head-index none _ (sym c.heads-head-items.ensures) c.loop-head-test.true (sym c.passes.ensures ∙ c.if-not-passes.true) in
+    let more = one_more_counted c.args.side c.args.passed.now c.heads-head-items.result.now c.loop-head.head-index none _
+    (sym c.heads-head-items.ensures) c.loop-head-test.true (sym c.passes.ensures ∙ c.if-not-passes.true) in
     record { most = omega (arith, c.loop-head.invariant.most); count_is = omega (arith, c.loop-head.invariant.count_is, more) }
 
 pub loop-head-preserved : goal.loop-head-preserved
 loop-head-preserved c =
-    let more = one_more_counted c.args.side c.args.passed.now c.heads-head-items.result.now c.loop-head.head-index none _ (sym c.heads-head-items.ensures) c.loop-head-test.true (sym c.passes.ensures ∙ c.if-not-passes.false) in
+    let more = one_more_counted c.args.side c.args.passed.now c.heads-head-items.result.now c.loop-head.head-index none _
+    (sym c.heads-head-items.ensures) c.loop-head-test.true (sym c.passes.ensures ∙ c.if-not-passes.false) in
     record { most = omega (arith, c.loop-head.invariant.most); count_is = omega (arith, c.loop-head.invariant.count_is, more) }

@@ -56,5 +56,6 @@ returns-clause-written g c file told =
     let o = opened_for file c.args.opened.now c.requires.room.jobs.lawful (c.requires.opened file told) in
     let head = head_added _ d _ _ _ _ c.in-Ok.ensures.sure c.in-Ok.ensures.written in
     let frames = c.in_default-write_rows.ensures.written file told in
-    ends_done file form d o bytes (record { frames = c.args.opened.now.walked.form.frames; bytes = c.sound_size.result }) frames.0 _ _ _ _ _ _ _ frames.1 head frames.2
+    ends_done file form d o bytes (record { frames = c.args.opened.now.walked.form.frames; bytes = c.sound_size.result }) frames.0 _ _ _ _ _ _ _
+    frames.1 head frames.2
     c.finish.ensures.written refl c.sound_size.ensures.size

@@ -17,7 +17,8 @@ returns-then-form-eq1-clause-row c sound few has =
       long = omega (arith, c.turn_bytes.ensures.long, c.clear_row.ensures.long, c.requires.long);
       ordered = λ k l.
           c.turn_bytes.ensures.turned k (omega (arith, l, c.clear_row.ensures.long, c.requires.long))
-          ∙ ap (λ b. if b then turned (get_or c.clear_row.new.row k 0) else (get_or c.clear_row.new.row k 0)) (sym (eq-eqb c.args.form.now.bits 1 c.if-form-eq1.true));
+          ∙ ap (λ b. if b then turned (get_or c.clear_row.new.row k 0) else (get_or c.clear_row.new.row k 0))
+          (sym (eq-eqb c.args.form.now.bits 1 c.if-form-eq1.true));
     })
 
 pub returns-else-form-eq1-clause-row : goal.returns-else-form-eq1-clause-row
@@ -29,5 +30,6 @@ returns-else-form-eq1-clause-row c sound few has =
       cleared = c.clear_row.ensures.cleared;
       long = omega (arith, c.clear_row.ensures.long, c.requires.long);
       ordered = λ k l.
-          ap (λ b. if b then turned (get_or c.clear_row.new.row k 0) else (get_or c.clear_row.new.row k 0)) (sym (ne_eqb c.args.form.now.bits 1 c.if-form-eq1.false));
+          ap (λ b. if b then turned (get_or c.clear_row.new.row k 0) else (get_or c.clear_row.new.row k 0))
+          (sym (ne_eqb c.args.form.now.bits 1 c.if-form-eq1.false));
     })

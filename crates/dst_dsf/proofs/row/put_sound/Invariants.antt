@@ -9,5 +9,6 @@ invariant-loop-byte l = record {
   below : l.channel < l.channels;
   long : length l.row ≡ length l.initial.row;
   put : (k : ℕ) → k < l.byte-index → get_or l.row (place_in l.channels (l.place + k)) 0 ≡ get_or l.piece k 0;
-  others : (p : ℕ) → p < 4096 * l.channels → (p < l.place) ⊎ (l.place + l.byte-index ≤ p) → get_or l.row (place_in l.channels p) 0 ≡ get_or l.initial.row (place_in l.channels p) 0;
+  others : (p : ℕ) → p < 4096 * l.channels → (p < l.place) ⊎ (l.place + l.byte-index ≤ p) →
+      get_or l.row (place_in l.channels p) 0 ≡ get_or l.initial.row (place_in l.channels p) 0;
 }

@@ -10,5 +10,6 @@ returns-clause-lawful c =
     record {
       same = refl;
       order = refl;
-      whole = rw (c.sound_size.ensures.size, c.count-count.ensures.count) (groups_times (size_of_sound (coded_seen form)) form.channels.channels (whole_groups form));
+      whole = rw (c.sound_size.ensures.size, c.count-count.ensures.count)
+          (groups_times (size_of_sound (coded_seen form)) form.channels.channels (whole_groups form));
     }

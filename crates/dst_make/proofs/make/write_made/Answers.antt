@@ -15,7 +15,8 @@ pub returns-in_default-write_sound-clause-written : goal.returns-in_default-writ
 returns-in_default-write_sound-clause-written g c =
     let f = c.args.channels in
     stops_same (Unit {0}) _ _ _ _ _ (file_is c.args.start c.args.frames f c.write_front.ensures.shape)
-    (stops_then (Unit {0}) (made_front c.args.frames f) (made_sound c.args.start c.args.frames f) _ _ _ _ _ c.in-Ok.ensures.written c.in_default-write_sound.ensures.written)
+    (stops_then (Unit {0}) (made_front c.args.frames f) (made_sound c.args.start c.args.frames f) _ _ _ _ _ c.in-Ok.ensures.written
+    c.in_default-write_sound.ensures.written)
 
 pub returns-clause-written : goal.returns-clause-written
 returns-clause-written g c =

@@ -11,5 +11,6 @@ invariant-loop-frame g l = record {
   maker : l.maker ≡ maker_after l.start l.frame l.fn.channels;
   room : length l.sound ≡ sound_bytes l.fn.channels;
   later : g.K.Sink.faults l.initial.sink ≤ g.K.Sink.faults l.sink;
-  written : Adds (made_sound l.start l.frame l.fn.channels) (g.K.Sink.written l.initial.sink) (g.K.Sink.written l.sink) (g.K.Sink.room l.initial.sink) (g.K.Sink.room l.sink);
+  written : Adds (made_sound l.start l.frame l.fn.channels) (g.K.Sink.written l.initial.sink) (g.K.Sink.written l.sink) (g.K.Sink.room l.initial.sink)
+      (g.K.Sink.room l.sink);
 }

@@ -57,7 +57,8 @@ loop-first-preserved g c =
     let long : length c.deref_mut.result.now ≡ n = ap length c.deref_mut.ensures.value ∙ l.invariant.buffer ∙ c.requires.ready.buffer_is in
     let same = pair_parts n channels pairs i (0, 0) _ _ _ _ long c.from.ensures c.from-in-loop-first.ensures c.count-group.ensures.count in
     let more = asked_more pairs i (0, 0) below in
-    let all : groups_asked (take (i + 1) pairs) * channels ≡ groups_asked (take i pairs) * channels + count * channels = ap (λ m. m * channels) more ∙ omega arith in
+    let all : groups_asked (take (i + 1) pairs) * channels ≡ groups_asked (take i pairs) * channels + count * channels = ap (λ m. m * channels) more
+    ∙ omega arith in
     let counted : c.from-in-loop-first.result * group ≡ count * channels =
     ap₂ {A = ℕ} {B = ℕ} (λ a b. a * b) c.from-in-loop-first.ensures c.count-group.ensures.count in
     let inside = get_all (λ (p : ℕ × ℕ). (p.0 + p.1) * channels ≤ r.size) pairs i (0, 0) c.requires.ready.inside below in
@@ -67,7 +68,8 @@ loop-first-preserved g c =
       known = c.in-Ok.ensures.stays ∙ l.invariant.known;
       later = omega (arith, c.in-Ok.ensures.source_later, l.invariant.later);
       sink_later = omega (arith, c.in-Ok.ensures.sink_later, l.invariant.sink_later);
-      buffer = length-written l.opened.buffer _ c.write_between.new.buffer _ c.deref_mut.ensures.value c.deref_mut.ensures.len c.write_between.auto.buffer l.invariant.buffer;
+      buffer = length-written l.opened.buffer _ c.write_between.new.buffer _ c.deref_mut.ensures.value c.deref_mut.ensures.len
+          c.write_between.auto.buffer l.invariant.buffer;
       count = omega (arith, l.invariant.count, all, counted);
       most = omega (arith, l.invariant.most, counted, inside, both, c.requires.ready.size_most);
       unchanged = λ none.
@@ -75,7 +77,8 @@ loop-first-preserved g c =
           let no_bytes : count * channels ≡ 0 * channels = ap (λ m. m * channels) zero in
           c.in-Ok.ensures.no_call (omega (arith, counted, no_bytes)) ∙ l.invariant.unchanged (omega (arith, more, none));
       wrote = one_pair_more r l.opened.reader c.write_between.new.reader n channels i pairs (0, 0) _ _ _ _ _ _ _ _ _ _ below l.invariant.wrote
-          (wrote_as l.opened.reader c.write_between.new.reader _ (parts_at n channels pairs i (0, 0)) _ _ _ _ _ _ _ _ same l.invariant.bytes c.in-Ok.ensures.wrote);
+          (wrote_as l.opened.reader c.write_between.new.reader _ (parts_at n channels pairs i (0, 0)) _ _ _ _ _ _ _ _ same l.invariant.bytes
+          c.in-Ok.ensures.wrote);
     }
 
 pub returns-clause-wrote : goal.returns-clause-wrote

@@ -25,5 +25,6 @@ returns-clause-ends g c file told =
 
 pub returns-clause-read : goal.returns-clause-read
 returns-clause-read g c e =
-    subst (λ fault. HasSourceCause fault (g.S.Source.faults c.args.source.now) (g.S.Source.faults c.sum_tails.new.source)) (same_fault c.in-Err-sum_tails.fault _ e)
+    subst (λ fault. HasSourceCause fault (g.S.Source.faults c.args.source.now) (g.S.Source.faults c.sum_tails.new.source))
+    (same_fault c.in-Err-sum_tails.fault _ e)
     c.in-Err-sum_tails.ensures.cause

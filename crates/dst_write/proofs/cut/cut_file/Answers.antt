@@ -18,7 +18,8 @@ same_source a b e = cc
 pub returns-in-Err-clause-file : goal.returns-in-Err-clause-file
 returns-in-Err-clause-file g c fault e file told =
     rules_of_cut c.args.first c.args.last file
-    ∙ (subst (λ f. opening.Stops (form_refusal (words.cut c.args.first c.args.last)) (g.S.Source.bytes c.args.source.now) (g.S.Source.faults c.args.source.now) (g.S.Source.faults c.open_file.new.source) f) (same_source c.in-Err.fault _ e) c.in-Err.ensures.stops) file told
+    ∙ (subst (λ f. opening.Stops (form_refusal (words.cut c.args.first c.args.last)) (g.S.Source.bytes c.args.source.now)
+    (g.S.Source.faults c.args.source.now) (g.S.Source.faults c.open_file.new.source) f) (same_source c.in-Err.fault _ e) c.in-Err.ensures.stops) file told
 
 pub returns-in-Err-clause-cut_short : goal.returns-in-Err-clause-cut_short
 returns-in-Err-clause-cut_short g c e file told = cut_nothing file c.args.first c.args.last (g.K.Sink.written c.args.sink.now)
@@ -40,7 +41,8 @@ returns-clause-cut_short g c e file told =
     let is = c.in-Ok.ensures.opened file told in
     let none = rules_of_cut c.args.first c.args.last file ∙ c.in-Ok.ensures.accepted file told in
     let ends = c.in-Err-write_cut.ensures.written file (c.in-Ok.ensures.bytes ∙ told) is.entries_are in
-    cut_stopped (c.in-Err-write_cut.fault ≡ Write) file c.args.first c.args.last cut (g.K.Sink.written c.args.sink.now) (g.K.Sink.written c.write_cut.new.sink) (g.K.Sink.room c.args.sink.now) none is ends
+    cut_stopped (c.in-Err-write_cut.fault ≡ Write) file c.args.first c.args.last cut (g.K.Sink.written c.args.sink.now)
+    (g.K.Sink.written c.write_cut.new.sink) (g.K.Sink.room c.args.sink.now) none is ends
 
 -- the fault is that of the sink
 of_fault : (a b : CutFault) → ◌≡◌ {A = Result Cut CutFault} (Err a) (Err b) → a ≡ b
@@ -52,4 +54,5 @@ returns-clause-sure g c e file told =
     let is = c.in-Ok.ensures.opened file told in
     let none = rules_of_cut c.args.first c.args.last file ∙ c.in-Ok.ensures.accepted file told in
     let ends = c.in-Err-write_cut.ensures.written file (c.in-Ok.ensures.bytes ∙ told) is.entries_are in
-    cut_lacks (c.in-Err-write_cut.fault ≡ Write) file c.args.first c.args.last cut (g.K.Sink.written c.args.sink.now) (g.K.Sink.written c.write_cut.new.sink) (g.K.Sink.room c.args.sink.now) none is (of_fault c.in-Err-write_cut.fault Write e) ends
+    cut_lacks (c.in-Err-write_cut.fault ≡ Write) file c.args.first c.args.last cut (g.K.Sink.written c.args.sink.now)
+    (g.K.Sink.written c.write_cut.new.sink) (g.K.Sink.room c.args.sink.now) none is (of_fault c.in-Err-write_cut.fault Write e) ends

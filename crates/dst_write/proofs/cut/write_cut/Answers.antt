@@ -24,7 +24,8 @@ returns-in-Err-clause-written g c file told is =
     stops_same P (a ++ b ++ d) (cut_bytes file cut) _ _ _ (parts_are file cut is fits)
     (stops_first P (a ++ b) d _ _ _
     (stops_first P a b _ _ _
-    (stops_for (c.in-Err.fault ≡ CopyFault.Write) P a _ _ _ (λ e. of_write c.in-Err.fault (sym c.fault_of_device.ensures ∙ e)) (c.in-Err.ensures.written file told))))
+    (stops_for (c.in-Err.fault ≡ CopyFault.Write) P a _ _ _ (λ e. of_write c.in-Err.fault (sym c.fault_of_device.ensures ∙ e))
+    (c.in-Err.ensures.written file told))))
 
 pub returns-in-Err-write_frames-clause-written : goal.returns-in-Err-write_frames-clause-written
 returns-in-Err-write_frames-clause-written g c file told is =
@@ -40,7 +41,8 @@ returns-in-Err-write_frames-clause-written g c file told is =
     stops_same P (a ++ b ++ d) (cut_bytes file cut) _ _ _ (parts_are file cut is fits)
     (stops_first P (a ++ b) d _ _ _
     (stops_then P a b _ _ _ _ _ (c.in_default.ensures.written file told)
-    (stops_for (fault ≡ CopyFault.Write) P b _ _ _ (λ e. of_write fault (sym c.fault_of_device-in-Err-write_frames.ensures ∙ e)) (c.in-Err-write_frames.ensures.written file (c.in_default.ensures.bytes ∙ told)))))
+    (stops_for (fault ≡ CopyFault.Write) P b _ _ _ (λ e. of_write fault (sym c.fault_of_device-in-Err-write_frames.ensures ∙ e))
+    (c.in-Err-write_frames.ensures.written file (c.in_default.ensures.bytes ∙ told)))))
 
 pub returns-in-Err-write_end-clause-written : goal.returns-in-Err-write_end-clause-written
 returns-in-Err-write_end-clause-written g c file told is =
@@ -57,7 +59,8 @@ returns-in-Err-write_end-clause-written g c file told is =
     stops_same P (a ++ b ++ d) (cut_bytes file cut) _ _ _ (parts_are file cut is fits)
     (stops_then P (a ++ b) d _ _ _ _ _
     (adds_then a b _ _ _ _ _ _ (c.in_default.ensures.written file told) (c.in_default-write_frames.ensures.written file later))
-    (stops_for (fault ≡ CopyFault.Write) P d _ _ _ (λ e. of_write fault (sym c.fault_of_device-in-Err-write_end.ensures ∙ e)) (c.in-Err-write_end.ensures.written file (c.in_default-write_frames.ensures.bytes ∙ later))))
+    (stops_for (fault ≡ CopyFault.Write) P d _ _ _ (λ e. of_write fault (sym c.fault_of_device-in-Err-write_end.ensures ∙ e))
+    (c.in-Err-write_end.ensures.written file (c.in_default-write_frames.ensures.bytes ∙ later))))
 
 pub returns-in-Ok-clause-written : goal.returns-in-Ok-clause-written
 returns-in-Ok-clause-written g c file told is =

@@ -11,6 +11,7 @@ pub returns-clause-written : goal.returns-clause-written
 returns-clause-written g c file told =
     subst
     (λ w. MatchResult c.pass_chunks.result
-    (λ _. Adds w (g.K.Sink.written c.args.sink.now) (g.K.Sink.written c.pass_chunks.new.sink) (g.K.Sink.room c.args.sink.now) (g.K.Sink.room c.pass_chunks.new.sink))
+    (λ _. Adds w (g.K.Sink.written c.args.sink.now) (g.K.Sink.written c.pass_chunks.new.sink) (g.K.Sink.room c.args.sink.now)
+    (g.K.Sink.room c.pass_chunks.new.sink))
     (λ fault. Stops (fault ≡ CopyFault.Write) w (g.K.Sink.written c.args.sink.now) (g.K.Sink.written c.pass_chunks.new.sink) (g.K.Sink.room c.args.sink.now)))
     (side_is c.args.side file (coded_seen c.args.cut.now.form)) (c.pass_chunks.ensures.written file told)

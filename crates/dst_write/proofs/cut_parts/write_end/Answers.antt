@@ -20,7 +20,8 @@ returns-in_default-clause-written g c file told =
     let P = CopyFault.Write ≡ CopyFault.Write in
     stops_first P (index ++ k) (behind file form) _ _ _
     (stops_first P index k _ _ _
-    (stops_for (Unit {0}) P index _ _ _ (λ e. tt {0}) (stops_same (Unit {0}) _ index _ _ _ (ap (λ n. dsti (entries_left cut.index cut.first cut.last n)) place) c.in_default.ensures.written)))
+    (stops_for (Unit {0}) P index _ _ _ (λ e. tt {0})
+    (stops_same (Unit {0}) _ index _ _ _ (ap (λ n. dsti (entries_left cut.index cut.first cut.last n)) place) c.in_default.ensures.written)))
 
 pub returns-in_default-write_kept-clause-written : goal.returns-in_default-write_kept-clause-written
 returns-in_default-write_kept-clause-written g c file told =
@@ -47,5 +48,6 @@ returns-clause-written g c file told =
     let index = dsti (entries_left cut.index cut.first cut.last (first_at file form)) in
     let k = kept form cut.first cut.last in
     side_then c.pass_side.result (index ++ k) (behind file form) _ _ _ _ _ _
-    (adds_then index k _ _ _ _ _ _ (adds_same _ index _ _ _ _ (ap (λ n. dsti (entries_left cut.index cut.first cut.last n)) place) c.in-Ok.ensures.written) c.in-Ok-write_kept.ensures.written)
+    (adds_then index k _ _ _ _ _ _ (adds_same _ index _ _ _ _ (ap (λ n. dsti (entries_left cut.index cut.first cut.last n)) place)
+    c.in-Ok.ensures.written) c.in-Ok-write_kept.ensures.written)
     (c.pass_side.ensures.written file told)

@@ -69,4 +69,5 @@ returns-clause-written g c =
     let cut = c.args.cut.now in
     let a = are_cut_out (coded_seen cut.form) cut.index cut.first cut.last cut.form.lawful cut.fits cut.order cut.there in
     let long = length-left (coded_seen cut.form) cut.index cut.first cut.last c.args.place cut.order a.long in
-    all_parts entry_bytes (entries_left cut.index cut.first cut.last c.args.place) c.loop-k.k _ _ _ _ (omega (arith, long, c.count-k-end.ensures.count, c.loop-k-test.false)) c.loop-k.invariant.written
+    all_parts entry_bytes (entries_left cut.index cut.first cut.last c.args.place) c.loop-k.k _ _ _ _
+    (omega (arith, long, c.count-k-end.ensures.count, c.loop-k-test.false)) c.loop-k.invariant.written

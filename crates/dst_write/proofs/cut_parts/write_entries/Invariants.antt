@@ -7,5 +7,6 @@ use Rattle.dst_write.proofs.cut_parts.write_entries.Given as goal
 abbrev pub invariant-loop-k : goal.invariant-loop-k
 invariant-loop-k g l = record {
   later : g.K.Sink.faults l.initial.sink ≤ g.K.Sink.faults l.sink;
-  written : Adds (index_bytes (take l.k (entries_left l.cut.index l.cut.first l.cut.last l.place))) (g.K.Sink.written l.initial.sink) (g.K.Sink.written l.sink) (g.K.Sink.room l.initial.sink) (g.K.Sink.room l.sink);
+  written : Adds (index_bytes (take l.k (entries_left l.cut.index l.cut.first l.cut.last l.place))) (g.K.Sink.written l.initial.sink)
+      (g.K.Sink.written l.sink) (g.K.Sink.room l.initial.sink) (g.K.Sink.room l.sink);
 }

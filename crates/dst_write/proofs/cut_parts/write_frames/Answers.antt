@@ -33,7 +33,8 @@ returns-in-Err-clause-written g c file told =
     let bytes = between file c.begins.result c.ends.result in
     stops_first P _ _ _ _ _
     (stops_same P bytes _ _ _ _ (ap₂ (between file) c.begins.ensures c.ends.ensures)
-    (copied_short c.in-Err.fault bytes (c.ends.result - c.begins.result) _ _ _ (length-between file c.begins.result c.ends.result order fits) (c.in-Err.ensures.cut_short file told) c.in-Err.ensures.taken))
+    (copied_short c.in-Err.fault bytes (c.ends.result - c.begins.result) _ _ _ (length-between file c.begins.result c.ends.result order fits)
+    (c.in-Err.ensures.cut_short file told) c.in-Err.ensures.taken))
 
 pub returns-in-Ok-clause-written : goal.returns-in-Ok-clause-written
 returns-in-Ok-clause-written g c file told =
@@ -45,7 +46,8 @@ returns-in-Ok-clause-written g c file told =
     let bytes = between file c.begins.result c.ends.result in
     adds_then _ _ _ _ _ _ _ _
     (adds_same bytes _ _ _ _ _ (ap₂ (between file) c.begins.ensures c.ends.ensures)
-    (copied_whole bytes (c.ends.result - c.begins.result) _ _ _ _ (length-between file c.begins.result c.ends.result order fits) (c.in_default.ensures.copied file told) c.in_default.ensures.sure))
+    (copied_whole bytes (c.ends.result - c.begins.result) _ _ _ _ (length-between file c.begins.result c.ends.result order fits)
+    (c.in_default.ensures.copied file told) c.in_default.ensures.sure))
     (adds_same (padding c.sound_size.result) _ _ _ _ _ (ap padding c.sound_size.ensures.size) c.in-Ok.ensures.written)
 
 pub returns-in-Err-write_pad-clause-written : goal.returns-in-Err-write_pad-clause-written
@@ -59,6 +61,7 @@ returns-in-Err-write_pad-clause-written g c file told =
     let bytes = between file c.begins.result c.ends.result in
     stops_then P _ _ _ _ _ _ _
     (adds_same bytes _ _ _ _ _ (ap₂ (between file) c.begins.ensures c.ends.ensures)
-    (copied_whole bytes (c.ends.result - c.begins.result) _ _ _ _ (length-between file c.begins.result c.ends.result order fits) (c.in_default.ensures.copied file told) c.in_default.ensures.sure))
+    (copied_whole bytes (c.ends.result - c.begins.result) _ _ _ _ (length-between file c.begins.result c.ends.result order fits)
+    (c.in_default.ensures.copied file told) c.in_default.ensures.sure))
     (stops_same P (padding c.sound_size.result) _ _ _ _ (ap padding c.sound_size.ensures.size)
     (stops_for (Unit {0}) P (padding c.sound_size.result) _ _ _ (λ e. tt {0}) c.in-Err-write_pad.ensures.written))

@@ -17,7 +17,8 @@ returns-in_default-clause-written g c file told =
     let P = CopyFault.Write ≡ CopyFault.Write in
     let opening = codes "FRM8" ++ big_bytes 8 c.form_size.result ++ codes "DSD " in
     let sound = sound_opening cut.index form cut.first cut.last in
-    stops_same P (opening ++ before file form ++ sound) _ _ _ _ (ap (λ n. (codes "FRM8" ++ big_bytes 8 n ++ codes "DSD ") ++ before file form ++ sound) (c.form_size.ensures file fits))
+    stops_same P (opening ++ before file form ++ sound) _ _ _ _
+    (ap (λ n. (codes "FRM8" ++ big_bytes 8 n ++ codes "DSD ") ++ before file form ++ sound) (c.form_size.ensures file fits))
     (stops_first P (opening ++ before file form) sound _ _ _
     (stops_first P opening (before file form) _ _ _
     (stops_for (Unit {0}) P opening _ _ _ (λ e. tt {0}) c.in_default.ensures.written)))
@@ -31,7 +32,8 @@ returns-in-Err-clause-written g c file told =
     let P = c.in-Err.fault ≡ CopyFault.Write in
     let opening = codes "FRM8" ++ big_bytes 8 c.form_size.result ++ codes "DSD " in
     let sound = sound_opening cut.index form cut.first cut.last in
-    stops_same P (opening ++ before file form ++ sound) _ _ _ _ (ap (λ n. (codes "FRM8" ++ big_bytes 8 n ++ codes "DSD ") ++ before file form ++ sound) (c.form_size.ensures file fits))
+    stops_same P (opening ++ before file form ++ sound) _ _ _ _
+    (ap (λ n. (codes "FRM8" ++ big_bytes 8 n ++ codes "DSD ") ++ before file form ++ sound) (c.form_size.ensures file fits))
     (stops_first P (opening ++ before file form) sound _ _ _
     (stops_then P opening (before file form) _ _ _ _ _ c.in-Ok.ensures.written (c.in-Err.ensures.written file told)))
 
@@ -43,7 +45,8 @@ returns-in-Ok-write_sound_opening-clause-written g c file told =
     let fits : cut.form.end ≤ length file = omega (arith, known, c.requires.size.2) in
     let opening = codes "FRM8" ++ big_bytes 8 c.form_size.result ++ codes "DSD " in
     let sound = sound_opening cut.index form cut.first cut.last in
-    adds_same (opening ++ before file form ++ sound) _ _ _ _ _ (ap (λ n. (codes "FRM8" ++ big_bytes 8 n ++ codes "DSD ") ++ before file form ++ sound) (c.form_size.ensures file fits))
+    adds_same (opening ++ before file form ++ sound) _ _ _ _ _
+    (ap (λ n. (codes "FRM8" ++ big_bytes 8 n ++ codes "DSD ") ++ before file form ++ sound) (c.form_size.ensures file fits))
     (adds_then (opening ++ before file form) sound _ _ _ _ _ _
     (adds_then opening (before file form) _ _ _ _ _ _ c.in-Ok.ensures.written (c.in_default-pass_side.ensures.written file told))
     c.in-Ok-write_sound_opening.ensures.written)
@@ -57,7 +60,8 @@ returns-in-Err-write_sound_opening-clause-written g c file told =
     let P = CopyFault.Write ≡ CopyFault.Write in
     let opening = codes "FRM8" ++ big_bytes 8 c.form_size.result ++ codes "DSD " in
     let sound = sound_opening cut.index form cut.first cut.last in
-    stops_same P (opening ++ before file form ++ sound) _ _ _ _ (ap (λ n. (codes "FRM8" ++ big_bytes 8 n ++ codes "DSD ") ++ before file form ++ sound) (c.form_size.ensures file fits))
+    stops_same P (opening ++ before file form ++ sound) _ _ _ _
+    (ap (λ n. (codes "FRM8" ++ big_bytes 8 n ++ codes "DSD ") ++ before file form ++ sound) (c.form_size.ensures file fits))
     (stops_then P (opening ++ before file form) sound _ _ _ _ _
     (adds_then opening (before file form) _ _ _ _ _ _ c.in-Ok.ensures.written (c.in_default-pass_side.ensures.written file told))
     (stops_for (Unit {0}) P sound _ _ _ (λ e. tt {0}) c.in-Err-write_sound_opening.ensures.written))

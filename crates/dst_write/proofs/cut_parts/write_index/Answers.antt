@@ -17,7 +17,8 @@ returns-in_default-clause-written g c =
     let a = are_cut_out (coded_seen cut.form) cut.index cut.first cut.last cut.form.lawful cut.fits cut.order cut.there in
     let es = entries_left cut.index cut.first cut.last c.args.place in
     let head = codes "DSTI" ++ big_bytes 8 (12 * c.from.result) in
-    let long : length es ≡ c.from.result = omega (arith, length-left (coded_seen cut.form) cut.index cut.first cut.last c.args.place cut.order a.long, c.count.ensures.count, c.from.ensures) in
+    let long : length es ≡ c.from.result = omega
+    (arith, length-left (coded_seen cut.form) cut.index cut.first cut.last c.args.place cut.order a.long, c.count.ensures.count, c.from.ensures) in
     stops_same (Unit {0}) (head ++ index_bytes es) _ _ _ _ (index_is es c.from.result long)
     (stops_first (Unit {0}) head (index_bytes es) _ _ _ (cut_off _ head _ _ _ _ c.in_default.ensures.sure c.in_default.ensures.written))
 
@@ -27,6 +28,8 @@ returns-clause-written g c =
     let a = are_cut_out (coded_seen cut.form) cut.index cut.first cut.last cut.form.lawful cut.fits cut.order cut.there in
     let es = entries_left cut.index cut.first cut.last c.args.place in
     let head = codes "DSTI" ++ big_bytes 8 (12 * c.from.result) in
-    let long : length es ≡ c.from.result = omega (arith, length-left (coded_seen cut.form) cut.index cut.first cut.last c.args.place cut.order a.long, c.count.ensures.count, c.from.ensures) in
+    let long : length es ≡ c.from.result = omega
+    (arith, length-left (coded_seen cut.form) cut.index cut.first cut.last c.args.place cut.order a.long, c.count.ensures.count, c.from.ensures) in
     call_same c.write_entries.result (head ++ index_bytes es) _ _ _ _ _ (index_is es c.from.result long)
-    (call_then c.write_entries.result head (index_bytes es) _ _ _ _ _ _ (added _ head _ _ _ _ c.in-Ok.ensures.sure c.in-Ok.ensures.written) c.write_entries.ensures.written)
+    (call_then c.write_entries.result head (index_bytes es) _ _ _ _ _ _ (added _ head _ _ _ _ c.in-Ok.ensures.sure c.in-Ok.ensures.written)
+    c.write_entries.ensures.written)

@@ -18,5 +18,7 @@ returns-in_default-clause-written g c =
 pub returns-clause-written : goal.returns-clause-written
 returns-clause-written g c =
     let head = codes "DST " ++ big_bytes 8 c.sound_size.result in
-    call_same c.write_frte.result (head ++ frte c.count.result) _ _ _ _ _ (ap₂ (λ s n. codes "DST " ++ big_bytes 8 s ++ frte n) c.sound_size.ensures.size c.count.ensures.count)
-    (then_appended c.write_frte.result head (frte c.count.result) _ _ _ _ _ _ (added _ head _ _ _ _ c.in-Ok.ensures.sure c.in-Ok.ensures.written) c.write_frte.ensures.written c.write_frte.ensures.sure)
+    call_same c.write_frte.result (head ++ frte c.count.result) _ _ _ _ _
+    (ap₂ (λ s n. codes "DST " ++ big_bytes 8 s ++ frte n) c.sound_size.ensures.size c.count.ensures.count)
+    (then_appended c.write_frte.result head (frte c.count.result) _ _ _ _ _ _ (added _ head _ _ _ _ c.in-Ok.ensures.sure c.in-Ok.ensures.written)
+    c.write_frte.ensures.written c.write_frte.ensures.sure)

@@ -71,7 +71,8 @@ returns-clause-stored g c =
     (g.K.Sink.written c.write_encoded.new.sink) (g.K.Sink.room c.args.sink.now)) (sym (c.in-Ok.ensures.opened file told))
     (c.write_encoded.ensures.written file (c.in-Ok.ensures.bytes ∙ told)))
 
-ends_with : (r : Result Encoded EncodeFault) (fault : EncodeFault) (picks : Picks) (file : List ℕ) (seen form : Form) (old new : Option (List ℕ)) (room : Option ℕ) → r ≡ Err fault → form ≡ seen →
+ends_with : (r : Result Encoded EncodeFault) (fault : EncodeFault) (picks : Picks) (file : List ℕ) (seen form : Form) (old new : Option (List ℕ))
+    (room : Option ℕ) → r ≡ Err fault → form ≡ seen →
     EncodingEnds r picks file seen old new room → EncodingEnds (Err fault) picks file form old new room
 ends_with r fault picks file seen form old new room e is h =
     subst (λ form. EncodingEnds (Err fault) picks file form old new room) (sym is) (subst (λ r. EncodingEnds r picks file seen old new room) e h)

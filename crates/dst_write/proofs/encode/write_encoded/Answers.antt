@@ -73,7 +73,14 @@ write_sizes-requires-clause-appended g c =
     some_file c.args.form.now.end _
     (λ file fits.
     let before = c.side_length-before.ensures.length file fits in
-    omega (arith, before, length-front file form, c.in_default.ensures.appended file fits, c.in_default-write_frames.ensures.appended, c.in_default-write_end.ensures.appended))
+    omega (
+      arith,
+      before,
+      length-front file form,
+      c.in_default.ensures.appended file fits,
+      c.in_default-write_frames.ensures.appended,
+      c.in_default-write_end.ensures.appended,
+    ))
 
 pub returns-in-Ok-clause-written : goal.returns-in-Ok-clause-written
 returns-in-Ok-clause-written g c file told =

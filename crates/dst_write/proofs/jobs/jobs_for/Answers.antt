@@ -9,5 +9,6 @@ pub loop-preserved : goal.loop-preserved
 loop-preserved c = record {
   long = omega (arith, c.in_ok-push.ensures.len, c.loop.invariant.long);
   lawful = λ some. c.in_ok-new.ensures.lawful;
-  shapes = rw c.in_ok-push.ensures.items (All-push (λ j. shape_of_job j ≡ shape_number c.args.channels) c.loop.jobs.items c.in_ok-new.field-0 c.loop.invariant.shapes c.in_ok-new.ensures.shape);
+  shapes = rw c.in_ok-push.ensures.items (All-push (λ j. shape_of_job j ≡ shape_number c.args.channels) c.loop.jobs.items c.in_ok-new.field-0
+      c.loop.invariant.shapes c.in_ok-new.ensures.shape);
 }

@@ -3,4 +3,10 @@ use Rattle.dst_write.proofs.sizes.form_size.Goals as goal
 
 pub returns : goal.returns
 returns c file fits =
-    omega (arith, c.side_length-before.ensures.length file fits, c.side_length-behind.ensures.length file fits, c.sound_size.ensures.size, c.kept_size.ensures.size)
+    omega (
+      arith,
+      c.side_length-before.ensures.length file fits,
+      c.side_length-behind.ensures.length file fits,
+      c.sound_size.ensures.size,
+      c.kept_size.ensures.size,
+    )

@@ -33,7 +33,13 @@ returns-in-Err-take_sound-clause-fault g c =
     (c.min-length.ensures ∙ ap₂ min c.left-left.ensures (c.len.ensures ∙ sym c.deref.ensures.len))
     ∙ ap (take (s.row.size - s.row.taken)) c.deref.ensures.value in
     record {
-      same = record { lent = c.in-Err-take_sound.ensures.lent; form_is = c.in-Err-take_sound.ensures.form; size_is = c.in-Err-take_sound.ensures.size; later = c.take_sound.ensures.cause.later };
+      same = record {
+        lent = c.in-Err-take_sound.ensures.lent;
+        form_is = c.in-Err-take_sound.ensures.form;
+        size_is =
+            c.in-Err-take_sound.ensures.size;
+        later = c.take_sound.ensures.cause.later;
+      };
       ends = record {
         tail = c.in_default.field-0;
         answer = c.in_default.is;

@@ -7,4 +7,10 @@ use Rattle.dst_write.proofs.cut_form.CutForm.chunks.Goals as goal
 pub returns : goal.returns
 returns c file =
     let self = c.args.self.now in
-    omega (arith, count_is file (coded_seen self.form) self.first self.last, c.chunks_count-before.ensures.count, c.chunks_count-behind.ensures.count, c.kept_count.ensures.count)
+    omega (
+      arith,
+      count_is file (coded_seen self.form) self.first self.last,
+      c.chunks_count-before.ensures.count,
+      c.chunks_count-behind.ensures.count,
+      c.kept_count.ensures.count,
+    )

@@ -12,7 +12,8 @@ returns-then-form_size-gt-LARGEST_FORM c file fits is =
     let form = coded_seen self.form in
     let a = are_cut_out form self.index self.first self.last self.form.lawful self.fits self.order self.there in
     let size = size_is self.index file form self.first self.last self.order is a fits in
-    sym (large_fault (cut_chunks file form self.first self.last) (omega (arith, c.chunks.ensures file, c.if-chunks-gt-MOST_CHUNKS.false)) (omega (arith, c.form_size.ensures file fits, size, c.if-form_size-gt-LARGEST_FORM.true)))
+    sym (large_fault (cut_chunks file form self.first self.last) (omega (arith, c.chunks.ensures file, c.if-chunks-gt-MOST_CHUNKS.false))
+    (omega (arith, c.form_size.ensures file fits, size, c.if-form_size-gt-LARGEST_FORM.true)))
 
 pub returns-else-form_size-gt-LARGEST_FORM : goal.returns-else-form_size-gt-LARGEST_FORM
 returns-else-form_size-gt-LARGEST_FORM c file fits is =
@@ -20,4 +21,5 @@ returns-else-form_size-gt-LARGEST_FORM c file fits is =
     let form = coded_seen self.form in
     let a = are_cut_out form self.index self.first self.last self.form.lawful self.fits self.order self.there in
     let size = size_is self.index file form self.first self.last self.order is a fits in
-    sym (none_fault (cut_chunks file form self.first self.last) (omega (arith, c.chunks.ensures file, c.if-chunks-gt-MOST_CHUNKS.false)) (omega (arith, c.form_size.ensures file fits, size, c.if-form_size-gt-LARGEST_FORM.false)))
+    sym (none_fault (cut_chunks file form self.first self.last) (omega (arith, c.chunks.ensures file, c.if-chunks-gt-MOST_CHUNKS.false))
+    (omega (arith, c.form_size.ensures file fits, size, c.if-form_size-gt-LARGEST_FORM.false)))

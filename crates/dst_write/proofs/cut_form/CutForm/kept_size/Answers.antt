@@ -10,4 +10,5 @@ pub returns-in-Some-clause-size : goal.returns-in-Some-clause-size
 returns-in-Some-clause-size c =
     let self = c.args.self.now in
     let form = coded_seen self.form in
-    length-kept_by form self.first self.last form.origin (origin_seen c.in-Some.origin) c.as_slice.result.now (ap (option_map origin_seen) c.in-Some.is) c.as_slice.ensures
+    length-kept_by form self.first self.last form.origin (origin_seen c.in-Some.origin) c.as_slice.result.now
+    (ap (option_map origin_seen) c.in-Some.is) c.as_slice.ensures

@@ -16,7 +16,8 @@ overflow_sub-result c =
     let whole : sound_bytes_of form ≡ c.sound_bytes-whole.result = ap sound_bytes self.form.shape ∙ sym c.sound_bytes-whole.ensures.bytes in
     let need = sound_is_needed form self.form.lawful refl (omega (arith, whole, c.sound_bytes-whole.ensures.least)) in
     let first : self.first < self.form.frames = omega (arith, self.order, self.there) in
-    let size : size_of_sound form ≡ c.args.origin.now.sound = coded_size form refl ∙ ap (λ k. plain_size (option_map origin_seen k) (form.frames * sound_bytes_of form)) c.requires in
+    let size : size_of_sound form ≡ c.args.origin.now.sound = coded_size form refl
+    ∙ ap (λ k. plain_size (option_map origin_seen k) (form.frames * sound_bytes_of form)) c.requires in
     let before = need.reached self.first first in
     let from : c.from.result ≡ self.first = omega (arith, c.from.ensures) in
     let same : c.sound_bytes-whole.result * c.from.result ≡ self.first * sound_bytes_of form =

@@ -7,7 +7,12 @@ use Rattle.dst_write.proofs.cut_form.CutForm.sound_size.Goals as goal
 pub overflow_sub-result : goal.overflow_sub-result
 overflow_sub-result c =
     let self = c.args.self.now in
-    omega (arith, c.begins.ensures, c.ends.ensures, (are_cut_out (coded_seen self.form) self.index self.first self.last self.form.lawful self.fits self.order self.there).order)
+    omega (
+      arith,
+      c.begins.ensures,
+      c.ends.ensures,
+      (are_cut_out (coded_seen self.form) self.index self.first self.last self.form.lawful self.fits self.order self.there).order,
+    )
 
 pub returns-clause-most : goal.returns-clause-most
 returns-clause-most c =

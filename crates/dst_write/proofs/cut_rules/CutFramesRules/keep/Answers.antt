@@ -15,7 +15,8 @@ returns-in-Some-fault-clause-stops g c file told =
     let end : end_of c.args.form ≡ walked.form.end = ap end_of c.in-Ok.ensures.coded ∙ ap (λ (f : CodedForm). f.end) (sym same) in
     let fits : walked.form.end ≤ length file = omega (arith, known, c.requires.size.2, end) in
     let is : entries file (coded_seen walked.form) ≡ walked.index = ap (λ f. entries file (coded_seen f)) same ∙ c.in-Ok-walk_form.ensures.entries file told in
-    chunks_asked file c.args.form c.in-Ok.form walked.form self.first self.last _ c.in-Ok.ensures.coded same (c.in-Ok-walk_form.ensures.passes file told) (sym c.range_fault.ensures ∙ c.in_default.is)
+    chunks_asked file c.args.form c.in-Ok.form walked.form self.first self.last _ c.in-Ok.ensures.coded same
+    (c.in-Ok-walk_form.ensures.passes file told) (sym c.range_fault.ensures ∙ c.in_default.is)
     (sym c.in-Some-fault.is ∙ c.fault.ensures file fits is)
 
 pub returns-in-None-clause-passes : goal.returns-in-None-clause-passes
@@ -27,5 +28,6 @@ returns-in-None-clause-passes g c file told =
     let end : end_of c.args.form ≡ walked.form.end = ap end_of c.in-Ok.ensures.coded ∙ ap (λ (f : CodedForm). f.end) (sym same) in
     let fits : walked.form.end ≤ length file = omega (arith, known, c.requires.size.2, end) in
     let is : entries file (coded_seen walked.form) ≡ walked.index = ap (λ f. entries file (coded_seen f)) same ∙ c.in-Ok-walk_form.ensures.entries file told in
-    chunks_asked file c.args.form c.in-Ok.form walked.form self.first self.last _ c.in-Ok.ensures.coded same (c.in-Ok-walk_form.ensures.passes file told) (sym c.range_fault.ensures ∙ c.in_default.is)
+    chunks_asked file c.args.form c.in-Ok.form walked.form self.first self.last _ c.in-Ok.ensures.coded same
+    (c.in-Ok-walk_form.ensures.passes file told) (sym c.range_fault.ensures ∙ c.in_default.is)
     (sym c.in-None.is ∙ c.fault.ensures file fits is)

@@ -12,8 +12,17 @@ returns-clause-took g c =
     let old = c.args.self.now.sink.now in
     let new = c.write_frame.new.sink in
     record {
-      same = record { lent = refl; sizes_lent = refl; long = ap length c.note.ensures ∙ simp length-set; grows = c.in-Ok.ensures.grows; later = c.in-Ok.ensures.cause.later };
-      adds = subst (λ w. Adds (dstf w) (g.K.Sink.written old) (g.K.Sink.written new) (g.K.Sink.room old) (g.K.Sink.room new)) (ap (take size) c.deref.ensures.value)
-          (added (Ok c.in-Ok.field-0) (dstf (take size c.deref.result.now)) (g.K.Sink.written old) (g.K.Sink.written new) (g.K.Sink.room old) (g.K.Sink.room new) c.in-Ok.ensures.sure c.in-Ok.ensures.written);
+      same = record {
+        lent = refl;
+        sizes_lent = refl;
+        long = ap length c.note.ensures ∙ simp length-set;
+        grows = c.in-Ok.ensures.grows;
+        later =
+            c.in-Ok.ensures.cause.later;
+      };
+      adds = subst (λ w. Adds (dstf w) (g.K.Sink.written old) (g.K.Sink.written new) (g.K.Sink.room old) (g.K.Sink.room new))
+          (ap (take size) c.deref.ensures.value)
+          (added (Ok c.in-Ok.field-0) (dstf (take size c.deref.result.now)) (g.K.Sink.written old) (g.K.Sink.written new) (g.K.Sink.room old)
+          (g.K.Sink.room new) c.in-Ok.ensures.sure c.in-Ok.ensures.written);
       noted = c.note.ensures;
     }

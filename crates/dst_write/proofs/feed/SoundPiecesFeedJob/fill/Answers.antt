@@ -8,21 +8,31 @@ pub read_piece-requires-clause-size : goal.read_piece-requires-clause-size
 read_piece-requires-clause-size g c =
     let self = c.args.self.now in
     let job = c.args.job.now in
-    let can = can_fill (g.S.Source.known self.source.now) self.form.now.end job.size (length job.frame.items) (length job.sound.items) job.channels self.form.now.channels c.requires in
+    let can = can_fill (g.S.Source.known self.source.now) self.form.now.end job.size (length job.frame.items) (length job.sound.items) job.channels
+    self.form.now.channels c.requires in
     (can.bytes, can.known_is, can.inside)
 
 pub read_piece-requires-clause-room : goal.read_piece-requires-clause-room
 read_piece-requires-clause-room g c =
     let self = c.args.self.now in
     let job = c.args.job.now in
-    let can = can_fill (g.S.Source.known self.source.now) self.form.now.end job.size (length job.frame.items) (length job.sound.items) job.channels self.form.now.channels c.requires in
+    let can = can_fill (g.S.Source.known self.source.now) self.form.now.end job.size (length job.frame.items) (length job.sound.items) job.channels
+    self.form.now.channels c.requires in
     ap length c.deref_mut.ensures.value ∙ can.room.sound_long
 
 pub returns-clause-given : goal.returns-clause-given
 returns-clause-given g c =
     let whole = with_items_is c.args.job.now.sound c.read_piece.new.sound (c.read_piece.ensures.long ∙ c.deref_mut.ensures.len) in
     λ given. record {
-      same = record { lent = refl; form_is = refl; bytes_are = c.read_piece.ensures.bytes; size_is = c.read_piece.ensures.stays; loan_is = c.read_piece.ensures.loan; later = c.read_piece.ensures.cause.later };
+      same = record {
+        lent = refl;
+        form_is = refl;
+        bytes_are = c.read_piece.ensures.bytes;
+        size_is = c.read_piece.ensures.stays;
+        loan_is =
+            c.read_piece.ensures.loan;
+        later = c.read_piece.ensures.cause.later;
+      };
       next = refl;
       within = omega (arith, c.if-self.false);
       number = refl;

@@ -14,10 +14,19 @@ returns-clause-done g c =
     let long : length c.put_at_front.new.buffer ≡ length old.items = c.put_at_front.ensures.long ∙ ap length c.deref_mut.ensures.value in
     let whole = with_items_is old c.put_at_front.new.buffer (c.put_at_front.ensures.long ∙ c.deref_mut.ensures.len) in
     let front = ap (take (length kept)) whole ∙ c.put_at_front.ensures.front in
-    let room = room_for longest c.args.job.now.size (length old.items) (length c.args.job.now.sound.items) c.args.job.now.channels f c.args.self.now.few c.requires.job in
+    let room = room_for longest c.args.job.now.size (length old.items) (length c.args.job.now.sound.items) c.args.job.now.channels f
+    c.args.self.now.few c.requires.job in
     record {
       number = refl;
-      frame = front ∙ c.stored-stored.ensures.stored ∙ c.store_frame.ensures.stored ∙ ap (λ w. stored f w (g.P.Picker.picks c.args.self.now.picker.now w f)) c.deref.ensures.value;
+      frame = front ∙ c.stored-stored.ensures.stored ∙ c.store_frame.ensures.stored
+          ∙ ap (λ w. stored f w (g.P.Picker.picks c.args.self.now.picker.now w f)) c.deref.ensures.value;
       size = sym (ap length front);
-      short = omega (arith, long, room.frame_long, length-take (length kept) c.put_at_front.new.buffer, ap (λ (w : List ℕ). length w) c.put_at_front.ensures.front);
+      short = omega (
+        arith,
+        long,
+        room.frame_long,
+        length-take (length kept) c.put_at_front.new.buffer,
+        ap (λ (w : List ℕ). length w)
+            c.put_at_front.ensures.front,
+      );
     }

@@ -28,7 +28,8 @@ returns-in-Opened-clause-read c taken answered has =
     let old : HasRead (reading i.stage i.taken i.part i.frame i.version i.prop) taken answered = rw (← c.self.view_is) at has in
     let here : HasRead (reading (Opened c.in-Opened.sound c.in-Opened.place) i.taken i.part i.frame i.version i.prop) taken answered =
     rw c.in-Opened.is at old in
-    let kept : IsReader (reading (Opened c.in-Opened.sound c.in-Opened.place) i.taken i.part i.frame i.version i.prop) = rw c.in-Opened.is at c.self.invariant in
+    let kept : IsReader (reading (Opened c.in-Opened.sound c.in-Opened.place) i.taken i.part i.frame i.version i.prop) =
+    rw c.in-Opened.is at c.self.invariant in
     opened_read c.in-Opened.sound c.in-Opened.place i.taken i.part i.frame i.prop i.version taken answered c.sound_at-self-inside.result here
     (kept.empty refl) (kept.stands.whole refl) c.sound_at-self-inside.ensures.fresh c.sound_at-self-inside.ensures.no_frame
     c.sound_at-self-inside.ensures.tells c.sound_at-self-inside.ensures.answered c.sound_at-self-inside.ensures.goes_on

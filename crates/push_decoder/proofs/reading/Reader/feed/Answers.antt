@@ -32,7 +32,8 @@ returns-in-Some-pass_frame-clause-before c taken answered has =
     let here : HasRead c.answer.new.self (taken ++ take c.loop-answer.count c.args.piece.now) answered =
     rw c.in_default.ensures.same (c.loop-answer.invariant.read taken answered has) in
     before_more taken c.args.piece.now answered c.loop-answer.count c.in-Some-pass_frame.size (c.loop-answer.invariant.before taken answered has)
-    (rw (rest_of c.args.piece.now c.loop-answer.count) at (c.in-Some-pass_frame.ensures.before (taken ++ take c.loop-answer.count c.args.piece.now) answered here))
+    (rw (rest_of c.args.piece.now c.loop-answer.count) at
+    (c.in-Some-pass_frame.ensures.before (taken ++ take c.loop-answer.count c.args.piece.now) answered here))
 
 pub returns-in-Some-pass_frame-clause-event : goal.returns-in-Some-pass_frame-clause-event
 returns-in-Some-pass_frame-clause-event c taken answered has =
@@ -63,10 +64,12 @@ loop-answer-preserved c = record {
       rw (c.in_default-pass_frame.ensures.same, c.in_default.ensures.same) (c.loop-answer.invariant.read taken answered has) in
       let P : List ℕ → Type 0 = λ w. HasRead c.gather_some-count.new.self w answered in
       subst P (and_more taken c.args.piece.now c.loop-answer.count c.gather_some-count.result)
-      (rw (rest_of c.args.piece.now c.loop-answer.count) at (c.gather_some-count.ensures.read (taken ++ take c.loop-answer.count c.args.piece.now) answered here));
+      (rw (rest_of c.args.piece.now c.loop-answer.count) at
+      (c.gather_some-count.ensures.read (taken ++ take c.loop-answer.count c.args.piece.now) answered here));
   before = λ taken answered has.
       let here : HasRead c.pass_frame.new.self (taken ++ take c.loop-answer.count c.args.piece.now) answered =
       rw (c.in_default-pass_frame.ensures.same, c.in_default.ensures.same) (c.loop-answer.invariant.read taken answered has) in
       before_more taken c.args.piece.now answered c.loop-answer.count c.gather_some-count.result (c.loop-answer.invariant.before taken answered has)
-      (rw (rest_of c.args.piece.now c.loop-answer.count) at (c.gather_some-count.ensures.before (taken ++ take c.loop-answer.count c.args.piece.now) answered here));
+      (rw (rest_of c.args.piece.now c.loop-answer.count) at
+      (c.gather_some-count.ensures.before (taken ++ take c.loop-answer.count c.args.piece.now) answered here));
 }
