@@ -11,7 +11,7 @@ use Rattle.dst_pipes.specs.declared.faults.PipeFault.TheVariants.{Read, Write, M
 pub stops_moved : (fault : PipeFault) (taken piece : List ℕ) (m : ℕ) (old new : Option (List ℕ)) (room left : Option ℕ) →
     StopsBy fault (taken ++ take m piece) (drop m piece) old new room left → StopsBy fault taken piece old new room left
 stops_moved Read taken piece m old new room left s = s
-stops_moved Memory taken piece m old new room left s = s
+stops_moved (Memory refused) taken piece m old new room left s = s
 stops_moved Write taken piece m old new room left s =
     record {
       count = m + s.count;

@@ -31,7 +31,7 @@ split_at taken piece later n =
 pub piece_stops : (fault : PipeFault) (taken piece later : List ℕ) (old new : Option (List ℕ)) (room left : Option ℕ) → AreBytes (taken ++ (piece ++ later)) →
     StopsBy fault taken piece old new room left → PipeEnds (Err fault) (taken ++ (piece ++ later)) old new room
 piece_stops Read taken piece later old new room left bytes s = absurd s
-piece_stops Memory taken piece later old new room left bytes s = s
+piece_stops (Memory refused) taken piece later old new room left bytes s = s
 piece_stops Write taken piece later old new room left bytes s =
     let same = split_at taken piece later s.count in
     subst (λ w. PipeEnds (Err Write) w old new room) (sym same) (ends_in_writing taken piece (drop s.count piece ++ later) old new room s (subst AreBytes same bytes))

@@ -1,6 +1,7 @@
 -- What a step leaves, by what its event asks for.
 use Rattle.std.proofs.Common.{◌≡◌, ℕ, ◌+◌, ◌-◌, ◌<◌, List, [], ◌∷◌, ◌++◌, take, Option, Some, None, Result, Ok, Err, refl, sym, ap, subst, ◌∙◌, arith, length-append, append-nil, append_assoc}
 use Rattle.std.specs.List.{AllZip, concat}
+use Rattle.std.specs.declared.alloc.AllocError.{AllocError}
 use Rattle.dst_spec.specs.Means.{Means}
 use Rattle.dst_spec.specs.Offends.{Offends}
 use Rattle.dst_spec.specs.Sample.{IsShape}
@@ -67,7 +68,7 @@ pub begun_stops : (fault : PipeFault) (front : Front) (taken piece : List ℕ) (
     StandsFor d (taken ++ take n piece) (begun front []) → Wrote nothing_answered old here room half → HasBegun (Err fault) front here new half left →
     StopsBy fault taken piece old new room left
 begun_stops Read front taken piece n d old here new room half left stands wrote b = b
-begun_stops Memory front taken piece n d old here new room half left stands wrote b = b ∙ wrote.0
+begun_stops (Memory refused) front taken piece n d old here new room half left stands wrote b = b ∙ wrote.0
 begun_stops (File fault) front taken piece n d old here new room half left stands wrote b = absurd b
 begun_stops (Frame k fault) front taken piece n d old here new room half left stands wrote b = absurd b
 begun_stops Write front taken piece n d old here new room half left stands wrote b =
@@ -171,7 +172,7 @@ pub sound_stops : (answer : Result ℕ FrameFault) (fault : PipeFault) (taken pi
     (old here new : Option (List ℕ)) (room half left : Option ℕ) → Wrote answered old here room half →
     SoundEnds answer (Err fault) t.work_is later here new half left → StopsBy fault taken piece old new room left
 sound_stops (Ok tail) Read taken piece n answered d work later t old here new room half left wrote ends = ends
-sound_stops (Ok tail) Memory taken piece n answered d work later t old here new room half left wrote ends = absurd ends
+sound_stops (Ok tail) (Memory refused) taken piece n answered d work later t old here new room half left wrote ends = absurd ends
 sound_stops (Ok tail) (File f) taken piece n answered d work later t old here new room half left wrote ends = absurd ends
 sound_stops (Ok tail) (Frame k f) taken piece n answered d work later t old here new room half left wrote ends = absurd ends
 sound_stops (Ok tail) Write taken piece n answered d work later t old here new room half left wrote ends =
@@ -189,7 +190,7 @@ sound_stops (Ok tail) Write taken piece n answered d work later t old here new r
     }
 sound_stops (Err f) Read taken piece n answered d work later t old here new room half left wrote ends = ends
 sound_stops (Err f) Write taken piece n answered d work later t old here new room half left wrote ends = absurd ends
-sound_stops (Err f) Memory taken piece n answered d work later t old here new room half left wrote ends = absurd ends
+sound_stops (Err f) (Memory refused) taken piece n answered d work later t old here new room half left wrote ends = absurd ends
 sound_stops (Err f) (File g) taken piece n answered d work later t old here new room half left wrote ends = absurd ends
 sound_stops (Err f) (Frame k g) taken piece n answered d work later t old here new room half left wrote (number, same, told, held) =
     let before = wrote_before (taken ++ take n piece) answered (Err f) d work t old here room half wrote in
@@ -206,16 +207,16 @@ sound_stops (Err f) (Frame k g) taken piece n answered d work later t old here n
     }
 
 pub sound_no_device : (answer : Result ℕ FrameFault) (fault : PipeFault) (m : Work) (later : Option Work) (here new : Option (List ℕ)) (half left : Option ℕ) →
-    SoundEnds answer (Err fault) m later here new half left → (fault ≡ Read → ⊥) × (fault ≡ Memory → ⊥)
-sound_no_device (Ok tail) Write m later here new half left ends = (λ e. absurd cc, λ e. absurd cc)
+    SoundEnds answer (Err fault) m later here new half left → (fault ≡ Read → ⊥) × ((refused : AllocError) → fault ≡ Memory refused → ⊥)
+sound_no_device (Ok tail) Write m later here new half left ends = (λ e. absurd cc, λ refused e. absurd cc)
 sound_no_device (Ok tail) Read m later here new half left ends = absurd ends
-sound_no_device (Ok tail) Memory m later here new half left ends = absurd ends
+sound_no_device (Ok tail) (Memory refused) m later here new half left ends = absurd ends
 sound_no_device (Ok tail) (File f) m later here new half left ends = absurd ends
 sound_no_device (Ok tail) (Frame k f) m later here new half left ends = absurd ends
-sound_no_device (Err g) (Frame k f) m later here new half left ends = (λ e. absurd cc, λ e. absurd cc)
+sound_no_device (Err g) (Frame k f) m later here new half left ends = (λ e. absurd cc, λ refused e. absurd cc)
 sound_no_device (Err g) Write m later here new half left ends = absurd ends
 sound_no_device (Err g) Read m later here new half left ends = absurd ends
-sound_no_device (Err g) Memory m later here new half left ends = absurd ends
+sound_no_device (Err g) (Memory refused) m later here new half left ends = absurd ends
 sound_no_device (Err g) (File f) m later here new half left ends = absurd ends
 
 -- ---- where nothing is decoded in, nothing was before

@@ -27,7 +27,7 @@ PipeEnds (Err (File fault)) w old new room = (out : List ℕ) × Writes w (strea
 PipeEnds (Err (Frame k fault)) w old new room = (out : List ℕ) × Writes w (frame_refused k fault out) old new
 PipeEnds (Err Read) w old new room = IsStoppedShort w old new
 PipeEnds (Err Write) w old new room = IsStoppedShort w old new × LacksRoom w room
-PipeEnds (Err Memory) w old new room = new ≡ old
+PipeEnds (Err (Memory refused)) w old new room = new ≡ old
 
 -- devices fail by their own cause
 abbrev pub HasItsCause : PipeFault → (flow_before flow_now sink_before sink_now : ℕ) → Type 0

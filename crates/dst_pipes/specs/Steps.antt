@@ -79,7 +79,7 @@ pub record FrontIsTold (front : Front) (channels multiple frames : ℕ) (d : Pus
 abbrev pub HasBegun : Result Work PipeFault → Front → (old new : Option (List ℕ)) → (room left : Option ℕ) → Type 0
 HasBegun (Ok m) front old new room left = WorksFor front 0 m × Adds (head_of front) old new room left
 HasBegun (Err failing.Write) front old new room left = Stops (Unit {0}) (head_of front) old new room
-HasBegun (Err failing.Memory) front old new room left = (new ≡ old)
+HasBegun (Err (failing.Memory refused)) front old new room left = (new ≡ old)
 HasBegun (Err fault) front old new room left = ⊥
 
 -- the sound of a frame is written, or its fault told
@@ -120,7 +120,7 @@ pub record StopsInWriting (taken piece : List ℕ) (old new : Option (List ℕ))
 abbrev pub StopsBy : PipeFault → List ℕ → List ℕ → (old new : Option (List ℕ)) → (room left : Option ℕ) → Type 0
 StopsBy failing.Read taken piece old new room left = ⊥
 StopsBy failing.Write taken piece old new room left = StopsInWriting taken piece old new room
-StopsBy failing.Memory taken piece old new room left = new ≡ old
+StopsBy (failing.Memory refused) taken piece old new room left = new ≡ old
 StopsBy (failing.File fault) taken piece old new room left = StopsAtFault fault taken piece old new room left
 StopsBy (failing.Frame k fault) taken piece old new room left = StopsAtFrame k fault taken piece old new room left
 

@@ -1,6 +1,7 @@
 // What decoding a stream answers.
 use dsdiff_spec::FileFault;
 use dst_num::FrameFault;
+use std::alloc::AllocError;
 
 /// A stream was decoded: how many frames it has, and the bytes of their sound.
 #[derive(Clone, Copy, Debug, PartialEq, Eq)]
@@ -16,8 +17,8 @@ pub enum PipeFault {
     Read,
     /// The sink failed.
     Write,
-    /// Memory was refused, before the first call on the sink.
-    Memory,
+    /// Memory was refused by the allocator, before the first call on the sink.
+    Memory(AllocError),
     /// The stream breaks a rule, or ends too early; what the fault means is told at `FileFault`.
     File(FileFault),
     /// A frame offends; it is told by its number, from 0.

@@ -1,5 +1,6 @@
 // A piece of a stream, decoded.
 ghost use Rattle.std.specs.Prelude.{◌≡◌, ◌≤◌, ℕ, List, Option, None, Err, IfOk};
+ghost use Rattle.std.specs.declared.alloc.AllocError.{AllocError};
 ghost use Rattle.dst_streams.specs.Causes.{Rose};
 ghost use Rattle.push_decoder.specs.Decoder.{StandsFor};
 ghost use Rattle.push_decoder.specs.Events.{Answered};
@@ -26,7 +27,7 @@ pub(crate) fn decode_piece<K: Sink>(
     ensures later { K.faults sink.old ≤ K.faults sink.new }
     ensures write { result ≡ Err PipeFault.Write → Rose (K.faults sink.old) (K.faults sink.new) }
     ensures no_read { result ≡ Err PipeFault.Read → ⊥ }
-    ensures memory { result ≡ Err PipeFault.Memory → (work.old ≡ None) × (sink.new ≡ sink.old) }
+    ensures memory { (refused : AllocError) → result ≡ Err (PipeFault.Memory refused) → (work.old ≡ None) × (sink.new ≡ sink.old) }
     ensures untouched { IfOk result (λ _. work.new ≡ None → (sink.new ≡ sink.old) × (work.old ≡ None)) }
     ensures ends { (taken : List ℕ) (answered : Answered) → StandsFor decoder.old taken answered → Works answered work.old →
         (old : Option (List ℕ)) (room : Option ℕ) → Wrote answered old (K.written sink.old) room (K.room sink.old) →

@@ -1,5 +1,6 @@
 // A stream, decoded.
 ghost use Rattle.std.specs.Prelude.{◌≡◌, ◌⊎◌, ◌+◌, ◌*◌, ◌≤◌, ◌<◌, ◌^◌, ℕ, List, [], ◌∷◌, ◌++◌, length, true, Option, Some, None, IsOk, IfOk, IfErr, Err, Ok};
+ghost use Rattle.std.specs.declared.alloc.AllocError.{AllocError};
 ghost use Rattle.dst_spec.specs.declared.faults.FrameFault.{FrameFault};
 ghost use Rattle.dst_streams.specs.Causes.{Rose};
 ghost use Rattle.dst_streams.specs.Told.{IsCutShort, and_then};
@@ -58,13 +59,15 @@ pub fn decode_pipe<F: Flow, K: Sink>(
     ensures sure { result ≡ Err PipeFault.Write → (w : List ℕ) → F.left flow.old ≡ Some w → (o : Answer) → StreamOutcome w o →
         (room : ℕ) → K.room sink.old ≡ Some room → length o.out ≤ room → ⊥ }
     // want of memory, before anything is written
-    ensures memory { result ≡ Err PipeFault.Memory → sink.new ≡ sink.old }
+    ensures memory { (refused : AllocError) → result ≡ Err (PipeFault.Memory refused) → sink.new ≡ sink.old }
 {
-    let Ok(mut decoder) = PushDecoder::new(alloc) else {
-        return Err(PipeFault::Memory);
+    let mut decoder = match PushDecoder::new(alloc) {
+        Ok(decoder) => decoder,
+        Err(refused) => return Err(PipeFault::Memory(refused)),
     };
-    let Ok(mut buffer) = vec![in alloc; 0; BUFFER] else {
-        return Err(PipeFault::Memory);
+    let mut buffer = match vec![in alloc; 0; BUFFER] {
+        Ok(buffer) => buffer,
+        Err(refused) => return Err(PipeFault::Memory(refused)),
     };
     run(alloc, flow, &mut decoder, buffer.as_mut_slice(), sink)
 }
@@ -78,12 +81,12 @@ fn run<F: Flow, K: Sink>(
     sink: &mut K,
 ) -> Result<Piped, PipeFault>
     requires fresh { StandsFor decoder.old [] nothing_answered }
-    requires room { 0 < length buffer.old }
+    requires room { length buffer.old ≡ 65536 }
     ensures flow_later { F.faults flow.old ≤ F.faults flow.new }
     ensures sink_later { K.faults sink.old ≤ K.faults sink.new }
     ensures cause { IfErr result (λ fault. HasItsCause fault (F.faults flow.old) (F.faults flow.new) (K.faults sink.old) (K.faults sink.new)) }
     ensures settled { IfOk result (λ _. K.settled sink.new ≡ true) }
-    ensures memory { result ≡ Err PipeFault.Memory → sink.new ≡ sink.old }
+    ensures memory { (refused : AllocError) → result ≡ Err (PipeFault.Memory refused) → sink.new ≡ sink.old }
     ensures ends { (w : List ℕ) → F.left flow.old ≡ Some w → PipeEnds result w (K.written sink.old) (K.written sink.new) (K.room sink.old) }
 {
     let mut work = None;

@@ -1,5 +1,6 @@
 // One step of a stream: its next event, and what it asks for.
 ghost use Rattle.std.specs.Prelude.{◌≡◌, ◌+◌, ◌-◌, ◌≤◌, ◌<◌, ℕ, List, length, Option, Some, None, IfOk, IfErr, Err, Ok};
+ghost use Rattle.std.specs.declared.alloc.AllocError.{AllocError};
 ghost use Rattle.dst_streams.specs.Causes.{Rose};
 ghost use Rattle.push_decoder.specs.Decoder.{StandsFor};
 ghost use Rattle.push_decoder.specs.Events.{Answered};
@@ -92,7 +93,7 @@ pub(crate) fn decode_step<K: Sink>(
     ensures later { K.faults sink.old ≤ K.faults sink.new }
     ensures write { result ≡ Err PipeFault.Write → Rose (K.faults sink.old) (K.faults sink.new) }
     ensures no_read { result ≡ Err PipeFault.Read → ⊥ }
-    ensures memory { result ≡ Err PipeFault.Memory → (work.old ≡ None) × (sink.new ≡ sink.old) }
+    ensures memory { (refused : AllocError) → result ≡ Err (PipeFault.Memory refused) → (work.old ≡ None) × (sink.new ≡ sink.old) }
     ensures untouched { IfOk result (λ _. work.new ≡ None → (sink.new ≡ sink.old) × (work.old ≡ None)) }
     ensures ends { (taken : List ℕ) (answered : Answered) → StandsFor decoder.old taken answered → Works answered work.old →
         (old : Option (List ℕ)) (room : Option ℕ) → Wrote answered old (K.written sink.old) room (K.room sink.old) →
@@ -133,7 +134,7 @@ fn begin<K: Sink>(
     requires head { (front : Front) × FrontIsTold front told.0 told.1 told.2 decoder.now }
     ensures later { K.faults sink.old ≤ K.faults sink.new }
     ensures write { result ≡ Err PipeFault.Write → Rose (K.faults sink.old) (K.faults sink.new) }
-    ensures memory { result ≡ Err PipeFault.Memory → sink.new ≡ sink.old }
+    ensures memory { (refused : AllocError) → result ≡ Err (PipeFault.Memory refused) → sink.new ≡ sink.old }
     ensures fewer { IfOk result (λ m. m.told - m.decoded < 1000002) }
     ensures begun { (front : Front) → FrontIsTold front told.0 told.1 told.2 decoder.now → HasBegun result front (K.written sink.old) (K.written sink.new) (K.room sink.old) (K.room sink.new) }
 {
@@ -141,8 +142,9 @@ fn begin<K: Sink>(
     let Some(channels) = Channels::at(channels, multiple) else {
         unreachable!()
     };
-    let Ok(work) = Work::new(alloc, channels, frames) else {
-        return Err(PipeFault::Memory);
+    let work = match Work::new(alloc, channels, frames) {
+        Ok(work) => work,
+        Err(refused) => return Err(PipeFault::Memory(refused)),
     };
     let sound = u64::from(frames) * channels.sound_bytes() as u64;
     match write_front(sink, decoder.version(), decoder.prop(), sound) {

@@ -2,6 +2,7 @@
 use Rattle.std.proofs.Common.{◌≡◌, ◌⊎◌, inl, inr, ℕ, ◌<◌, ◌≤◌, List, [], ◌∷◌, length, Option, Some, Result, Ok, Err, Bool, true, false, refl, sym, ap}
 use Rattle.std.proofs.Common.{subst, ◌∙◌, arith}
 use Rattle.std.specs.Prelude.{IfOk}
+use Rattle.std.specs.declared.alloc.AllocError.{AllocError}
 use Rattle.dst_spec.specs.declared.faults.FrameFault.{FrameFault}
 use Rattle.dst_streams.specs.Told.{and_then, IsCutShort}
 use Rattle.dst_spec.specs.Bits.{AreBytes}
@@ -31,11 +32,11 @@ pub ends_of : (a : Result Piped PipeFault) (flow old new : Option (List ℕ)) (r
     × StreamOutcome w (frame_refused k fault out) × (new ≡ and_then old out)) →
     ((a ≡ Err Read) ⊎ (a ≡ Err Write) → (w : List ℕ) → flow ≡ Some w → (o : Answer) × StreamOutcome w o × IsCutShort old o.out new) →
     (a ≡ Err Write → (w : List ℕ) → flow ≡ Some w → (o : Answer) → StreamOutcome w o → (n : ℕ) → room ≡ Some n → length o.out ≤ n → ⊥) →
-    (a ≡ Err Memory → new ≡ old) → (w : List ℕ) → flow ≡ Some w → PipeEnds a w old new room
+    ((refused : AllocError) → a ≡ Err (Memory refused) → new ≡ old) → (w : List ℕ) → flow ≡ Some w → PipeEnds a w old new room
 ends_of (Ok s) flow old new room ok file frame short lacks memory w told = (let e = ok w told in (e.0, (e.1, e.2)))
 ends_of (Err Read) flow old new room ok file frame short lacks memory w told = short (inl refl) w told
 ends_of (Err Write) flow old new room ok file frame short lacks memory w told = (short (inr refl) w told, lacks refl w told)
-ends_of (Err Memory) flow old new room ok file frame short lacks memory w told = memory refl
+ends_of (Err (Memory refused)) flow old new room ok file frame short lacks memory w told = memory refused refl
 ends_of (Err (File fault)) flow old new room ok file frame short lacks memory w told = (let e = file fault refl w told in (e.0, (e.1, e.2)))
 ends_of (Err (Frame k fault)) flow old new room ok file frame short lacks memory w told = (let e = frame k fault refl w told in (e.0, (e.1, e.2)))
 
@@ -45,7 +46,7 @@ pub ends_by : (a : Result Piped PipeFault) (w : List ℕ) (old new : Option (Lis
 ends_by (Ok s) w old new room e = inr (inr (inr (done e.0 (decoded_line s.frames s.bytes ∷ []), e.1.0, refl, refl, e.1.1)))
 ends_by (Err Read) w old new room e = inl (refl, refl, e)
 ends_by (Err Write) w old new room e = inr (inl (refl, refl, e.0))
-ends_by (Err Memory) w old new room e = inr (inr (inl (refl, refl, refl, e)))
+ends_by (Err (Memory refused)) w old new room e = inr (inr (inl (refl, refl, refl, e)))
 ends_by (Err (File fault)) w old new room e = inr (inr (inr (stream_refused fault e.0, e.1.0, refl, refl, e.1.1)))
 ends_by (Err (Frame k fault)) w old new room e = inr (inr (inr (frame_refused k fault e.0, e.1.0, refl, refl, e.1.1)))
 
@@ -55,7 +56,7 @@ pub ends_as : (a : Result Piped PipeFault) (w : List ℕ) (old new : Option (Lis
 ends_as (Ok s) w old new room e read write = inr (done e.0 (decoded_line s.frames s.bytes ∷ []), e.1.0, refl, refl, e.1.1)
 ends_as (Err Read) w old new room e read write = absurd (read refl)
 ends_as (Err Write) w old new room e read write = absurd (write refl)
-ends_as (Err Memory) w old new room e read write = inl refl
+ends_as (Err (Memory refused)) w old new room e read write = inl refl
 ends_as (Err (File fault)) w old new room e read write = inr (stream_refused fault e.0, e.1.0, refl, refl, e.1.1)
 ends_as (Err (Frame k fault)) w old new room e read write = inr (frame_refused k fault e.0, e.1.0, refl, refl, e.1.1)
 
@@ -64,7 +65,7 @@ pub read_of : (a : Result Piped PipeFault) → status_of a ≡ 2 → a ≡ Err R
 read_of (Ok s) e = absurd cc
 read_of (Err Read) e = refl
 read_of (Err Write) e = absurd cc
-read_of (Err Memory) e = absurd cc
+read_of (Err (Memory refused)) e = absurd cc
 read_of (Err (File fault)) e = absurd cc
 read_of (Err (Frame k fault)) e = absurd cc
 
@@ -72,15 +73,15 @@ pub write_of : (a : Result Piped PipeFault) → status_of a ≡ 3 → a ≡ Err 
 write_of (Ok s) e = absurd cc
 write_of (Err Read) e = absurd cc
 write_of (Err Write) e = refl
-write_of (Err Memory) e = absurd cc
+write_of (Err (Memory refused)) e = absurd cc
 write_of (Err (File fault)) e = absurd cc
 write_of (Err (Frame k fault)) e = absurd cc
 
-pub memory_of : (a : Result Piped PipeFault) → status_of a ≡ 4 → a ≡ Err Memory
+pub memory_of : (a : Result Piped PipeFault) → status_of a ≡ 4 → (refused : AllocError) × (a ≡ Err (Memory refused))
 memory_of (Ok s) e = absurd cc
 memory_of (Err Read) e = absurd cc
 memory_of (Err Write) e = absurd cc
-memory_of (Err Memory) e = refl
+memory_of (Err (Memory refused)) e = (refused, refl)
 memory_of (Err (File fault)) e = absurd cc
 memory_of (Err (Frame k fault)) e = absurd cc
 
@@ -88,7 +89,7 @@ pub file_of : (a : Result Piped PipeFault) → status_of a ≡ 5 → (fault : Fi
 file_of (Ok s) e = absurd cc
 file_of (Err Read) e = absurd cc
 file_of (Err Write) e = absurd cc
-file_of (Err Memory) e = absurd cc
+file_of (Err (Memory refused)) e = absurd cc
 file_of (Err (File fault)) e = (fault, refl)
 file_of (Err (Frame k fault)) e = absurd cc
 
@@ -96,7 +97,7 @@ pub frame_of : (a : Result Piped PipeFault) → status_of a ≡ 6 → (k : ℕ) 
 frame_of (Ok s) e = absurd cc
 frame_of (Err Read) e = absurd cc
 frame_of (Err Write) e = absurd cc
-frame_of (Err Memory) e = absurd cc
+frame_of (Err (Memory refused)) e = absurd cc
 frame_of (Err (File fault)) e = absurd cc
 frame_of (Err (Frame k fault)) e = (k, fault, refl)
 
@@ -104,7 +105,7 @@ pub settled_of : (a : Result Piped PipeFault) (P : Type 0) → status_of a ≡ 0
 settled_of (Ok s) P e p = p
 settled_of (Err Read) P e p = absurd cc
 settled_of (Err Write) P e p = absurd cc
-settled_of (Err Memory) P e p = absurd cc
+settled_of (Err (Memory refused)) P e p = absurd cc
 settled_of (Err (File fault)) P e p = absurd cc
 settled_of (Err (Frame k fault)) P e p = absurd cc
 
@@ -112,7 +113,7 @@ pub status_most : (a : Result Piped PipeFault) → status_of a ≤ 6
 status_most (Ok s) = omega arith
 status_most (Err Read) = omega arith
 status_most (Err Write) = omega arith
-status_most (Err Memory) = omega arith
+status_most (Err (Memory refused)) = omega arith
 status_most (Err (File fault)) = omega arith
 status_most (Err (Frame k fault)) = omega arith
 
@@ -120,7 +121,7 @@ pub never_one : (a : Result Piped PipeFault) → status_of a ≡ 1 → ⊥
 never_one (Ok s) e = absurd cc
 never_one (Err Read) e = absurd cc
 never_one (Err Write) e = absurd cc
-never_one (Err Memory) e = absurd cc
+never_one (Err (Memory refused)) e = absurd cc
 never_one (Err (File fault)) e = absurd cc
 never_one (Err (Frame k fault)) e = absurd cc
 

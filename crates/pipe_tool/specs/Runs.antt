@@ -22,7 +22,7 @@ abbrev pub status_of : Result Piped PipeFault → ℕ
 status_of (Ok s) = 0
 status_of (Err Read) = 2
 status_of (Err Write) = 3
-status_of (Err Memory) = 4
+status_of (Err (Memory refused)) = 4
 status_of (Err (File fault)) = 5
 status_of (Err (Frame k fault)) = 6
 
@@ -30,7 +30,7 @@ abbrev pub line_of : Result Piped PipeFault → Line
 line_of (Ok s) = decoded_line s.frames s.bytes
 line_of (Err Read) = read_fault_line
 line_of (Err Write) = write_fault_line
-line_of (Err Memory) = memory_line
+line_of (Err (Memory refused)) = memory_line
 line_of (Err (File fault)) = file_line fault
 line_of (Err (Frame k fault)) = frame_fault_line k fault
 

@@ -88,7 +88,7 @@ fn told(answer: Result<Piped, PipeFault>) -> (u8, lines::Line)
         Ok(Piped { frames, bytes }) => (0, lines::decoded(frames, bytes)),
         Err(PipeFault::Read) => (2, lines::read_fault()),
         Err(PipeFault::Write) => (3, lines::write_fault()),
-        Err(PipeFault::Memory) => (4, lines::memory()),
+        Err(PipeFault::Memory(_)) => (4, lines::memory()),
         Err(PipeFault::File(fault)) => (5, lines::file_refused(fault)),
         Err(PipeFault::Frame { frame, fault }) => (6, lines::frame_refused(frame, fault)),
     }

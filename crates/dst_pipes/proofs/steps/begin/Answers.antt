@@ -66,11 +66,11 @@ returns-in-Ok-write_front-clause-begun g c front told =
       adds_same _ _ _ _ _ _ head c.in-Ok-write_front.ensures.written,
     )
 
-pub returns-in-Err-clause-begun : goal.returns-in-Err-clause-begun
-returns-in-Err-clause-begun g c front told =
+pub returns-in-Err-write_front-clause-begun : goal.returns-in-Err-write_front-clause-begun
+returns-in-Err-write_front-clause-begun g c front told =
     let shape = c.in-Some.ensures.value ∙ told.shape in
     let sound : c.from.result * c.sound_bytes.result ≡ front.frames * sound_bytes (shape_in front.prop) =
     ap₂ (λ a b. a * b) (c.from.ensures ∙ told.told) (c.sound_bytes.ensures.bytes ∙ ap sound_bytes shape) in
     let head = head_told front c.version.result.now c.prop.result.now _ (c.version.ensures told.taken front [] told.stands)
     (c.prop.ensures told.taken front [] told.stands) sound in
-    stops_same (Unit {0}) _ _ _ _ _ head c.in-Err.ensures.written
+    stops_same (Unit {0}) _ _ _ _ _ head c.in-Err-write_front.ensures.written

@@ -71,10 +71,10 @@ returns-in-Err-begin-clause-no_read g c e =
     begun_no_read c.in-Err-begin.fault t.front _ _ _ _ (c.in-Err-begin.ensures.begun t.front (told_of _ _ _ _ _ _ _ t)) cc
 
 pub returns-in-Err-begin-clause-memory : goal.returns-in-Err-begin-clause-memory
-returns-in-Err-begin-clause-memory g c e =
+returns-in-Err-begin-clause-memory g c refused e =
     let r = c.requires.ready in
     let t = rw c.in-Head.is at (c.in-Ok.ensures.took r.taken r.answered r.stands r.works) in
-    (subst (λ a. Works a c.args.work.now) t.nothing r.works, c.in-Err-begin.ensures.memory cc)
+    (subst (λ a. Works a c.args.work.now) t.nothing r.works, c.in-Err-begin.ensures.memory refused cc)
 
 pub returns-in-Err-begin-clause-ends : goal.returns-in-Err-begin-clause-ends
 returns-in-Err-begin-clause-ends g c taken answered has works old room wrote =
@@ -101,10 +101,10 @@ returns-in-Err-write_sound-clause-no_read g c e =
     (sound_no_device c.in-Frame.answer c.in-Err-write_sound.fault t.work_is _ _ _ _ _ (c.in-Err-write_sound.ensures.sound t.work_is t.some)).0 cc
 
 pub returns-in-Err-write_sound-clause-memory : goal.returns-in-Err-write_sound-clause-memory
-returns-in-Err-write_sound-clause-memory g c e =
+returns-in-Err-write_sound-clause-memory g c refused e =
     let r = c.requires.ready in
     let t = rw c.in-Frame.is at (c.in-Ok.ensures.took r.taken r.answered r.stands r.works) in
-    absurd ((sound_no_device c.in-Frame.answer c.in-Err-write_sound.fault t.work_is _ _ _ _ _ (c.in-Err-write_sound.ensures.sound t.work_is t.some)).1 cc)
+    absurd ((sound_no_device c.in-Frame.answer c.in-Err-write_sound.fault t.work_is _ _ _ _ _ (c.in-Err-write_sound.ensures.sound t.work_is t.some)).1 refused cc)
 
 pub returns-in-Err-write_sound-clause-ends : goal.returns-in-Err-write_sound-clause-ends
 returns-in-Err-write_sound-clause-ends g c taken answered has works old room wrote =

@@ -41,7 +41,7 @@ returns-clause-headline g c w told flow sink report_quiet =
     let a = c.decode_pipe-answer in
     let b = sym c.is_pipe.ensures ∙ c.if-not-is_pipe.false in
     let ends = ends_of a.result _ _ _ _ a.ensures.decoded a.ensures.file a.ensures.frame a.ensures.cut_short a.ensures.sure
-    (λ e. ap g.K.Sink.written (a.ensures.memory e)) w told in
+    (λ refused e. ap g.K.Sink.written (a.ensures.memory refused e)) w told in
     let same = not_seven _ c.report_line-2.result _ _ c.report_line-2.ensures.reported c.report_line-2.ensures.cause report_quiet in
     headline_of _ a.result w c.report_line-2.result _ _ (g.R.Sink.written c.args.report.now) _ _ b ends (λ e. flow (a.ensures.read e))
     (λ e. sink (a.ensures.write e))
@@ -51,7 +51,7 @@ pub returns-clause-complete : goal.returns-clause-complete
 returns-clause-complete g c w told none flow sink report_quiet =
     let a = c.decode_pipe-answer in
     let ends = ends_of a.result _ _ _ _ a.ensures.decoded a.ensures.file a.ensures.frame a.ensures.cut_short a.ensures.sure
-    (λ e. ap g.K.Sink.written (a.ensures.memory e)) w told in
+    (λ refused e. ap g.K.Sink.written (a.ensures.memory refused e)) w told in
     let same = not_seven _ c.report_line-2.result _ _ c.report_line-2.ensures.reported c.report_line-2.ensures.cause report_quiet in
     complete_of _ a.result w c.report_line-2.result _ _ (g.R.Sink.written c.args.report.now) (g.R.Sink.written c.args.report.now) _ none ends
     (λ e. flow (a.ensures.read e)) (λ e. sink (a.ensures.write e)) (same ∙ c.told-status.ensures.status)
@@ -61,7 +61,7 @@ returns-clause-ends g c w told =
     let a = c.decode_pipe-answer in
     let b = sym c.is_pipe.ensures ∙ c.if-not-is_pipe.false in
     let ends = ends_of a.result _ _ _ _ a.ensures.decoded a.ensures.file a.ensures.frame a.ensures.cut_short a.ensures.sure
-    (λ e. ap g.K.Sink.written (a.ensures.memory e)) w told in
+    (λ refused e. ap g.K.Sink.written (a.ensures.memory refused e)) w told in
     let status = c.told-status.ensures.status in (
       status_of a.result,
       line_of a.result ∷ [],
