@@ -4,3 +4,4 @@ pub mod Before
 pub mod Upward
 pub mod Lanes
 pub mod Ones
+pub mod Pushed

@@ -3,3 +3,4 @@ pub mod Parts
 pub mod Upward
 pub mod RowSums
 pub mod SumsAhead
+pub mod Eight

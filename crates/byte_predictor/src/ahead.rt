@@ -10,8 +10,8 @@ use crate::row_filter::RowFilter;
 /// What the samples of a channel add to the predictions of those that follow, and the newest eight samples.
 #[derive(Drop)]
 pub struct Ahead {
-    lanes: [u16; 136],
-    newest: u8,
+    pub(crate) lanes: [u16; 136],
+    pub(crate) newest: u8,
 }
 
 impl Ahead {
@@ -84,7 +84,7 @@ impl Ahead {
 
 // Moves the lanes on by eight samples, and adds what these add.
 #[inline(always)]
-fn add_row(lanes: &mut [u16; 136], row: &[u16; 128])
+pub(crate) fn add_row(lanes: &mut [u16; 136], row: &[u16; 128])
     ensures long { length lanes.new ≡ 136 }
     ensures added { (lane : ℕ) → lane < 128 → get_or lanes.new lane 0 ≡ (get_or lanes.old (lane + 8) 0 + get_or row.now lane 0) % 65536 }
     ensures last { (lane : ℕ) → 128 ≤ lane → get_or lanes.new lane 0 ≡ get_or lanes.old lane 0 }

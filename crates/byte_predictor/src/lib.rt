@@ -27,10 +27,13 @@
 //!     ahead.take_byte(&rows);
 //! }
 //! ```
+//!
+//! `EightAhead` has the same of eight frames side by side, for loops over one sample of each.
 #![tactic(auto)]
 
 mod ahead;
 mod byte_filter;
+mod eight;
 mod history;
 pub mod laws;
 mod row_filter;
@@ -39,5 +42,6 @@ mod tests;
 
 pub use ahead::Ahead;
 pub use byte_filter::{ByteFilter, predict};
+pub use eight::EightAhead;
 pub use history::History;
 pub use row_filter::RowFilter;

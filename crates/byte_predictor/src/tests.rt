@@ -1,4 +1,4 @@
-use crate::{Ahead, ByteFilter, History, RowFilter, predict};
+use crate::{Ahead, ByteFilter, EightAhead, History, RowFilter, predict};
 use dst_num::FilterTable;
 use std::test::Fail;
 
@@ -82,6 +82,8 @@ fn sums_ahead_predict_what_the_tables_do(rt: HostRuntime) -> Result<(), Fail> {
         let filter = ByteFilter::build(&table);
         let mut history = History::fresh();
         let mut ahead = Ahead::fresh(&rows);
+        let mut eight = EightAhead::new();
+        eight.begin(5, &rows);
         for _ in 0..40 {
             for place in 0..8usize {
                 state = state.wrapping_mul(1_664_525).wrapping_add(1_013_904_223);
@@ -91,12 +93,18 @@ fn sums_ahead_predict_what_the_tables_do(rt: HostRuntime) -> Result<(), Fail> {
                     rows.prediction(ahead.upward(&rows, place)),
                     predict(&filter, &history)
                 );
+                assert_eq!(rt; eight.upward(5, &rows, place), ahead.upward(&rows, place));
                 history.push(sample);
                 ahead.push(sample);
+                let mut given = [2u16; 8];
+                given[5] = u16::from(sample);
+                eight.push(&given);
                 assert_eq!(rt; rows.prediction(early), predict(&filter, &history));
             }
             ahead.take_byte(&rows);
+            eight.take_byte(5, &rows);
             assert_eq!(rt; ahead.newest(), history.bytes()[0]);
+            assert_eq!(rt; eight.newest(5), ahead.newest());
         }
         assert!(rt; rows.size() <= 32768);
     }

@@ -15,9 +15,13 @@ use Rattle.arith_lanes.specs.Words.{IsWord}
 use Rattle.arith_lanes.specs.Lanes.{IsLane, IsKept, Begins, TakesSymbol, given_of, decoding_at, first_at, used_at, ahead_at}
 use Rattle.arith_lanes.specs.declared.lanes.ArithLanes.{ArithLanes}
 use Rattle.dst_frames.specs.Coded.{IsCodeOfSound}
+use Rattle.dst_frames.specs.Eight.{states_at, tables_at}
 use Rattle.dst_frames.specs.Batch.{HasBegun, IsDecoded, AreLanes, stored_in, code_at}
 use Rattle.dst_frames.specs.Running.{LaneDecoded}
-use Rattle.dst_frames.specs.declared.slots.Slot.{Slot}
+use Rattle.dst_frames.specs.declared.tables.ChannelTables.{ChannelTables}
+use Rattle.dst_frames.specs.declared.state.ChannelState.{ChannelState}
+use Rattle.dst_frames.specs.declared.eight.EightTables.{EightTables}
+use Rattle.dst_frames.specs.declared.eight.EightStates.{EightStates}
 use Rattle.dst_frames.specs.declared.stored.StoredFrame.{StoredFrame}
 use Rattle.dst_frames.specs.declared.stored.DecodedFrame.{DecodedFrame}
 use Rattle.dst_frames.proofs.Lanes.{one_of}
@@ -35,9 +39,9 @@ begins_kept s t n bytes place b k =
       stands = subst (λ d. StandsFor d []) (sym same) b.stands;
     }
 
-pub begun_kept : (f : Shape) (s t : ArithLanes) (n : ℕ) (bytes : List ℕ) (slot : Slot) (word : ℕ) → HasBegun f s n bytes slot word → IsKept s t n →
-    HasBegun f t n bytes slot word
-begun_kept f s t n bytes slot word b k = record {
+pub begun_kept : (f : Shape) (s t : ArithLanes) (n : ℕ) (bytes : List ℕ) (tables : List ChannelTables) (states : List ChannelState) (word : ℕ) →
+    HasBegun f s n bytes tables states word → IsKept s t n → HasBegun f t n bytes tables states word
+begun_kept f s t n bytes tables states word b k = record {
   params = b.params;
   place = b.place;
   begins = begins_kept s t n bytes b.place b.begins k;
@@ -51,16 +55,16 @@ begun_kept f s t n bytes slot word b k = record {
 
 -- the code of a frame that is decoded
 pub code_in_lane : ((d : Decoding) (pairs : List (Bool × ℕ)) → StandsFor d pairs → IsCodeOf (bits d.bytes) d.first pairs) →
-    (f : Shape) (s t u : ArithLanes) (n : ℕ) (bytes : List ℕ) (slot after : Slot) (word octets : ℕ) (symbol : Bool) (sound heard : List ℕ) →
-    (b : HasBegun f s n bytes slot word) → TakesSymbol s t n bytes (reserved_probability b.params) symbol →
-    f.channels ≡ length slot.tables.items → f.octets ≡ octets → LaneDecoded n 0 octets bytes t u slot after sound heard → first_at u n ≡ first_at t n →
+    (f : Shape) (s t u : ArithLanes) (n : ℕ) (bytes : List ℕ) (tables : List ChannelTables) (states after : List ChannelState) (word octets : ℕ) (symbol : Bool) (sound heard : List ℕ) →
+    (b : HasBegun f s n bytes tables states word) → TakesSymbol s t n bytes (reserved_probability b.params) symbol →
+    f.channels ≡ length tables → f.octets ≡ octets → LaneDecoded n 0 octets bytes t u tables states after sound heard → first_at u n ≡ first_at t n →
     IsCodeOfSound f b.params (bits bytes) b.place heard (used_at u n)
-code_in_lane law f s t u n bytes slot after word octets symbol sound heard b taken channels all decoded first =
+code_in_lane law f s t u n bytes tables states after word octets symbol sound heard b taken channels all decoded first =
     let P = b.params in
-    let begins = frame_begins f P symbol (reserved_probability P) sound (decoding_at t n bytes) slot.states.items refl
+    let begins = frame_begins f P symbol (reserved_probability P) sound (decoding_at t n bytes) states refl
     (taken.stands [] b.begins.stands) b.fresh in
     let whole = decoded f P symbol channels b.built begins in
-    let stands = frame_ends f P symbol octets heard (decoding_at u n bytes) after.states.items all whole in
+    let stands = frame_ends f P symbol octets heard (decoding_at u n bytes) after all whole in
     let place : first_at u n ≡ b.place = first ∙ taken.first ∙ b.begins.first_is in
     record {
       reserved = symbol;
@@ -79,14 +83,14 @@ answered f frame sound answer tail shape is means = rw is (record {
 })
 
 -- the lanes behind their reserved symbols
-pub begun_lanes : (f : Shape) (s t : ArithLanes) (frames : List StoredFrame) (slots : List Slot) (words given : List ℕ) → length frames ≤ 8 →
-    length slots ≡ length frames →
-    ((n : ℕ) (frame : StoredFrame) (other : Slot) → n < length frames →
-    HasBegun f s n (stored_in (get_or frames n frame)) (get_or slots n other) (get_or words n 0)) →
+pub begun_lanes : (f : Shape) (s t : ArithLanes) (frames : List StoredFrame) (eight : List EightTables) (rows : List EightStates) (words given : List ℕ) →
+    length frames ≤ 8 →
+    ((n : ℕ) (frame : StoredFrame) → n < length frames →
+    HasBegun f s n (stored_in (get_or frames n frame)) (tables_at eight n) (states_at rows n) (get_or words n 0)) →
     ((n : ℕ) → length frames ≤ n → n < 8 → Begins s n [] 0 × IsWord 1 (get_or words n 0)) →
     ((n p : ℕ) (bytes : List ℕ) → n < 8 → IsLane s n bytes → IsWord p (get_or words n 0) → 8 ≤ ahead_at s n → used_at s n ≤ 2 ^ 40 →
     (symbol : Bool) × (get_or given n 0 ≡ given_of (get_or words n 0) symbol) × TakesSymbol s t n bytes p symbol) → AreLanes t (code_at frames) (2 ^ 30)
-begun_lanes f s t frames slots words given few same begun empty taken = record {
+begun_lanes f s t frames eight rows words given few begun empty taken = record {
   lane = λ n h. (at n h (nat_lt n (length frames)) refl).0;
   used = λ n h. (at n h (nat_lt n (length frames)) refl).1;
 }
@@ -95,8 +99,7 @@ begun_lanes f s t frames slots words given few same begun empty taken = record {
     at n h true e =
         let lt = ltb-true n (length frames) e in
         let frame = one_of frames n lt in
-        let inside : n < length slots = omega arith in
-        let b = begun n frame (one_of slots n inside) lt in
+        let b = begun n frame lt in
         let k = taken n _ (stored_in (get_or frames n frame)) h b.begins.lane b.reserved (omega (arith, b.begins.ahead)) (omega (arith, b.begins.used_is)) in
         (subst (IsLane t n) (code_of frames n frame lt) k.2.lane, omega (arith, k.2.used, b.begins.used_is))
     at n h false e =

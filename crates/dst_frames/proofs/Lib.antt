@@ -8,7 +8,9 @@ pub mod Bytes
 pub mod Whole
 pub mod Frames
 pub mod Further
+pub mod OneOfEight
 pub mod Lanes
 pub mod Running
 pub mod LaneRows
 pub mod Begun
+pub mod Beginning

@@ -1,6 +1,6 @@
 -- Frames that are decoded side by side.
-use Rattle.std.specs.Prelude.{◌≡◌, ℕ, ◌+◌, ◌*◌, ◌/◌, ◌%◌, ◌<◌, ◌≤◌, ◌&&◌, nat_eq, nat_lt, ℤ, Bool, List, [], ◌∷◌, length, map, take, replicate}
-use Rattle.std.specs.Prelude.{get_or, set, Result, IfOk, IfErr}
+use Rattle.std.specs.Prelude.{◌≡◌, ℕ, ◌+◌, ◌*◌, ◌/◌, ◌%◌, ◌<◌, ◌≤◌, nat_eq, ℤ, Bool, List, [], ◌∷◌, length, map, take, replicate}
+use Rattle.std.specs.Prelude.{get_or, Result, IfOk, IfErr}
 use Rattle.dst_spec.specs.Bits.{bits}
 use Rattle.dst_spec.specs.Sample.{Shape}
 use Rattle.dst_spec.specs.Header.{Params, HasHeader, bit_of}
@@ -19,7 +19,6 @@ use Rattle.dst_frames.specs.Ready.{IsReady}
 use Rattle.dst_frames.specs.Underway.{IsNext}
 use Rattle.dst_frames.specs.declared.tables.ChannelTables.{ChannelTables}
 use Rattle.dst_frames.specs.declared.state.ChannelState.{ChannelState}
-use Rattle.dst_frames.specs.declared.slots.Slot.{Slot}
 use Rattle.dst_frames.specs.declared.stored.StoredFrame.{StoredFrame}
 
 -- the stored bytes of a frame
@@ -40,25 +39,16 @@ abbrev pub TakesSample : ChannelTables → ℕ → ChannelState → ChannelState
 TakesSample tables place before after sample = (filter : List ℤ) (probs samples : List ℕ) (half_prob : Bool) →
     IsBuilt filter probs half_prob tables → IsReady filter probs place samples before → IsReady filter probs (place + 1) (bit_of sample ∷ samples) after
 
--- one channel of a slot takes the sample that is 1 where 1 is given, and this is the word of the next one
-pub record SlotTakes (c place given : ℕ) (before after : Slot) (word : ℕ) : Type 0 where
-  pub tables : after.tables ≡ before.tables
-  pub state : ChannelState
-  pub states : after.states.items ≡ set before.states.items c state
-  pub takes : (table : ChannelTables) (other : ChannelState) →
-      TakesSample (get_or before.tables.items c table) place (get_or before.states.items c other) state (nat_eq given 1)
-  pub next_word : IsWordOf state.next word
+-- one channel of a frame takes the sample that is 1 where the low bit of what is given is 1, and this is the word of the next one
+pub record LaneTakes (place given : ℕ) (table : ChannelTables) (before after : ChannelState) (word : ℕ) : Type 0 where
+  pub takes : TakesSample table place before after (nat_eq (given % 2) 1)
+  pub next_word : IsWordOf after.next word
 
--- the next sample of one channel of a slot is decoded
-pub record SlotSteps (c place t : ℕ) (start : Bool) (before after : Slot) (old new : Decoding) (word : ℕ) : Type 0 where
-  pub tables : after.tables ≡ before.tables
-  pub state : ChannelState
-  pub states : after.states.items ≡ set before.states.items c state
+-- the next sample of one channel of a frame is decoded
+pub record LaneSteps (place : ℕ) (early : Bool) (table : ChannelTables) (before after : ChannelState) (old new : Decoding) (word : ℕ) : Type 0 where
   pub sample : Bool
-  pub next : (table : ChannelTables) (other : ChannelState) →
-      IsNext (get_or before.tables.items c table) place (start && nat_lt t (get_or before.tables.items c table).early) old new
-      (get_or before.states.items c other) state sample
-  pub next_word : IsWordOf state.next word
+  pub next : IsNext table place early old new before after sample
+  pub next_word : IsWordOf after.next word
 
 -- a lane of the same code that has used at most so many bits more
 pub record IsLaneFurther (old new : ArithLanes) (n : ℕ) (bytes : List ℕ) (most : ℕ) : Type 0 where
@@ -85,7 +75,8 @@ pub record IsDecoded (f : Shape) (frame sound : List ℕ) (answer : Result ℕ F
   pub no_sound : IfErr answer (λ _. (other : List ℕ) → Means f frame other → ⊥)
 
 -- what is known of a lane whose code begins: the parameters of its frame, and the word of the reserved symbol
-pub record HasBegun (f : Shape) (lanes : ArithLanes) (n : ℕ) (bytes : List ℕ) (slot : Slot) (word : ℕ) : Type 0 where
+pub record HasBegun (f : Shape) (lanes : ArithLanes) (n : ℕ) (bytes : List ℕ) (tables : List ChannelTables) (states : List ChannelState)
+    (word : ℕ) : Type 0 where
   pub params : Params
   pub place : ℕ
   pub begins : Begins lanes n bytes place
@@ -93,6 +84,6 @@ pub record HasBegun (f : Shape) (lanes : ArithLanes) (n : ℕ) (bytes : List ℕ
   pub header : HasHeader f.channels params (take place (bits bytes))
   pub first_bit : get_or (bits bytes) place 0 ≡ 0
   pub reserved : IsWord (reserved_probability params) word
-  pub built : AreBuilt f params slot.tables.items
+  pub built : AreBuilt f params tables
   pub fresh : (c : ℕ) (other : ChannelState) → c < f.channels →
-      IsReady (filter_of params c) (probs_of params c) 0 (samples_of (replicate 16 170)) (get_or slot.states.items c other)
+      IsReady (filter_of params c) (probs_of params c) 0 (samples_of (replicate 16 170)) (get_or states c other)

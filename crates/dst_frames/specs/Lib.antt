@@ -4,5 +4,6 @@ pub mod Tables
 pub mod Ready
 pub mod Underway
 pub mod Coded
+pub mod Eight
 pub mod Batch
 pub mod Running

@@ -1,27 +1,33 @@
 // Up to eight frames, decoded side by side.
-ghost use Rattle.std.specs.Prelude.{◌≡◌, ◌≢◌, true, false, ◌<◌, ◌≤◌, ◌+◌, ◌*◌, ◌^◌, ℕ, List, [], length, take, get_or, Ok, IfSome};
+ghost use Rattle.std.specs.Prelude.{◌≡◌, ◌≢◌, true, false, ◌<◌, ◌≤◌, ◌+◌, ◌*◌, ◌^◌, ℕ, List, [], length, take, get_or, replicate, Ok, IfSome};
 ghost use Rattle.dst_spec.specs.Bits.{bits};
 ghost use Rattle.dst_spec.specs.Sample.{Shape, sound_bytes};
 ghost use Rattle.dst_spec.specs.Header.{Params, HasHeader};
+ghost use Rattle.dst_spec.specs.Guess.{filter_of, probs_of};
 ghost use Rattle.dst_spec.specs.Means.{MeansWithTail};
+ghost use Rattle.byte_predictor.specs.Samples.{samples_of};
 ghost use Rattle.dst_spec.specs.Symbols.{reserved_probability as probability_of};
 ghost use Rattle.arith_lanes.specs.Words.{IsWord};
 ghost use Rattle.arith_lanes.specs.Lanes.{IsKept, Begins};
 ghost use Rattle.dst_frames.specs.Coded.{IsCodeOfSound};
-ghost use Rattle.dst_frames.specs.Batch.{IsDecoded, IsWordOf, HasBegun, stored_in};
-ghost use Rattle.dst_frames.specs.Running.{AreStored, AreWide, AreWords};
-ghost use Rattle.dst_frames.specs.declared.slots.Slot.{Slot};
+ghost use Rattle.dst_frames.specs.Tables.{IsBuilt, AreBuilt};
+ghost use Rattle.dst_frames.specs.Ready.{IsReady};
+ghost use Rattle.dst_frames.specs.Batch.{IsDecoded, IsWordOf, IsLaneFurther, AreLanes, HasBegun, stored_in, code_at};
+ghost use Rattle.dst_frames.specs.Eight.{state_in, states_at, tables_at};
+ghost use Rattle.dst_frames.specs.Running.{AreStored, AreEight, AreWords, LaneDecoded};
+ghost use Rattle.dst_frames.specs.declared.tables.ChannelTables.{ChannelTables};
 ghost use Rattle.dst_frames.specs.declared.state.ChannelState.{ChannelState};
 ghost use Rattle.dst_frames.specs.declared.stored.StoredFrame.{StoredFrame};
 ghost use Rattle.dst_frames.specs.declared.stored.DecodedFrame.{DecodedFrame};
 
 use crate::batch_scratch::BatchScratch;
-use crate::code::build_all;
+use crate::eight::{EightStates, EightTables};
 use crate::frame::{decode_with, unread};
 use crate::octets::decode_octets;
 use crate::reserved::reserved_probability;
-use crate::slots::Slot;
+use crate::state::ChannelState;
 use crate::stored::{DecodedFrame, StoredFrame};
+use crate::tables::ChannelTables;
 use arith_decoder::laws::decoded_code;
 use arith_lanes::{ArithLanes, word};
 use dst_num::{Channels, Params};
@@ -46,16 +52,18 @@ pub fn decode_batch(
     ensures long { (n : ℕ) (other : DecodedFrame) → n < length frames.now → length (get_or heard.new n other).sound.items ≡ sound_bytes channels }
     ensures channels { scratch.new.channels ≡ scratch.old.channels }
 {
-    let slots = scratch.slots.as_mut_slice();
-    let words = scratch.words.as_mut_slice();
-    decode_in_slots(frames, channels, slots, words, heard);
+    let eight = scratch.tables.as_mut_slice();
+    let rows = scratch.rows.as_mut_slice();
+    let states = scratch.states.as_mut_slice();
+    decode_within(frames, channels, eight, rows, states, heard);
 }
 
-fn decode_in_slots(
+fn decode_within(
     frames: &[StoredFrame],
     channels: Channels,
-    slots: &mut [Slot],
-    words: &mut [[u16; 8]],
+    eight: &mut [EightTables],
+    rows: &mut [EightStates],
+    states: &mut [ChannelState],
     heard: &mut [DecodedFrame],
 )
     requires few { length frames.now ≤ 8 }
@@ -63,39 +71,44 @@ fn decode_in_slots(
     requires stored { AreStored frames.now }
     requires frames { (n : ℕ) (other : StoredFrame) → n < length frames.now → (get_or frames.now n other).size ≤ 2 * (sound_bytes channels + 1) }
     requires sounds { (n : ℕ) (other : DecodedFrame) → n < length frames.now → length (get_or heard.old n other).sound.items ≡ sound_bytes channels }
-    requires slots { length slots.old ≡ 8 }
-    requires wide { AreWide slots.old channels.channels }
-    requires words { length words.old ≡ channels.channels }
+    requires eight { AreEight eight.old channels.channels }
+    requires rows { length rows.old ≡ channels.channels }
+    requires states { length states.old ≡ channels.channels }
     ensures decoded { (n : ℕ) (frame : StoredFrame) (other : DecodedFrame) → n < length frames.now
         → IsDecoded channels (stored_in (get_or frames.now n frame)) (get_or heard.new n other).sound.items (get_or heard.new n other).answer }
     ensures long { (n : ℕ) (other : DecodedFrame) → n < length frames.now → length (get_or heard.new n other).sound.items ≡ sound_bytes channels }
-    ensures wide { AreWide slots.new channels.channels }
+    ensures eight { AreEight eight.new channels.channels }
 {
-    if !decode_front(frames, channels, slots, words, heard) {
-        decode_each(frames, channels, slots, heard);
+    if !decode_front(frames, channels, eight, rows, heard) {
+        decode_each(frames, channels, &mut eight[0], states, heard);
     }
 }
 
-// Decodes frames one by one.
+// Decodes frames one by one, with the first tables.
 fn decode_each(
     frames: &[StoredFrame],
     channels: Channels,
-    slots: &mut [Slot],
+    first: &mut EightTables,
+    states: &mut [ChannelState],
     heard: &mut [DecodedFrame],
 )
     requires same { length heard.old ≡ length frames.now }
     requires stored { AreStored frames.now }
     requires frames { (n : ℕ) (other : StoredFrame) → n < length frames.now → (get_or frames.now n other).size ≤ 2 * (sound_bytes channels + 1) }
     requires sounds { (n : ℕ) (other : DecodedFrame) → n < length frames.now → length (get_or heard.old n other).sound.items ≡ sound_bytes channels }
-    requires slots { length slots.old ≡ 8 }
-    requires wide { AreWide slots.old channels.channels }
+    requires tables { length first.old.tables.items ≡ 8 }
+    requires few { channels.channels ≤ 6 }
+    requires states { length states.old ≡ channels.channels }
     ensures decoded { (n : ℕ) (frame : StoredFrame) (other : DecodedFrame) → n < length frames.now
         → IsDecoded channels (stored_in (get_or frames.now n frame)) (get_or heard.new n other).sound.items (get_or heard.new n other).answer }
     ensures long { (n : ℕ) (other : DecodedFrame) → n < length frames.now → length (get_or heard.new n other).sound.items ≡ sound_bytes channels }
-    ensures wide { AreWide slots.new channels.channels }
+    ensures tables { length first.new.tables.items ≡ 8 }
 {
+    let count = states.len();
+    let all = first.tables.as_mut_slice();
+    let tables = &mut all[..count];
     for n in 0..frames.len() {
-        decode_one(&frames[n], channels, &mut slots[0], &mut heard[n]);
+        decode_one(&frames[n], channels, tables, states, &mut heard[n]);
     }
 }
 
@@ -103,8 +116,8 @@ fn decode_each(
 fn decode_front(
     frames: &[StoredFrame],
     channels: Channels,
-    slots: &mut [Slot],
-    words: &mut [[u16; 8]],
+    eight: &mut [EightTables],
+    rows: &mut [EightStates],
     heard: &mut [DecodedFrame],
 ) -> bool
     requires few { length frames.now ≤ 8 }
@@ -112,48 +125,21 @@ fn decode_front(
     requires stored { AreStored frames.now }
     requires frames { (n : ℕ) (other : StoredFrame) → n < length frames.now → (get_or frames.now n other).size ≤ 2 * (sound_bytes channels + 1) }
     requires sounds { (n : ℕ) (other : DecodedFrame) → n < length frames.now → length (get_or heard.old n other).sound.items ≡ sound_bytes channels }
-    requires slots { length slots.old ≡ 8 }
-    requires wide { AreWide slots.old channels.channels }
-    requires words { length words.old ≡ channels.channels }
+    requires eight { AreEight eight.old channels.channels }
+    requires rows { length rows.old ≡ channels.channels }
     ensures decoded { result ≡ true → (n : ℕ) (frame : StoredFrame) (other : DecodedFrame) → n < length frames.now
         → IsDecoded channels (stored_in (get_or frames.now n frame)) (get_or heard.new n other).sound.items (get_or heard.new n other).answer }
     ensures long { (n : ℕ) (other : DecodedFrame) → n < length frames.now → length (get_or heard.new n other).sound.items ≡ sound_bytes channels }
     ensures left { result ≡ false → heard.new ≡ heard.old }
-    ensures wide { AreWide slots.new channels.channels }
+    ensures eight { AreEight eight.new channels.channels }
 {
-    let count = frames.len();
-    if count < 3 {
+    if frames.len() < 3 {
         return false;
     }
-    decode_beside(frames, channels, &mut slots[..count], words, heard)
-}
-
-// Decodes frames side by side, each in its slot. Gives false, and decodes none, where one of them is plain or refused.
-fn decode_beside(
-    frames: &[StoredFrame],
-    channels: Channels,
-    slots: &mut [Slot],
-    words: &mut [[u16; 8]],
-    heard: &mut [DecodedFrame],
-) -> bool
-    requires few { length frames.now ≤ 8 }
-    requires same { length heard.old ≡ length frames.now }
-    requires stored { AreStored frames.now }
-    requires frames { (n : ℕ) (other : StoredFrame) → n < length frames.now → (get_or frames.now n other).size ≤ 2 * (sound_bytes channels + 1) }
-    requires sounds { (n : ℕ) (other : DecodedFrame) → n < length frames.now → length (get_or heard.old n other).sound.items ≡ sound_bytes channels }
-    requires slots { length slots.old ≡ length frames.now }
-    requires wide { AreWide slots.old channels.channels }
-    requires words { length words.old ≡ channels.channels }
-    ensures decoded { result ≡ true → (n : ℕ) (frame : StoredFrame) (other : DecodedFrame) → n < length frames.now
-        → IsDecoded channels (stored_in (get_or frames.now n frame)) (get_or heard.new n other).sound.items (get_or heard.new n other).answer }
-    ensures long { (n : ℕ) (other : DecodedFrame) → n < length frames.now → length (get_or heard.new n other).sound.items ≡ sound_bytes channels }
-    ensures left { result ≡ false → heard.new ≡ heard.old }
-    ensures wide { AreWide slots.new channels.channels }
-{
     let mut lanes = ArithLanes::new();
-    match begin_all(frames, channels, &mut lanes, slots) {
+    match begin_all(frames, channels, &mut lanes, eight, rows) {
         Some(reserved) => {
-            decode_lanes(frames, channels, &mut lanes, slots, words, heard, &reserved);
+            decode_lanes(frames, channels, &mut lanes, eight, rows, heard, &reserved);
             true
         }
         None => false,
@@ -161,19 +147,21 @@ fn decode_beside(
 }
 
 // Decodes a frame alone.
-fn decode_one(frame: &StoredFrame, channels: Channels, slot: &mut Slot, heard: &mut DecodedFrame)
-    requires tables { length slot.old.tables.items ≡ channels.channels }
-    requires states { length slot.old.states.items ≡ channels.channels }
+fn decode_one(
+    frame: &StoredFrame,
+    channels: Channels,
+    tables: &mut [ChannelTables],
+    states: &mut [ChannelState],
+    heard: &mut DecodedFrame,
+)
+    requires tables { length tables.old ≡ channels.channels }
+    requires states { length states.old ≡ channels.channels }
     requires stored { frame.now.size ≤ length frame.now.bytes.items }
     requires frame { frame.now.size ≤ 2 * (sound_bytes channels + 1) }
     requires sound { length heard.old.sound.items ≡ sound_bytes channels }
     ensures decoded { IsDecoded channels (stored_in frame.now) heard.new.sound.items heard.new.answer }
-    ensures tables { length slot.new.tables.items ≡ length slot.old.tables.items }
-    ensures states { length slot.new.states.items ≡ length slot.old.states.items }
     ensures long { length heard.new.sound.items ≡ length heard.old.sound.items }
 {
-    let tables = slot.tables.as_mut_slice();
-    let states = slot.states.as_mut_slice();
     let sound = heard.sound.as_mut_slice();
     let answer = decode_with(frame.stored(), channels, tables, states, sound);
     heard.answer = answer;
@@ -184,27 +172,39 @@ fn begin_all(
     frames: &[StoredFrame],
     channels: Channels,
     lanes: &mut ArithLanes,
-    slots: &mut [Slot],
+    eight: &mut [EightTables],
+    rows: &mut [EightStates],
 ) -> Option<[u16; 8]>
     requires few { length frames.now ≤ 8 }
-    requires same { length slots.old ≡ length frames.now }
     requires stored { AreStored frames.now }
     requires frames { (n : ℕ) (other : StoredFrame) → n < length frames.now → (get_or frames.now n other).size ≤ 2 * (sound_bytes channels + 1) }
-    requires wide { AreWide slots.old channels.channels }
+    requires eight { AreEight eight.old channels.channels }
+    requires rows { length rows.old ≡ channels.channels }
     requires empty { (n : ℕ) → n < 8 → Begins lanes.old n [] 0 }
-    ensures begun { IfSome result (λ words. (n : ℕ) (frame : StoredFrame) (other : Slot) → n < length frames.now
-        → HasBegun channels lanes.new n (stored_in (get_or frames.now n frame)) (get_or slots.new n other) (get_or words n 0)) }
+    ensures begun { IfSome result (λ words. (n : ℕ) (frame : StoredFrame) → n < length frames.now
+        → HasBegun channels lanes.new n (stored_in (get_or frames.now n frame)) (tables_at eight.new n) (states_at rows.new n) (get_or words n 0)) }
     ensures empty { IfSome result (λ words. (n : ℕ) → length frames.now ≤ n → n < 8 → Begins lanes.new n [] 0 × IsWord 1 (get_or words n 0)) }
-    ensures wide { AreWide slots.new channels.channels }
+    ensures words { IfSome result (λ _. AreWords rows.new (length frames.now)) }
+    ensures eight { AreEight eight.new channels.channels }
 {
     let mut words = [word(1); 8];
+    clear_all(rows);
     for n in 0..frames.len() {
-        match begin_lane(frames[n].stored(), channels, lanes, n, &mut slots[n]) {
+        match begin_lane(frames[n].stored(), channels, lanes, n, eight, rows) {
             Some(reserved) => words[n] = reserved,
             None => return None,
         }
     }
     Some(words)
+}
+
+// No frame is in the rows.
+fn clear_all(rows: &mut [EightStates])
+    ensures { AreWords rows.new 0 }
+{
+    for c in 0..rows.len() {
+        rows[c] = EightStates::new();
+    }
 }
 
 // Begins a coded frame in a lane, and gives the word of its reserved symbol. None where the frame is plain or refused.
@@ -213,23 +213,25 @@ fn begin_lane(
     channels: Channels,
     lanes: &mut ArithLanes,
     n: usize,
-    slot: &mut Slot,
+    eight: &mut [EightTables],
+    rows: &mut [EightStates],
 ) -> Option<u16>
     requires lane { n < 8 }
     requires frame { length frame.now ≤ 2 * (sound_bytes channels + 1) }
-    requires tables { length slot.old.tables.items ≡ channels.channels }
-    requires states { length slot.old.states.items ≡ channels.channels }
-    ensures begun { IfSome result (HasBegun channels lanes.new n frame.now slot.new) }
+    requires eight { AreEight eight.old channels.channels }
+    requires rows { length rows.old ≡ channels.channels }
+    requires words { AreWords rows.old n }
+    ensures begun { IfSome result (HasBegun channels lanes.new n frame.now (tables_at eight.new n) (states_at rows.new n)) }
+    ensures words { IfSome result (λ _. AreWords rows.new (n + 1)) }
     ensures others { (m : ℕ) → m ≢ n → IsKept lanes.old lanes.new m }
-    ensures tables { length slot.new.tables.items ≡ length slot.old.tables.items }
-    ensures states { length slot.new.states.items ≡ length slot.old.states.items }
+    ensures tables { (m : ℕ) → m ≢ n → tables_at eight.new m ≡ tables_at eight.old m }
+    ensures states { (m : ℕ) → m ≢ n → states_at rows.new m ≡ states_at rows.old m }
+    ensures eight { AreEight eight.new channels.channels }
 {
     match view_frame(frame, channels) {
         Ok(FrameView::Coded(params, code)) => match lanes.begin(n, code) {
             Ok(()) => {
-                let tables = slot.tables.as_mut_slice();
-                let states = slot.states.as_mut_slice();
-                build_all(tables, states, &params);
+                build_all_in(&params, n, eight, rows);
                 Some(reserved_word(&params))
             }
             Err(_) => None,
@@ -238,36 +240,49 @@ fn begin_lane(
     }
 }
 
+// The tables of each channel of frame `n`, and no samples yet.
+fn build_all_in(params: &Params, n: usize, eight: &mut [EightTables], rows: &mut [EightStates])
+    requires lane { n < 8 }
+    requires channels { length params.now.half_prob ≡ length rows.old }
+    requires eight { AreEight eight.old (length rows.old) }
+    requires words { AreWords rows.old n }
+    ensures built { (f : Shape) → f.channels ≡ length rows.old → AreBuilt f params.now (tables_at eight.new n) }
+    ensures fresh { (c : ℕ) (other : ChannelState) → c < length rows.old
+        → IsReady (filter_of params.now c) (probs_of params.now c) 0 (samples_of (replicate 16 0xaa)) (get_or (states_at rows.new n) c other) }
+    ensures words { AreWords rows.new (n + 1) }
+    ensures tables { (m : ℕ) → m ≢ n → tables_at eight.new m ≡ tables_at eight.old m }
+    ensures states { (m : ℕ) → m ≢ n → states_at rows.new m ≡ states_at rows.old m }
+    ensures eight { AreEight eight.new (length rows.old) }
+{
+    for c in 0..rows.len() {
+        build_in(params, c, n, &mut eight[c], &mut rows[c]);
+    }
+}
+
+fn build_in(params: &Params, c: usize, n: usize, eight: &mut EightTables, row: &mut EightStates)
+    requires lane { n < 8 }
+    requires channel { c < length params.now.half_prob }
+    requires eight { length eight.old.tables.items ≡ 8 }
+    ensures built { (other : ChannelTables) → IsBuilt (filter_of params.now c) (probs_of params.now c) (get_or params.now.half_prob c false)
+        (get_or eight.new.tables.items n other) }
+    ensures fresh { IsReady (filter_of params.now c) (probs_of params.now c) 0 (samples_of (replicate 16 0xaa)) (state_in row.new n) }
+    ensures word { IsWordOf (state_in row.new n).next (get_or row.new.words n 0) }
+    ensures tables { (m : ℕ) (other : ChannelTables) → m ≢ n → get_or eight.new.tables.items m other ≡ get_or eight.old.tables.items m other }
+    ensures eight { length eight.new.tables.items ≡ 8 }
+    ensures states { (m : ℕ) → m ≢ n → state_in row.new m ≡ state_in row.old m }
+    ensures words { (m : ℕ) → m ≢ n → get_or row.new.words m 0 ≡ get_or row.old.words m 0 }
+{
+    let all = eight.tables.as_mut_slice();
+    let tables = &mut all[n];
+    tables.build(params, c);
+    row.begin(n, tables);
+}
+
 fn reserved_word(params: &Params) -> u16
     requires { 0 < length params.now.half_prob }
     ensures { IsWord (probability_of params.now) result }
 {
     word((reserved_probability(params).value() % 128) as u8)
-}
-
-// The words of the first samples, and in lanes with no frame those of the probability 1.
-fn fill_words(slots: &[Slot], words: &mut [[u16; 8]])
-    requires wide { AreWide slots.now (length words.old) }
-    ensures { AreWords slots.now words.new (length words.old) }
-{
-    for c in 0..words.len() {
-        words[c] = first_words(slots, c);
-    }
-}
-
-fn first_words(slots: &[Slot], c: usize) -> [u16; 8]
-    requires few { length slots.now ≤ 8 }
-    requires states { (n : ℕ) (other : Slot) → n < length slots.now → c < length (get_or slots.now n other).states.items }
-    ensures next { (n : ℕ) (other : Slot) (state : ChannelState) → n < length slots.now
-        → IsWordOf (get_or (get_or slots.now n other).states.items c state).next (get_or result n 0) }
-    ensures none { (n : ℕ) → length slots.now ≤ n → n < 8 → IsWord 1 (get_or result n 0) }
-{
-    let mut words = [word(1); 8];
-    for n in 0..slots.len() {
-        let states = slots[n].states.as_slice();
-        words[n] = word(states[c].next);
-    }
-    words
 }
 
 // The unread bytes of a frame that is decoded, behind the place up to which its code is used.
@@ -286,35 +301,66 @@ fn decode_lanes(
     frames: &[StoredFrame],
     channels: Channels,
     lanes: &mut ArithLanes,
-    slots: &mut [Slot],
-    words: &mut [[u16; 8]],
+    eight: &[EightTables],
+    rows: &mut [EightStates],
     heard: &mut [DecodedFrame],
     reserved: &[u16; 8],
 )
     requires few { length frames.now ≤ 8 }
-    requires same { length slots.old ≡ length frames.now }
     requires heard { length heard.old ≡ length frames.now }
     requires stored { AreStored frames.now }
     requires frames { (n : ℕ) (other : StoredFrame) → n < length frames.now → (get_or frames.now n other).size ≤ 2 * (sound_bytes channels + 1) }
     requires sounds { (n : ℕ) (other : DecodedFrame) → n < length frames.now → length (get_or heard.old n other).sound.items ≡ sound_bytes channels }
-    requires wide { AreWide slots.old channels.channels }
-    requires words { length words.old ≡ channels.channels }
-    requires begun { (n : ℕ) (frame : StoredFrame) (other : Slot) → n < length frames.now
-        → HasBegun channels lanes.old n (stored_in (get_or frames.now n frame)) (get_or slots.old n other) (get_or reserved.now n 0) }
+    requires eight { AreEight eight.now channels.channels }
+    requires rows { length rows.old ≡ channels.channels }
+    requires words { AreWords rows.old (length frames.now) }
+    requires begun { (n : ℕ) (frame : StoredFrame) → n < length frames.now
+        → HasBegun channels lanes.old n (stored_in (get_or frames.now n frame)) (tables_at eight.now n) (states_at rows.old n) (get_or reserved.now n 0) }
     requires empty { (n : ℕ) → length frames.now ≤ n → n < 8 → Begins lanes.old n [] 0 × IsWord 1 (get_or reserved.now n 0) }
     ensures decoded { (n : ℕ) (frame : StoredFrame) (other : DecodedFrame) → n < length frames.now
         → IsDecoded channels (stored_in (get_or frames.now n frame)) (get_or heard.new n other).sound.items (get_or heard.new n other).answer }
     ensures long { (n : ℕ) (other : DecodedFrame) → n < length frames.now → length (get_or heard.new n other).sound.items ≡ sound_bytes channels }
-    ensures wide { AreWide slots.new channels.channels }
 {
     let octets = 4704 * channels.multiple();
     lanes.decode(reserved);
-    fill_words(slots, words);
-    decode_octets(lanes, frames, slots, words, heard, octets);
+    decode_all(lanes, frames, eight, rows, heard, octets);
     decoded_code();
     for n in 0..frames.len() {
         let end = lanes.end(n);
         settle(&frames[n], &mut heard[n], end);
+    }
+}
+
+// All samples of the frames. Where there are eight, it is known as the loops over them are compiled.
+fn decode_all(
+    lanes: &mut ArithLanes,
+    frames: &[StoredFrame],
+    eight: &[EightTables],
+    rows: &mut [EightStates],
+    heard: &mut [DecodedFrame],
+    octets: usize,
+)
+    requires least { 16 ≤ octets }
+    requires most { octets < 2 ^ 20 }
+    requires few { length frames.now ≤ 8 }
+    requires channels { length rows.old ≤ 6 }
+    requires eight { AreEight eight.now (length rows.old) }
+    requires stored { AreStored frames.now }
+    requires lanes { AreLanes lanes.old (code_at frames.now) (2 ^ 30) }
+    requires words { AreWords rows.old (length frames.now) }
+    requires same { length heard.old ≡ length frames.now }
+    requires inside { (n : ℕ) (other : DecodedFrame) → n < length heard.old
+        → octets * length rows.old ≤ length (get_or heard.old n other).sound.items }
+    ensures lanes { (n : ℕ) → n < 8 → IsLaneFurther lanes.old lanes.new n (code_at frames.now n) (384 * octets) }
+    ensures long { (n : ℕ) (other : DecodedFrame) → n < length heard.old
+        → length (get_or heard.new n other).sound.items ≡ length (get_or heard.old n other).sound.items }
+    ensures sound { (n : ℕ) (frame : DecodedFrame) → n < length frames.now
+        → LaneDecoded n 0 octets (code_at frames.now n) lanes.old lanes.new (tables_at eight.now n) (states_at rows.old n) (states_at rows.new n)
+        (get_or heard.old n frame).sound.items (get_or heard.new n frame).sound.items }
+{
+    match frames.len() {
+        8 => decode_octets(lanes, frames, eight, rows, 8, heard, octets),
+        count => decode_octets(lanes, frames, eight, rows, count, heard, octets),
     }
 }
 

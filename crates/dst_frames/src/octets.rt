@@ -1,17 +1,18 @@
 // The samples of the frames of a batch, byte after byte.
-ghost use Rattle.std.specs.Prelude.{◌≡◌, ◌<◌, ◌≤◌, ◌+◌, ◌*◌, ◌^◌, ℕ, Bool, false, List, [], length, get_or};
+ghost use Rattle.std.specs.Prelude.{◌≡◌, ◌≢◌, ◌<◌, ◌≤◌, ◌+◌, ◌*◌, ◌/◌, ◌%◌, ◌^◌, ℕ, ℤ, Bool, false, List, [], length, get_or};
 ghost use Rattle.dst_spec.specs.Sample.{Shape};
 ghost use Rattle.dst_spec.specs.Header.{Params};
 ghost use Rattle.dst_frames.specs.Tables.{AreBuilt};
+ghost use Rattle.dst_frames.specs.Ready.{IsReady};
+ghost use Rattle.dst_frames.specs.Eight.{states_at, tables_at};
 ghost use Rattle.dst_frames.specs.Batch.{HasEnough, AreLanes, IsLaneFurther, code_at};
-ghost use Rattle.dst_frames.specs.Running.{AreStored, AreWide, AreWords, RowsDecoded, FinishesByte, FinishesSound, LaneDecoded};
-ghost use Rattle.dst_frames.specs.declared.slots.Slot.{Slot};
+ghost use Rattle.dst_frames.specs.Running.{AreStored, AreEight, AreWords, RowsDecoded, FinishesSound, LaneDecoded};
+ghost use Rattle.dst_frames.specs.declared.tables.ChannelTables.{ChannelTables};
+ghost use Rattle.dst_frames.specs.declared.state.ChannelState.{ChannelState};
+ghost use Rattle.dst_frames.specs.declared.eight.EightStates.{EightStates};
 
-use crate::samples::finish_byte;
-use crate::slots::{Slot, decode_next};
-use crate::state::ChannelState;
+use crate::eight::{EightStates, EightTables, decode_next};
 use crate::stored::{DecodedFrame, StoredFrame};
-use crate::tables::ChannelTables;
 use arith_lanes::ArithLanes;
 use byte_predictor::laws::samples_before;
 
@@ -57,8 +58,9 @@ fn code_bytes(frames: &[StoredFrame], n: usize) -> &[u8]
 fn decode_place(
     lanes: &mut ArithLanes,
     frames: &[StoredFrame],
-    slots: &mut [Slot],
-    words: &mut [[u16; 8]],
+    eight: &[EightTables],
+    rows: &mut [EightStates],
+    count: usize,
     byte: usize,
     place: usize,
     start: bool,
@@ -67,88 +69,121 @@ fn decode_place(
     requires byte { byte < 2 ^ 20 }
     requires start { start ≡ false → 16 ≤ byte }
     requires few { length frames.now ≤ 8 }
-    requires channels { length words.old ≤ 6 }
+    requires count { count ≤ 8 }
+    requires channels { length rows.old ≤ 6 }
+    requires eight { AreEight eight.now (length rows.old) }
     requires stored { AreStored frames.now }
     requires lanes { AreLanes lanes.old (code_at frames.now) (2 ^ 39) }
-    requires wide { AreWide slots.old (length words.old) }
-    requires words { AreWords slots.old words.old (length words.old) }
-    ensures lanes { (n : ℕ) → n < 8 → IsLaneFurther lanes.old lanes.new n (code_at frames.now n) (8 * length words.old) }
-    ensures wide { AreWide slots.new (length words.old) }
-    ensures words { AreWords slots.new words.new (length words.old) }
-    ensures tables { (n : ℕ) (other : Slot) → n < length slots.old → (get_or slots.new n other).tables ≡ (get_or slots.old n other).tables }
-    ensures rows { (n : ℕ) (other : Slot) (f : Shape) (P : Params) (reserved : Bool) → n < length slots.old → f.channels ≡ length words.old
-        → AreBuilt f P (get_or slots.old n other).tables.items
-        → RowsDecoded f P reserved (8 * byte + place) place n (code_at frames.now n) lanes.old lanes.new (get_or slots.old n other) (get_or slots.new n other) }
+    requires words { AreWords rows.old count }
+    ensures lanes { (n : ℕ) → n < 8 → IsLaneFurther lanes.old lanes.new n (code_at frames.now n) (8 * length rows.old) }
+    ensures words { AreWords rows.new count }
+    ensures rows { (n : ℕ) (f : Shape) (P : Params) (reserved : Bool) → n < count → f.channels ≡ length rows.old → AreBuilt f P (tables_at eight.now n)
+        → RowsDecoded f P reserved (8 * byte + place) place n (code_at frames.now n) lanes.old lanes.new (states_at rows.old n) (states_at rows.new n) }
 {
     samples_before();
-    for c in 0..words.len() {
+    for c in 0..rows.len() {
         refill_where_short(lanes, frames);
+        let tables = eight[c].tables.as_slice();
         decode_next(
             lanes,
-            slots,
-            c,
+            tables,
+            &mut rows[c],
+            count,
             place,
             8 * byte + place,
             start,
-            &mut words[c],
         );
     }
 }
 
-// Gives out the eight samples of each channel of a frame, as a byte of its sound.
+// Gives out the eight samples of each channel of frame `n`, and adds them to the sums ahead.
 #[inline(always)]
-fn finish_sound(
-    tables: &[ChannelTables],
-    states: &mut [ChannelState],
-    channels: usize,
-    sound: &mut [u8],
-    byte: usize,
-)
-    requires tables { length tables.now ≡ channels }
-    requires states { length states.old ≡ channels }
-    requires channels { channels ≤ 6 }
-    requires byte { byte < 2 ^ 20 }
-    requires inside { (byte + 1) * channels ≤ length sound.old }
-    ensures { FinishesSound byte channels tables.now states.old states.new sound.old sound.new }
+fn finish_rows(eight: &[EightTables], rows: &mut [EightStates], n: usize, out: &mut [u8])
+    requires frame { n < 8 }
+    requires eight { AreEight eight.now (length rows.old) }
+    requires out { length out.old ≡ length rows.old }
+    ensures newest { (c : ℕ) (other : ChannelState) (filter : List ℤ) (probs samples : List ℕ) (place : ℕ) → c < length rows.old
+        → IsReady filter probs place samples (get_or (states_at rows.old n) c other)
+        → (k : ℕ) → k < 8 → get_or out.new c 0 / 2 ^ k % 2 ≡ get_or samples k 0 }
+    ensures added { (c : ℕ) (table : ChannelTables) (other : ChannelState) (probs samples : List ℕ) → c < length rows.old
+        → IsReady (get_or (tables_at eight.now n) c table).filter probs 8 samples (get_or (states_at rows.old n) c other)
+        → IsReady (get_or (tables_at eight.now n) c table).filter probs 0 samples (get_or (states_at rows.new n) c other) }
+    ensures others { (m : ℕ) → m ≢ n → states_at rows.new m ≡ states_at rows.old m }
+    ensures words { (c : ℕ) (row : EightStates) → (get_or rows.new c row).words ≡ (get_or rows.old c row).words }
 {
-    let first = byte * channels;
-    finish_byte(
-        tables,
-        states,
-        channels,
-        &mut sound[first..first + channels],
-    );
+    for c in 0..rows.len() {
+        let tables = eight[c].tables.as_slice();
+        let newest = rows[c].finish(n, &tables[n]);
+        out[c] = newest;
+    }
 }
 
 #[inline(always)]
-fn finish_in_slot(slot: &mut Slot, channels: usize, heard: &mut DecodedFrame, byte: usize)
-    requires tables { length slot.old.tables.items ≡ channels }
-    requires states { length slot.old.states.items ≡ channels }
-    requires channels { channels ≤ 6 }
+fn finish_sound(
+    eight: &[EightTables],
+    rows: &mut [EightStates],
+    n: usize,
+    sound: &mut [u8],
+    byte: usize,
+)
+    requires frame { n < 8 }
+    requires eight { AreEight eight.now (length rows.old) }
+    requires channels { length rows.old ≤ 6 }
     requires byte { byte < 2 ^ 20 }
-    requires inside { (byte + 1) * channels ≤ length heard.old.sound.items }
-    ensures { FinishesByte byte channels slot.old slot.new heard.old.sound.items heard.new.sound.items }
+    requires inside { (byte + 1) * length rows.old ≤ length sound.old }
+    ensures finishes { FinishesSound byte (length rows.old) (tables_at eight.now n) (states_at rows.old n) (states_at rows.new n) sound.old sound.new }
+    ensures others { (m : ℕ) → m ≢ n → states_at rows.new m ≡ states_at rows.old m }
+    ensures words { (c : ℕ) (row : EightStates) → (get_or rows.new c row).words ≡ (get_or rows.old c row).words }
 {
-    let tables = slot.tables.as_slice();
-    let states = slot.states.as_mut_slice();
+    let channels = rows.len();
+    let first = byte * channels;
+    finish_rows(eight, rows, n, &mut sound[first..first + channels]);
+}
+
+#[inline(always)]
+fn finish_heard(
+    eight: &[EightTables],
+    rows: &mut [EightStates],
+    n: usize,
+    heard: &mut DecodedFrame,
+    byte: usize,
+)
+    requires frame { n < 8 }
+    requires eight { AreEight eight.now (length rows.old) }
+    requires channels { length rows.old ≤ 6 }
+    requires byte { byte < 2 ^ 20 }
+    requires inside { (byte + 1) * length rows.old ≤ length heard.old.sound.items }
+    ensures finishes { FinishesSound byte (length rows.old) (tables_at eight.now n) (states_at rows.old n) (states_at rows.new n) heard.old.sound.items
+        heard.new.sound.items }
+    ensures others { (m : ℕ) → m ≢ n → states_at rows.new m ≡ states_at rows.old m }
+    ensures words { (c : ℕ) (row : EightStates) → (get_or rows.new c row).words ≡ (get_or rows.old c row).words }
+{
     let sound = heard.sound.as_mut_slice();
-    finish_sound(tables, states, channels, sound, byte);
+    finish_sound(eight, rows, n, sound, byte);
 }
 
 // Gives out the eight samples of each channel of each frame.
 #[inline(always)]
-fn finish_all(slots: &mut [Slot], channels: usize, heard: &mut [DecodedFrame], byte: usize)
-    requires wide { AreWide slots.old channels }
-    requires same { length heard.old ≡ length slots.old }
-    requires channels { channels ≤ 6 }
+fn finish_all(
+    eight: &[EightTables],
+    rows: &mut [EightStates],
+    count: usize,
+    heard: &mut [DecodedFrame],
+    byte: usize,
+)
+    requires few { count ≤ 8 }
+    requires same { length heard.old ≡ count }
+    requires eight { AreEight eight.now (length rows.old) }
+    requires channels { length rows.old ≤ 6 }
     requires byte { byte < 2 ^ 20 }
-    requires inside { (n : ℕ) (other : DecodedFrame) → n < length heard.old → (byte + 1) * channels ≤ length (get_or heard.old n other).sound.items }
-    ensures { (n : ℕ) (other : Slot) (frame : DecodedFrame) → n < length slots.old
-        → FinishesByte byte channels (get_or slots.old n other) (get_or slots.new n other) (get_or heard.old n frame).sound.items
+    requires inside { (n : ℕ) (other : DecodedFrame) → n < length heard.old → (byte + 1) * length rows.old ≤ length (get_or heard.old n other).sound.items }
+    ensures finishes { (n : ℕ) (frame : DecodedFrame) → n < count
+        → FinishesSound byte (length rows.old) (tables_at eight.now n) (states_at rows.old n) (states_at rows.new n) (get_or heard.old n frame).sound.items
         (get_or heard.new n frame).sound.items }
+    ensures words { (c : ℕ) (row : EightStates) → (get_or rows.new c row).words ≡ (get_or rows.old c row).words }
 {
-    for n in 0..slots.len() {
-        finish_in_slot(&mut slots[n], channels, &mut heard[n], byte);
+    for n in 0..count {
+        finish_heard(eight, rows, n, &mut heard[n], byte);
     }
 }
 
@@ -157,8 +192,9 @@ fn finish_all(slots: &mut [Slot], channels: usize, heard: &mut [DecodedFrame], b
 fn decode_octet(
     lanes: &mut ArithLanes,
     frames: &[StoredFrame],
-    slots: &mut [Slot],
-    words: &mut [[u16; 8]],
+    eight: &[EightTables],
+    rows: &mut [EightStates],
+    count: usize,
     heard: &mut [DecodedFrame],
     byte: usize,
     start: bool,
@@ -166,62 +202,64 @@ fn decode_octet(
     requires byte { byte < 2 ^ 20 }
     requires start { start ≡ false → 16 ≤ byte }
     requires few { length frames.now ≤ 8 }
-    requires channels { length words.old ≤ 6 }
+    requires count { count ≤ 8 }
+    requires channels { length rows.old ≤ 6 }
+    requires eight { AreEight eight.now (length rows.old) }
     requires stored { AreStored frames.now }
     requires lanes { AreLanes lanes.old (code_at frames.now) (2 ^ 38) }
-    requires wide { AreWide slots.old (length words.old) }
-    requires words { AreWords slots.old words.old (length words.old) }
-    requires same { length heard.old ≡ length slots.old }
+    requires words { AreWords rows.old count }
+    requires same { length heard.old ≡ count }
     requires inside { (n : ℕ) (other : DecodedFrame) → n < length heard.old
-        → (byte + 1) * length words.old ≤ length (get_or heard.old n other).sound.items }
+        → (byte + 1) * length rows.old ≤ length (get_or heard.old n other).sound.items }
     ensures lanes { (n : ℕ) → n < 8 → IsLaneFurther lanes.old lanes.new n (code_at frames.now n) 384 }
-    ensures wide { AreWide slots.new (length words.old) }
-    ensures words { AreWords slots.new words.new (length words.old) }
-    ensures tables { (n : ℕ) (other : Slot) → n < length slots.old → (get_or slots.new n other).tables ≡ (get_or slots.old n other).tables }
+    ensures words { AreWords rows.new count }
     ensures long { (n : ℕ) (other : DecodedFrame) → n < length heard.old
         → length (get_or heard.new n other).sound.items ≡ length (get_or heard.old n other).sound.items }
-    ensures sound { (n : ℕ) (other : Slot) (frame : DecodedFrame) → n < length slots.old
-        → LaneDecoded n byte (byte + 1) (code_at frames.now n) lanes.old lanes.new (get_or slots.old n other) (get_or slots.new n other)
+    ensures sound { (n : ℕ) (frame : DecodedFrame) → n < count
+        → LaneDecoded n byte (byte + 1) (code_at frames.now n) lanes.old lanes.new (tables_at eight.now n) (states_at rows.old n) (states_at rows.new n)
         (get_or heard.old n frame).sound.items (get_or heard.new n frame).sound.items }
 {
     for place in 0..8 {
-        decode_place(lanes, frames, slots, words, byte, place, start);
+        decode_place(lanes, frames, eight, rows, count, byte, place, start);
     }
-    finish_all(slots, words.len(), heard, byte);
+    finish_all(eight, rows, count, heard, byte);
 }
 
-/// All samples of the frames, `octets` bytes of each channel. Only the first sixteen bytes of a channel can have early samples.
+/// All samples of the frames, `octets` bytes of each channel. Only the first sixteen bytes of a channel can have early samples. The
+/// caller has a copy of this for eight frames, whose loops over frames are written out.
+#[inline(always)]
 pub(crate) fn decode_octets(
     lanes: &mut ArithLanes,
     frames: &[StoredFrame],
-    slots: &mut [Slot],
-    words: &mut [[u16; 8]],
+    eight: &[EightTables],
+    rows: &mut [EightStates],
+    count: usize,
     heard: &mut [DecodedFrame],
     octets: usize,
 )
     requires least { 16 ≤ octets }
     requires most { octets < 2 ^ 20 }
     requires few { length frames.now ≤ 8 }
-    requires channels { length words.old ≤ 6 }
+    requires count { count ≤ 8 }
+    requires channels { length rows.old ≤ 6 }
+    requires eight { AreEight eight.now (length rows.old) }
     requires stored { AreStored frames.now }
     requires lanes { AreLanes lanes.old (code_at frames.now) (2 ^ 30) }
-    requires wide { AreWide slots.old (length words.old) }
-    requires words { AreWords slots.old words.old (length words.old) }
-    requires same { length heard.old ≡ length slots.old }
+    requires words { AreWords rows.old count }
+    requires same { length heard.old ≡ count }
     requires inside { (n : ℕ) (other : DecodedFrame) → n < length heard.old
-        → octets * length words.old ≤ length (get_or heard.old n other).sound.items }
+        → octets * length rows.old ≤ length (get_or heard.old n other).sound.items }
     ensures lanes { (n : ℕ) → n < 8 → IsLaneFurther lanes.old lanes.new n (code_at frames.now n) (384 * octets) }
-    ensures wide { AreWide slots.new (length words.old) }
     ensures long { (n : ℕ) (other : DecodedFrame) → n < length heard.old
         → length (get_or heard.new n other).sound.items ≡ length (get_or heard.old n other).sound.items }
-    ensures sound { (n : ℕ) (other : Slot) (frame : DecodedFrame) → n < length slots.old
-        → LaneDecoded n 0 octets (code_at frames.now n) lanes.old lanes.new (get_or slots.old n other) (get_or slots.new n other)
+    ensures sound { (n : ℕ) (frame : DecodedFrame) → n < count
+        → LaneDecoded n 0 octets (code_at frames.now n) lanes.old lanes.new (tables_at eight.now n) (states_at rows.old n) (states_at rows.new n)
         (get_or heard.old n frame).sound.items (get_or heard.new n frame).sound.items }
 {
     for byte in 0..16 {
-        decode_octet(lanes, frames, slots, words, heard, byte, true);
+        decode_octet(lanes, frames, eight, rows, count, heard, byte, true);
     }
     for byte in 16..octets {
-        decode_octet(lanes, frames, slots, words, heard, byte, false);
+        decode_octet(lanes, frames, eight, rows, count, heard, byte, false);
     }
 }

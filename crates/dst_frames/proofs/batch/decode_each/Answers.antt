@@ -5,14 +5,7 @@ use Rattle.dst_frames.specs.Batch.{IsDecoded, stored_in}
 use Rattle.dst_frames.specs.declared.stored.StoredFrame.{StoredFrame}
 use Rattle.dst_frames.specs.declared.stored.DecodedFrame.{DecodedFrame}
 use Rattle.dst_frames.proofs.Begun.{long_set}
-use Rattle.dst_frames.proofs.Running.{wide_set}
 use Rattle.dst_frames.proofs.batch.decode_each.Goals as goal
-
-pub decode_one-requires-clause-tables : goal.decode_one-requires-clause-tables
-decode_one-requires-clause-tables c = c.loop-n.invariant.wide.tables 0 c.index-slots-0.result (omega arith)
-
-pub decode_one-requires-clause-states : goal.decode_one-requires-clause-states
-decode_one-requires-clause-states c = c.loop-n.invariant.wide.states 0 c.index-slots-0.result (omega arith)
 
 pub decode_one-requires-clause-sound : goal.decode_one-requires-clause-sound
 decode_one-requires-clause-sound c =
@@ -28,7 +21,6 @@ loop-n-preserved c =
     let x = c.decode_one.new.heard in
     let lt : i < length frames = omega arith in
     let lt_heard : i < length heard = omega (arith, c.requires.same) in
-    let lt_slots : 0 < length c.loop-n.slots = omega (arith, c.requires.slots) in
     let P : ℕ → Type 0 = λ m. (frame : StoredFrame) (other : DecodedFrame) → IsDecoded f (stored_in (get_or frames m frame))
     (get_or (set heard i x) m other).sound.items (get_or (set heard i x) m other).answer in
     let below : (m : ℕ) → m < i → P m = λ m h frame other.
@@ -46,7 +38,4 @@ loop-n-preserved c =
       long = λ m other h. long_set heard i m (sound_bytes f) x other lt_heard (c.decode_one.ensures.long ∙ inv.long i c.index-heard-n.result lt)
           (inv.long m other h);
       left = left;
-      wide = wide_set f.channels 0 c.loop-n.slots c.decode_one.new.slot inv.wide lt_slots
-          (c.decode_one.ensures.tables ∙ inv.wide.tables 0 c.index-slots-0.result lt_slots)
-          (c.decode_one.ensures.states ∙ inv.wide.states 0 c.index-slots-0.result lt_slots);
     }

@@ -4,22 +4,27 @@ use Rattle.std.proofs.lemmas.List.{get_or_default}
 use Rattle.dst_spec.specs.Sample.{sound_bytes}
 use Rattle.dst_spec.specs.Means.{MeansWithTail}
 use Rattle.arith_lanes.specs.Lanes.{first_at, used_at}
+use Rattle.dst_frames.specs.Eight.{states_at, tables_at}
+use Rattle.dst_frames.specs.Running.{AreEight}
 use Rattle.dst_frames.specs.Batch.{IsDecoded, stored_in, code_at}
 use Rattle.dst_frames.specs.declared.stored.StoredFrame.{StoredFrame}
 use Rattle.dst_frames.specs.declared.stored.DecodedFrame.{DecodedFrame}
 use Rattle.dst_frames.proofs.Begun.{begun_lanes, code_in_lane, answered, long_set}
-use Rattle.dst_frames.proofs.Lanes.{one_of}
+use Rattle.dst_frames.proofs.OneOfEight.{length-tables}
 use Rattle.dst_frames.proofs.Running.{code_of}
 use Rattle.dst_frames.proofs.batch.decode_lanes.Goals as goal
 
-pub decode_octets-requires-clause-lanes : goal.decode_octets-requires-clause-lanes
-decode_octets-requires-clause-lanes c =
-    begun_lanes c.args.channels c.args.lanes.now c.decode.new.self c.args.frames.now c.args.slots.now c.args.reserved.now c.decode.result
-    c.requires.few c.requires.same c.requires.begun c.requires.empty c.decode.ensures
+pub decode_all-requires-clause-eight : goal.decode_all-requires-clause-eight
+decode_all-requires-clause-eight c = subst (AreEight c.args.eight.now) (omega (arith, c.requires.rows)) c.requires.eight
+
+pub decode_all-requires-clause-lanes : goal.decode_all-requires-clause-lanes
+decode_all-requires-clause-lanes c =
+    begun_lanes c.args.channels c.args.lanes.now c.decode.new.self c.args.frames.now c.args.eight.now c.args.rows.now c.args.reserved.now
+    c.decode.result c.requires.few c.requires.begun c.requires.empty c.decode.ensures
 
 pub end-end-requires-clause-code : goal.end-end-requires-clause-code
 end-end-requires-clause-code c =
-    (code_at c.args.frames.now c.loop-n.n, (c.decode_octets.ensures.lanes c.loop-n.n (omega (arith, c.requires.few))).lane)
+    (code_at c.args.frames.now c.loop-n.n, (c.decode_all.ensures.lanes c.loop-n.n (omega (arith, c.requires.few))).lane)
 
 pub loop-n-preserved : goal.loop-n-preserved
 loop-n-preserved c =
@@ -29,16 +34,14 @@ loop-n-preserved c =
     let frames = c.args.frames.now in
     let s = c.args.lanes.now in
     let t = c.decode.new.self in
-    let u = c.decode_octets.new.lanes in
+    let u = c.decode_all.new.lanes in
     let sounds = c.args.heard.now in
-    let first_heard = c.decode_octets.new.heard in
+    let first_heard = c.decode_all.new.heard in
     let heard = c.loop-n.heard in
     let x = c.settle.new.heard in
     let eight : i < 8 = omega (arith, c.requires.few) in
     let lt : i < length frames = omega arith in
     let lt_heard : i < length heard = omega (arith, c.requires.heard) in
-    let lt_slots : i < length c.args.slots.now = omega (arith, c.requires.same) in
-    let slot = one_of c.args.slots.now i lt_slots in
     let was : get_or heard i c.index-heard-n.result ≡ get_or first_heard i c.index-heard-n.result = inv.left i c.index-heard-n.result (omega arith) in
     let P : ℕ → Type 0 = λ m. (frame : StoredFrame) (other : DecodedFrame) → IsDecoded f (stored_in (get_or frames m frame))
     (get_or (set heard i x) m other).sound.items (get_or (set heard i x) m other).answer in
@@ -55,16 +58,17 @@ loop-n-preserved c =
     let here : P i = λ frame other.
     let bytes = stored_in (get_or frames i frame) in
     let code : bytes ≡ code_at frames i = code_of frames i frame lt in
-    let b = c.requires.begun i frame slot lt in
+    let b = c.requires.begun i frame lt in
     let k = c.decode.ensures i _ bytes eight b.begins.lane b.reserved (omega (arith, b.begins.ahead)) (omega (arith, b.begins.used_is)) in
     let hd = get_or first_heard i c.index-heard-n.result in
-    let decoded = rw (← code) at (c.decode_octets.ensures.sound i slot c.index-heard-n.result lt_slots) in
-    let further = c.decode_octets.ensures.lanes i eight in
-    let is_code = code_in_lane c.decoded_code.ensures f s t u i bytes (get_or c.args.slots.now i slot) (get_or c.decode_octets.new.slots i slot)
+    let decoded = rw (← code) at (c.decode_all.ensures.sound i c.index-heard-n.result lt) in
+    let further = c.decode_all.ensures.lanes i eight in
+    let is_code = code_in_lane c.decoded_code.ensures f s t u i bytes (tables_at c.args.eight.now i) (states_at c.args.rows.now i)
+    (states_at c.decode_all.new.rows i)
     (get_or c.args.reserved.now i 0) (4704 * c.multiple-octets.result) k.0 (get_or sounds i c.index-heard-n.result).sound.items hd.sound.items b k.2
-    (sym (c.requires.wide.tables i slot lt_slots)) c.multiple-octets.ensures.multiple decoded further.first in
+    (sym (length-tables c.args.eight.now i ∙ c.requires.eight.count)) c.multiple-octets.ensures.multiple decoded further.first in
     let lt_first : i < length sounds = omega (arith, c.requires.heard) in
-    let long : length hd.sound.items ≡ sound_bytes f = c.decode_octets.ensures.long i c.index-heard-n.result lt_first
+    let long : length hd.sound.items ≡ sound_bytes f = c.decode_all.ensures.long i c.index-heard-n.result lt_first
     ∙ c.requires.sounds i c.index-heard-n.result lt in
     let place_is : first_at u i ≡ b.place = further.first ∙ k.2.first ∙ b.begins.first_is in
     let end_is : c.end-end.result ≡ b.place + used_at u i = c.end-end.ensures ∙ ap (λ n. n + used_at u i) place_is in

@@ -1,32 +1,28 @@
 use Rattle.std.proofs.Common.{◌≡◌, ℕ, ◌*◌, ◌<◌, length, get_or}
+use Rattle.dst_frames.specs.Eight.{states_at, tables_at}
 use Rattle.dst_frames.specs.Batch.{IsLaneFurther, code_at}
-use Rattle.dst_frames.specs.Running.{AreWide, AreWords, LaneDecoded}
-use Rattle.dst_frames.specs.declared.slots.Slot.{Slot}
+use Rattle.dst_frames.specs.Running.{AreWords, LaneDecoded}
 use Rattle.dst_frames.specs.declared.stored.DecodedFrame.{DecodedFrame}
 use Rattle.dst_frames.proofs.octets.decode_octets.Given as goal
 
 abbrev pub invariant-loop-byte : goal.invariant-loop-byte
 invariant-loop-byte l = record {
   lanes : (n : ℕ) → n < 8 → IsLaneFurther l.fn.lanes l.lanes n (code_at l.frames n) (384 * l.byte);
-  wide : AreWide l.slots (length l.fn.words);
-  words : AreWords l.slots l.words (length l.fn.words);
-  tables : (n : ℕ) (other : Slot) → n < length l.fn.slots → (get_or l.slots n other).tables ≡ (get_or l.fn.slots n other).tables;
+  words : AreWords l.rows l.count;
   long : (n : ℕ) (frame : DecodedFrame) → n < length l.fn.heard →
       length (get_or l.heard n frame).sound.items ≡ length (get_or l.fn.heard n frame).sound.items;
-  sound : (n : ℕ) (other : Slot) (frame : DecodedFrame) → n < length l.fn.slots →
-      LaneDecoded n 0 l.byte (code_at l.frames n) l.fn.lanes l.lanes (get_or l.fn.slots n other) (get_or l.slots n other)
+  sound : (n : ℕ) (frame : DecodedFrame) → n < l.count →
+      LaneDecoded n 0 l.byte (code_at l.frames n) l.fn.lanes l.lanes (tables_at l.eight n) (states_at l.fn.rows n) (states_at l.rows n)
       (get_or l.fn.heard n frame).sound.items (get_or l.heard n frame).sound.items;
 }
 
 abbrev pub invariant-loop-byte-2 : goal.invariant-loop-byte-2
 invariant-loop-byte-2 l = record {
   lanes : (n : ℕ) → n < 8 → IsLaneFurther l.fn.lanes l.lanes n (code_at l.frames n) (384 * l.byte);
-  wide : AreWide l.slots (length l.fn.words);
-  words : AreWords l.slots l.words (length l.fn.words);
-  tables : (n : ℕ) (other : Slot) → n < length l.fn.slots → (get_or l.slots n other).tables ≡ (get_or l.fn.slots n other).tables;
+  words : AreWords l.rows l.count;
   long : (n : ℕ) (frame : DecodedFrame) → n < length l.fn.heard →
       length (get_or l.heard n frame).sound.items ≡ length (get_or l.fn.heard n frame).sound.items;
-  sound : (n : ℕ) (other : Slot) (frame : DecodedFrame) → n < length l.fn.slots →
-      LaneDecoded n 0 l.byte (code_at l.frames n) l.fn.lanes l.lanes (get_or l.fn.slots n other) (get_or l.slots n other)
+  sound : (n : ℕ) (frame : DecodedFrame) → n < l.count →
+      LaneDecoded n 0 l.byte (code_at l.frames n) l.fn.lanes l.lanes (tables_at l.eight n) (states_at l.fn.rows n) (states_at l.rows n)
       (get_or l.fn.heard n frame).sound.items (get_or l.heard n frame).sound.items;
 }

@@ -1,0 +1,71 @@
+use Rattle.std.proofs.Common.{◌≡◌, ◌≢◌, ℕ, ◌+◌, ◌%◌, ◌<◌, ◌∷◌, nat_eq, length, get_or, set, get_or-set_same, get_or-set_other, length-set, below_more}
+use Rattle.std.proofs.Common.{sym, subst, ◌∙◌, arith}
+use Rattle.std.proofs.lemmas.List.{get_or_default}
+use Rattle.dst_spec.specs.Header.{bit_of}
+use Rattle.byte_predictor.specs.Eight.{ahead_at}
+use Rattle.byte_predictor.specs.declared.eight.EightAhead.{EightAhead}
+use Rattle.byte_predictor.specs.SumsAhead.{IsAhead}
+use Rattle.dst_frames.specs.Batch.{IsWordOf}
+use Rattle.dst_frames.specs.Eight.{entry_in}
+use Rattle.dst_frames.specs.declared.tables.ChannelTables.{ChannelTables}
+use Rattle.dst_frames.proofs.OneOfEight.{TellsNext}
+use Rattle.dst_frames.proofs.eight.EightStates.take.Goals as goal
+
+pub loop-n-preserved : goal.loop-n-preserved
+loop-n-preserved c =
+    let i = c.loop-n.n in
+    let inv = c.loop-n.invariant in
+    let words = c.loop-n.self.words in
+    let x = c.word_at-next.result in
+    let tables = c.args.tables.now in
+    let pushed = c.push.new.self in
+    let place = c.args.place + 1 in
+    let lt : i < length words = omega (arith, inv.many, c.requires.few) in
+    let lt_tables : i < length tables = omega (arith, c.requires.tables, c.requires.few) in
+    let T : ℕ → Type 0 = λ m. (table : ChannelTables) → TellsNext place (get_or tables m table) (ahead_at pushed m) (get_or (set words i x) m 0) in
+    let W : ℕ → Type 0 = λ m. IsWordOf (entry_in (get_or (set words i x) m 0)) (get_or (set words i x) m 0) in
+    let t_below : (m : ℕ) → m < i → T m = λ m h table.
+    let ne : m ≢ i = omega arith in
+    subst (TellsNext place (get_or tables m table) (ahead_at pushed m)) (sym (get_or-set_other words i m x 0 ne)) (inv.tells m table h) in
+    let t_here : T i = λ table.
+    let own : c.index-tables-n.result ≡ get_or tables i table = c.index-tables-n.is ∙ get_or_default tables i c.index-tables-n.result table lt_tables in
+    let e : TellsNext place c.index-tables-n.result (ahead_at c.loop-n.self.ahead i) x = c.word_at-next.ensures.entry in
+    let f : TellsNext place (get_or tables i table) (ahead_at c.loop-n.self.ahead i) x =
+    subst (λ (t : ChannelTables). TellsNext place t (ahead_at c.loop-n.self.ahead i) x) own e in
+    let g : TellsNext place (get_or tables i table) (ahead_at pushed i) x =
+    subst (λ (a : EightAhead). TellsNext place (get_or tables i table) (ahead_at a i) x) inv.ahead f in
+    subst (TellsNext place (get_or tables i table) (ahead_at pushed i)) (sym (get_or-set_same words i x 0 lt)) g in
+    let w_below : (m : ℕ) → m < i → W m = λ m h.
+    let ne : m ≢ i = omega arith in
+    subst (λ w. IsWordOf (entry_in w) w) (sym (get_or-set_other words i m x 0 ne)) (inv.word m h) in
+    let w_here : W i = subst (λ w. IsWordOf (entry_in w) w) (sym (get_or-set_same words i x 0 lt)) c.word_at-next.ensures.word in
+    record {
+      many = simp length-set inv.many;
+      ahead = inv.ahead;
+      tells = λ m table h. below_more T i t_below t_here m h table;
+      word = λ m h. below_more W i w_below w_here m h;
+      left = λ m h.
+          let ne : m ≢ i = omega arith in
+          get_or-set_other words i m x 0 ne ∙ inv.left m (omega arith);
+    }
+
+pub returns-clause-taken : goal.returns-clause-taken
+returns-clause-taken c = λ n table h.
+    let inv = c.loop-n.invariant in
+    let lt : n < c.loop-n.n = omega arith in
+    let eight : n < 8 = omega (arith, c.requires.few) in
+    let place = c.args.place in
+    let bit = bit_of (nat_eq (get_or c.args.given.now n 0 % 2) 1) in
+    record {
+      takes = λ filter probs samples half_prob built ready.
+          let pushed : IsAhead filter (place + 1) (bit ∷ samples) (ahead_at c.push.new.self n) =
+          c.push.ensures n place filter samples eight c.requires.place ready.ahead in
+          record {
+            ahead = subst (λ (a : EightAhead). IsAhead filter (place + 1) (bit ∷ samples) (ahead_at a n)) (sym inv.ahead) pushed;
+            next = inv.tells n table lt filter probs (bit ∷ samples) half_prob built pushed;
+          };
+      next_word = inv.word n lt;
+    }
+
+pub returns-clause-others : goal.returns-clause-others
+returns-clause-others c = λ n h. c.loop-n.invariant.left n (omega arith)

@@ -1,5 +1,0 @@
-use Rattle.std.proofs.Common.{◌≡◌, length}
-use Rattle.dst_frames.proofs.slots.Slot.new.Given as goal
-
-abbrev pub invariant-loop : goal.invariant-loop
-invariant-loop l = (length l.tables.items ≡ l.counter) × (length l.states.items ≡ l.counter)

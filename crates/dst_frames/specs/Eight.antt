@@ -1,0 +1,25 @@
+-- One channel of eight frames between two samples, and all channels of one of the frames.
+use Rattle.std.specs.Prelude.{ℕ, ◌+◌, ◌*◌, ◌/◌, ◌%◌, List, [], map, get_or}
+use Rattle.byte_predictor.specs.Eight.{ahead_at}
+use Rattle.dst_frames.specs.declared.tables.ChannelTables.{ChannelTables}
+use Rattle.dst_frames.specs.declared.state.ChannelState.{ChannelState}
+use Rattle.dst_frames.specs.declared.eight.EightTables.{EightTables}
+use Rattle.dst_frames.specs.declared.eight.EightStates.{EightStates}
+
+-- the entry that has the probability and the guess of a word
+abbrev pub entry_in : ℕ → ℕ
+entry_in word = (word % 128 + 1) % 128 + 128 * (word / 128 % 2)
+
+-- the channel in one of the frames
+abbrev pub state_in : EightStates → ℕ → ChannelState
+state_in row n = record { ahead = ahead_at row.ahead n; next = entry_in (get_or row.words n 0) }
+
+-- all channels of frame n, and their tables
+unfoldable pub states_at : List EightStates → ℕ → List ChannelState
+states_at rows n = map (λ row. state_in row n) rows
+
+abbrev pub no_tables : ChannelTables
+no_tables = record { filter = []; entries = []; early = 0 }
+
+unfoldable pub tables_at : List EightTables → ℕ → List ChannelTables
+tables_at eight n = map (λ (one : EightTables). get_or one.tables.items n no_tables) eight
