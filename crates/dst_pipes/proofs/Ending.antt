@@ -1,5 +1,6 @@
 -- How the decoding of a stream ends, from what came of it.
-use Rattle.std.proofs.Common.{◌≡◌, ◌⊎◌, inl, inr, ℕ, suc, ◌+◌, ◌-◌, ◌*◌, ◌<◌, ◌≤◌, List, [], ◌∷◌, ◌++◌, length, take, drop, get_or, replicate, Option, Some, None, refl, sym, ap, ap₂, subst, ◌∙◌, arith, length-append, append-nil, append_assoc, take-append-drop}
+use Rattle.std.proofs.Common.{◌≡◌, ◌⊎◌, inl, inr, ℕ, suc, ◌+◌, ◌-◌, ◌*◌, ◌<◌, ◌≤◌, List, [], ◌∷◌, ◌++◌, length, take, drop, get_or, replicate, Option}
+use Rattle.std.proofs.Common.{Some, None, refl, sym, ap, ap₂, subst, ◌∙◌, arith, length-append, append-nil, append_assoc, take-append-drop}
 use Rattle.std.specs.List.{AllByRecursion, AllZip, concat}
 use Rattle.std.proofs.lemmas.Bool.{cases_lt}
 use Rattle.std.proofs.lemmas.List.{take_all, get_or_at, length-replicate}
@@ -56,7 +57,8 @@ stop_is [] ended fault same = absurd cc
 stop_is [] (stopped g) fault same = (let one : g ≡ fault = cc in (refl, ap stopped one))
 stop_is [] (cut_off g) fault same = absurd cc
 
-pub early_stop_is : (front : Option Front) (e : Ending) (fault : FileFault) → front_event front e ≡ Some (has_stopped fault) → (front ≡ None) × (e ≡ stopped fault)
+pub early_stop_is : (front : Option Front) (e : Ending) (fault : FileFault) → front_event front e ≡ Some (has_stopped fault) → (front ≡ None)
+    × (e ≡ stopped fault)
 early_stop_is (Some f) e fault same = absurd cc
 early_stop_is None ended fault same = absurd cc
 early_stop_is None (stopped g) fault same = (let one : g ≡ fault = cc in (refl, ap stopped one))
@@ -91,7 +93,8 @@ whole f [] (y ∷ ys) all = absurd all
 whole f (x ∷ xs) [] all = absurd all
 whole f (x ∷ xs) (y ∷ ys) all = (let later = whole f xs ys all.1 in ((long_of f x y all.0, later.0), ap suc later.1))
 
-zip_both : (f : Shape) (xs zs : List (List ℕ)) (ys ws : List (List ℕ)) → AllZip (MeansOrZeros f) xs ys → AllZip (MeansOrZeros f) zs ws → AllZip (MeansOrZeros f) (xs ++ zs) (ys ++ ws)
+zip_both : (f : Shape) (xs zs : List (List ℕ)) (ys ws : List (List ℕ)) → AllZip (MeansOrZeros f) xs ys → AllZip (MeansOrZeros f) zs ws →
+    AllZip (MeansOrZeros f) (xs ++ zs) (ys ++ ws)
 zip_both f [] zs [] ws a b = b
 zip_both f [] zs (y ∷ ys) ws a b = absurd a
 zip_both f (x ∷ xs) zs [] ws a b = absurd a
@@ -106,7 +109,8 @@ one_sound f w a b lawful m (inl n) =
 one_sound f w a b lawful m (inr none) = absurd (none.0 a m)
 
 -- the first of some sounds are those of the first frames
-first_sounds : (f : Shape) (frames later sounds all : List (List ℕ)) → IsShape f → AllZip (Means f) frames sounds → AllZip (MeansOrZeros f) (frames ++ later) all →
+first_sounds : (f : Shape) (frames later sounds all : List (List ℕ)) → IsShape f → AllZip (Means f) frames sounds →
+    AllZip (MeansOrZeros f) (frames ++ later) all →
     (more : List (List ℕ)) × (all ≡ sounds ++ more)
 first_sounds f [] later [] all lawful p q = (all, refl)
 first_sounds f [] later (y ∷ ys) all lawful p q = absurd p
@@ -147,7 +151,8 @@ few_of w front frames later h =
     omega (arith, few, ap length h.has_frames)
 
 -- ---- what is written up to some sounds
-before_is : (front : Front) (a b : List (List ℕ)) → length front.version ≡ 4 → AreWhole (size_of front) (a ++ b) → AreWhole (size_of front) a → length (a ++ b) ≤ front.frames →
+before_is : (front : Front) (a b : List (List ℕ)) → length front.version ≡ 4 → AreWhole (size_of front) (a ++ b) → AreWhole (size_of front) a →
+    length (a ++ b) ≤ front.frames →
     piped_before front (piped front (a ++ b)) (length a) ≡ head_of front ++ concat a
 before_is front a b four both first le =
     let h = head_of front in
@@ -162,7 +167,8 @@ before_is front a b four both first le =
     seam : (h x y z : List ℕ) → h ++ ((x ++ y) ++ z) ≡ (h ++ x) ++ (y ++ z)
     seam h x y z = simp append_assoc refl
 
-whole_is : (front : Front) (a : List (List ℕ)) → length front.version ≡ 4 → AreWhole (size_of front) a → length a ≡ front.frames → piped front a ≡ head_of front ++ concat a
+whole_is : (front : Front) (a : List (List ℕ)) → length front.version ≡ 4 → AreWhole (size_of front) a → length a ≡ front.frames →
+    piped front a ≡ head_of front ++ concat a
 whole_is front a four first all =
     let none : front.frames - length a ≡ 0 = omega (arith, all) in
     piped_is front a four first (omega (arith, all))
@@ -170,26 +176,31 @@ whole_is front a four first all =
     ∙ ap (λ x. head_of front ++ x) (append-nil (concat a))
 
 -- ---- outcomes
-out_of : (w : List ℕ) (front : Front) (all : List (List ℕ)) → (stream w).front ≡ Some front → AllZip (MeansOrZeros (shape_in front.prop)) (stream w).frames all →
+out_of : (w : List ℕ) (front : Front) (all : List (List ℕ)) → (stream w).front ≡ Some front →
+    AllZip (MeansOrZeros (shape_in front.prop)) (stream w).frames all →
     PipeOut (stream w) front (piped front all)
 out_of w front all has each = record { has_front = has; sounds = all; each = each; written = refl }
 
-pub through : (w : List ℕ) (front : Front) (frames : List (List ℕ)) (e : Ending) (sounds : List (List ℕ)) → (stream w).front ≡ Some front → (stream w).frames ≡ frames →
+pub through : (w : List ℕ) (front : Front) (frames : List (List ℕ)) (e : Ending) (sounds : List (List ℕ)) → (stream w).front ≡ Some front →
+    (stream w).frames ≡ frames →
     (stream w).ending ≡ e → AreSounds front frames sounds → StreamOutcome w (at_ending e front (length frames) (piped front sounds))
 through w front frames e sounds has same is_ending are =
     subst (λ x. OfStream (stream w) x (at_ending e front (length frames) (piped front sounds))) (sym has)
     (inr (record {
       none = subst (NoneOf decode (shape_in front.prop)) (sym same) are.none;
       out = piped front sounds;
-      written = out_of w front sounds has (subst (λ fs. AllZip (MeansOrZeros (shape_in front.prop)) fs sounds) (sym same) (means_or_zeros (shape_in front.prop) frames sounds are.each));
+      written = out_of w front sounds has (subst (λ fs. AllZip (MeansOrZeros (shape_in front.prop)) fs sounds) (sym same)
+          (means_or_zeros (shape_in front.prop) frames sounds are.each));
       answer = ap₂ (λ x n. at_ending x front n (piped front sounds)) (sym is_ending) (ap length (sym same));
     }))
 
-sounds_whole : (front : Front) (frames sounds : List (List ℕ)) → AreSounds front frames sounds → AreWhole (size_of front) sounds × (length sounds ≡ length frames)
+sounds_whole : (front : Front) (frames sounds : List (List ℕ)) → AreSounds front frames sounds → AreWhole (size_of front) sounds
+    × (length sounds ≡ length frames)
 sounds_whole front frames sounds are = whole (shape_in front.prop) frames sounds (means_or_zeros (shape_in front.prop) frames sounds are.each)
 
 -- what is written behind the last frame that came, and behind the last that is told
-pub behind_all : (w : List ℕ) (front : Front) (frames sounds : List (List ℕ)) → (stream w).front ≡ Some front → (stream w).frames ≡ frames → AreSounds front frames sounds →
+pub behind_all : (w : List ℕ) (front : Front) (frames sounds : List (List ℕ)) → (stream w).front ≡ Some front → (stream w).frames ≡ frames →
+    AreSounds front frames sounds →
     piped_before front (piped front sounds) (length frames) ≡ head_of front ++ concat sounds
 behind_all w front frames sounds has same are =
     let both = sounds_whole front frames sounds are in
@@ -198,7 +209,8 @@ behind_all w front frames sounds has same are =
     ∙ before_is front sounds [] (lawful_of w front has).version (subst (AreWhole (size_of front)) (sym (append-nil sounds)) both.0) both.0
     (omega (arith, few, ap length same, both.1, length-append sounds []))
 
-pub all_told : (w : List ℕ) (front : Front) (frames sounds : List (List ℕ)) → (stream w).front ≡ Some front → (stream w).frames ≡ frames → (stream w).ending ≡ ended →
+pub all_told : (w : List ℕ) (front : Front) (frames sounds : List (List ℕ)) → (stream w).front ≡ Some front → (stream w).frames ≡ frames →
+    (stream w).ending ≡ ended →
     AreSounds front frames sounds → piped front sounds ≡ head_of front ++ concat sounds
 all_told w front frames sounds has same end are =
     let both = sounds_whole front frames sounds are in
@@ -230,7 +242,8 @@ refused w front frames frame later sounds fault bytes h are offends =
       fault = fault;
       within = omega (arith, ap length all, length-append frames rest);
       first = subst (NoneOf decode f) (sym (ap (take (length frames)) all ∙ take-append_seam frames rest)) are.none;
-      offends = subst (λ x. Offends f x fault) (sym (ap (λ fs. get_or fs (length frames) []) all ∙ get_or_at frames frame later [] (length frames) refl)) offends;
+      offends = subst (λ x. Offends f x fault)
+          (sym (ap (λ fs. get_or fs (length frames) []) all ∙ get_or_at frames frame later [] (length frames) refl)) offends;
       out = out;
       written = out_of w front (sounds ++ more.0) h.has_front (subst (λ fs. AllZip (MeansOrZeros f) fs (sounds ++ more.0)) (sym all) each);
       answer = ap (frame_refused (length frames) fault) (sym is_before);
@@ -264,7 +277,8 @@ out_begins w front frames later sounds out h are p =
           ∙ seam_of front sounds more.0 z,
     )
 
-before_begins : (w : List ℕ) (front : Front) (frames later sounds : List (List ℕ)) (out : List ℕ) (k : ℕ) → Has w front frames later → AreSounds front frames sounds →
+before_begins : (w : List ℕ) (front : Front) (frames later sounds : List (List ℕ)) (out : List ℕ) (k : ℕ) → Has w front frames later →
+    AreSounds front frames sounds →
     PipeOut (stream w) front out → length frames ≤ k → BeginsWith (piped_before front out k) (head_of front ++ concat sounds)
 before_begins w front frames later sounds out k h are p le =
     let both = sounds_whole front frames sounds are in
@@ -274,9 +288,18 @@ before_begins w front frames later sounds out k h are p le =
     let more = mul-le-mul_right (size_of front) le in
     let long = length-append (head_of front) (concat sounds) in
     subst (λ v. BeginsWith (take n v) x) (sym o.1)
-    (begins_cut n x o.0 (omega (arith, more, long, length-head front (lawful_of w front h.has_front).version, length-sounds (size_of front) sounds both.0, ap (λ m. m * size_of front) both.1)))
+    (begins_cut n x o.0 (omega (
+      arith,
+      more,
+      long,
+      length-head front (lawful_of w front h.has_front).version,
+      length-sounds (size_of front) sounds
+          both.0,
+      ap (λ m. m * size_of front) both.1,
+    )))
 
-end_begins : (w : List ℕ) (front : Front) (frames later sounds : List (List ℕ)) (out : List ℕ) (e : Ending) → Has w front frames later → AreSounds front frames sounds →
+end_begins : (w : List ℕ) (front : Front) (frames later sounds : List (List ℕ)) (out : List ℕ) (e : Ending) → Has w front frames later →
+    AreSounds front frames sounds →
     PipeOut (stream w) front out → BeginsWith (at_ending e front (length (stream w).frames) out).out (head_of front ++ concat sounds)
 end_begins w front frames later sounds out ended h are p =
     (let o = out_begins w front frames later sounds out h are p in record { rest = o.0; is = o.1 })
@@ -288,7 +311,8 @@ end_begins w front frames later sounds out (cut_off fault) h are p =
 outcome_begins : (w : List ℕ) (front : Front) (frames later sounds : List (List ℕ)) (o : Answer) → Has w front frames later → AreSounds front frames sounds →
     IsStopped (stream w) front o ⊎ IsThrough (stream w) front o → BeginsWith o.out (head_of front ++ concat sounds)
 outcome_begins w front frames later sounds o h are (inr i) =
-    subst (λ (a : Answer). BeginsWith a.out (head_of front ++ concat sounds)) (sym i.answer) (end_begins w front frames later sounds i.out (stream w).ending h are i.written)
+    subst (λ (a : Answer). BeginsWith a.out (head_of front ++ concat sounds)) (sym i.answer)
+    (end_begins w front frames later sounds i.out (stream w).ending h are i.written)
 outcome_begins w front frames later sounds o h are (inl i) =
     subst (λ (a : Answer). BeginsWith a.out (head_of front ++ concat sounds)) (sym i.answer)
     (before_begins w front frames later sounds i.out i.k h are i.written (reached (cases_lt i.k (length frames))))
@@ -296,7 +320,8 @@ outcome_begins w front frames later sounds o h are (inl i) =
     reached : (i.k < length frames) ⊎ (length frames ≤ i.k) → length frames ≤ i.k
     reached (inr le) = le
     reached (inl lt) = absurd (stop_is_not_earlier decode (shape_in front.prop) (stream w).frames i.k (length frames) i.fault
-        (subst (NoneOf decode (shape_in front.prop)) (sym (ap (take (length frames)) h.has_frames ∙ take-append_seam frames later)) are.none) lt i.within i.offends)
+        (subst (NoneOf decode (shape_in front.prop)) (sym (ap (take (length frames)) h.has_frames ∙ take-append_seam frames later)) are.none) lt
+        i.within i.offends)
 
 pub every_outcome_begins : (w : List ℕ) (front : Front) (frames later sounds : List (List ℕ)) → Has w front frames later → AreSounds front frames sounds →
     (o : Answer) → StreamOutcome w o → BeginsWith o.out (head_of front ++ concat sounds)
@@ -304,7 +329,8 @@ every_outcome_begins w front frames later sounds h are o p =
     outcome_begins w front frames later sounds o h are (subst (λ x. OfStream (stream w) x o) h.has_front p)
 
 -- ---- a device that failed
-pub stopped_short : (P : Type 0) (w piece : List ℕ) (old new : Option (List ℕ)) (room : Option ℕ) → AreBytes w → ((o : Answer) → StreamOutcome w o → BeginsWith o.out piece) →
+pub stopped_short : (P : Type 0) (w piece : List ℕ) (old new : Option (List ℕ)) (room : Option ℕ) → AreBytes w →
+    ((o : Answer) → StreamOutcome w o → BeginsWith o.out piece) →
     Stops P piece old new room → IsStoppedShort w old new
 stopped_short P w piece old new room bytes front s =
     let one = one_outcome w bytes in

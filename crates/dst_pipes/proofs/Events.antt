@@ -1,5 +1,6 @@
 -- What an event that is due says of what was answered before it, and of the stream.
-use Rattle.std.proofs.Common.{◌≡◌, ℕ, ◌+◌, ◌*◌, ◌<◌, ◌≤◌, List, [], ◌∷◌, ◌++◌, length, drop, Option, Some, None, refl, sym, ap, subst, ◌∙◌, arith, length-append, take-append-drop}
+use Rattle.std.proofs.Common.{◌≡◌, ℕ, ◌+◌, ◌*◌, ◌<◌, ◌≤◌, List, [], ◌∷◌, ◌++◌, length, drop, Option, Some, None, refl, sym, ap, subst, ◌∙◌, arith}
+use Rattle.std.proofs.Common.{length-append, take-append-drop}
 use Rattle.std.specs.List.{AllByRecursion}
 use Rattle.dst_spec.specs.Sample.{sound_bytes}
 use Rattle.dsdiff_spec.specs.Streams.{Ending, ended, stopped, cut_off, Front, shape_in, stream}
@@ -49,7 +50,8 @@ end_is_behind p nothing_answered e = absurd (ended_front p (stream p).front (str
 end_is_behind p (begun f fs) e = record { front = f; frames = fs; same = refl }
 
 -- ---- the frames of a stream, where one more is due
-next_frame : (frames : List (List ℕ)) (e : Ending) (frame : List ℕ) → frame_event frames e ≡ Some (frame_came frame) → (later : List (List ℕ)) × (frames ≡ frame ∷ later)
+next_frame : (frames : List (List ℕ)) (e : Ending) (frame : List ℕ) → frame_event frames e ≡ Some (frame_came frame) → (later : List (List ℕ))
+    × (frames ≡ frame ∷ later)
 next_frame (f ∷ fs) e frame same = (let one : f ≡ frame = cc in (fs, ap (λ x. x ∷ fs) one))
 next_frame [] ended frame same = absurd cc
 next_frame [] (stopped fault) frame same = absurd cc

@@ -1,5 +1,6 @@
 -- The answer to a stream, from how its last piece ended.
-use Rattle.std.proofs.Common.{◌≡◌, ℕ, List, [], ◌∷◌, ◌++◌, length, take, drop, Option, Some, None, Err, inl, inr, false, true, refl, sym, ap, subst, ◌∙◌, append-nil}
+use Rattle.std.proofs.Common.{◌≡◌, ℕ, List, [], ◌∷◌, ◌++◌, length, take, drop, Option, Some, None, Err, inl, inr, false, true, refl, sym, ap, subst}
+use Rattle.std.proofs.Common.{◌∙◌, append-nil}
 use Rattle.std.specs.List.{concat}
 use Rattle.dst_spec.specs.Bits.{AreBytes}
 use Rattle.dst_spec.specs.declared.faults.FrameFault.{FrameFault}
@@ -18,7 +19,8 @@ use Rattle.dst_pipes.specs.States.{AreSounds, Wrote, BeginsSo}
 use Rattle.dst_pipes.specs.Steps.{HasCome, StopsAtFault, StopsAtFrame, StopsInWriting}
 use Rattle.dst_pipes.specs.Endings.{Writes, IsStoppedShort, LacksRoom}
 use Rattle.dst_pipes.specs.declared.work.Work.{Work}
-use Rattle.dst_pipes.proofs.Ending.{stays_ended, stays_stopped, end_is, stop_is, early_stop_is, no_more, no_front, all_frames, has_begun, through, behind_all, all_told, refused, every_outcome_begins, stopped_short, lacks_room, nothing_written}
+use Rattle.dst_pipes.proofs.Ending.{stays_ended, stays_stopped, end_is, stop_is, early_stop_is, no_more, no_front, all_frames, has_begun, through}
+use Rattle.dst_pipes.proofs.Ending.{behind_all, all_told, refused, every_outcome_begins, stopped_short, lacks_room, nothing_written}
 
 -- the frames of the bytes that were taken
 at_taken : (p : List ℕ) (answered : Answered) → BeginsSo p answered → AreOf answered (stream p)
@@ -43,7 +45,8 @@ ends_done p rest work old new room left h =
     )
 
 -- done, and not settled
-pub ends_unsettled : (p rest : List ℕ) (work : Option Work) (old mid new : Option (List ℕ)) (room left : Option ℕ) (h : HasCome p work old mid room left) → AreBytes (p ++ rest) →
+pub ends_unsettled : (p rest : List ℕ) (work : Option Work) (old mid new : Option (List ℕ)) (room left : Option ℕ)
+    (h : HasCome p work old mid room left) → AreBytes (p ++ rest) →
     new ≡ mid → ((n : ℕ) → left ≡ Some n → false ≡ true) → IsStoppedShort (p ++ rest) old new × LacksRoom (p ++ rest) room
 ends_unsettled p rest work old mid new room left h bytes same sure =
     let has = has_begun p rest h.front h.frames h.begins in
@@ -53,7 +56,8 @@ ends_unsettled p rest work old mid new room left h bytes same sure =
     (stopped_short (Unit {0}) (p ++ rest) _ old new room bytes begins stops, lacks_room (p ++ rest) _ old new room begins stops)
 
 -- ---- the stream is refused: what is told of its frames, and its ending
-refused_behind : (w : List ℕ) (front : Front) (frames sounds : List (List ℕ)) (e : Ending) (fault : FileFault) (old new : Option (List ℕ)) → (stream w).front ≡ Some front →
+refused_behind : (w : List ℕ) (front : Front) (frames sounds : List (List ℕ)) (e : Ending) (fault : FileFault) (old new : Option (List ℕ)) →
+    (stream w).front ≡ Some front →
     (stream w).frames ≡ frames → (stream w).ending ≡ e → AreSounds front frames sounds → new ≡ and_then old (head_of front ++ concat sounds) →
     at_ending e front (length frames) (piped front sounds) ≡ stream_refused fault (piped_before front (piped front sounds) (length frames)) →
     (out : List ℕ) × Writes w (stream_refused fault out) old new
@@ -75,11 +79,13 @@ refused_early w e fault old new has ending early same = (
   ),
 )
 
-pub ends_at_fault : (fault : FileFault) (taken piece rest : List ℕ) (old new : Option (List ℕ)) (room left : Option ℕ) (h : StopsAtFault fault taken piece old new room left) →
+pub ends_at_fault : (fault : FileFault) (taken piece rest : List ℕ) (old new : Option (List ℕ)) (room left : Option ℕ)
+    (h : StopsAtFault fault taken piece old new room left) →
     (out : List ℕ) × Writes ((taken ++ take h.count piece) ++ rest) (stream_refused fault out) old new
 ends_at_fault fault taken piece rest old new room left h = go h.answered (at_taken (taken ++ take h.count piece) h.answered h.begins) h.due h.wrote
   where
-    go : (a : Answered) → AreOf a (stream (taken ++ take h.count piece)) → due (taken ++ take h.count piece) a ≡ Some (has_stopped fault) → Wrote a old new room left →
+    go : (a : Answered) → AreOf a (stream (taken ++ take h.count piece)) → due (taken ++ take h.count piece) a ≡ Some (has_stopped fault) →
+        Wrote a old new room left →
         (out : List ℕ) × Writes ((taken ++ take h.count piece) ++ rest) (stream_refused fault out) old new
     go nothing_answered are e wrote =
         let p = taken ++ take h.count piece in
@@ -95,7 +101,8 @@ ends_at_fault fault taken piece rest old new room left h = go h.answered (at_tak
 
 -- the stream is cut off
 pub ends_cut_off : (w : List ℕ) (answered : Answered) (fault : FileFault) (old new : Option (List ℕ)) (room left : Option ℕ) → AreOf answered (stream w) →
-    due w answered ≡ None → EndsAs (Err fault) (stream w).ending → Wrote answered old new room left → (out : List ℕ) × Writes w (stream_refused fault out) old new
+    due w answered ≡ None → EndsAs (Err fault) (stream w).ending → Wrote answered old new room left → (out : List ℕ)
+    × Writes w (stream_refused fault out) old new
 ends_cut_off w nothing_answered fault old new room left are none (inl e) wrote =
     refused_early w (stopped fault) fault old new (no_front (stream w).front (stream w).ending none) e refl wrote.0
 ends_cut_off w nothing_answered fault old new room left are none (inr e) wrote =
@@ -108,7 +115,8 @@ ends_cut_off w (begun front frames) fault old new room left are none (inr e) wro
     (all_frames frames (stream w).frames are.1 (no_more (drop (length frames) (stream w).frames) (stream w).ending none)) e wrote.are wrote.adds.written refl
 
 -- ---- a frame is refused
-pub ends_at_frame : (k : ℕ) (fault : FrameFault) (taken piece rest : List ℕ) (old new : Option (List ℕ)) (room left : Option ℕ) (h : StopsAtFrame k fault taken piece old new room left) →
+pub ends_at_frame : (k : ℕ) (fault : FrameFault) (taken piece rest : List ℕ) (old new : Option (List ℕ)) (room left : Option ℕ)
+    (h : StopsAtFrame k fault taken piece old new room left) →
     AreBytes ((taken ++ take h.count piece) ++ rest) → (out : List ℕ) × Writes ((taken ++ take h.count piece) ++ rest) (frame_refused k fault out) old new
 ends_at_frame k fault taken piece rest old new room left h bytes =
     let p = taken ++ take h.count piece in
@@ -116,7 +124,8 @@ ends_at_frame k fault taken piece rest old new room left h bytes =
       out,
       (
         subst (λ n. StreamOutcome (p ++ rest) (frame_refused n fault out)) (sym h.number)
-            (refused (p ++ rest) h.front h.frames h.frame _ h.wrote.sounds fault bytes (has_begun p rest h.front (h.frames ++ h.frame ∷ []) h.begins) h.wrote.are h.offends),
+            (refused (p ++ rest) h.front h.frames h.frame _ h.wrote.sounds fault bytes (has_begun p rest h.front (h.frames ++ h.frame ∷ []) h.begins)
+            h.wrote.are h.offends),
         h.wrote.adds.written,
       ),
     )
@@ -137,5 +146,6 @@ ends_in_reading p rest nothing_answered old new room left bytes begins wrote =
     subst (IsStoppedShort (p ++ rest) old) (sym wrote.0) (nothing_written (p ++ rest) old bytes)
 ends_in_reading p rest (begun front frames) old new room left bytes begins wrote =
     let has = has_begun p rest front frames begins in
-    stopped_short ⊥ (p ++ rest) (head_of front ++ concat wrote.sounds) old new room bytes (every_outcome_begins (p ++ rest) front frames _ wrote.sounds has wrote.are)
+    stopped_short ⊥ (p ++ rest) (head_of front ++ concat wrote.sounds) old new room bytes
+    (every_outcome_begins (p ++ rest) front frames _ wrote.sounds has wrote.are)
     (stops_behind ⊥ (head_of front ++ concat wrote.sounds) old new room left (λ x. x) wrote.adds)

@@ -42,6 +42,7 @@ stops_moved (Frame k fault) taken piece m old new room left s =
       wrote = s.wrote;
     }
 
-pub whole_piece : (taken piece : List ℕ) (m n : ℕ) → n ≡ length (drop m piece) → m ≤ length piece → (taken ++ take m piece) ++ take n (drop m piece) ≡ taken ++ piece
+pub whole_piece : (taken piece : List ℕ) (m n : ℕ) → n ≡ length (drop m piece) → m ≤ length piece →
+    (taken ++ take m piece) ++ take n (drop m piece) ≡ taken ++ piece
 whole_piece taken piece m n e le =
     and_more taken piece m n ∙ ap (λ w. taken ++ w) (take_all (m + n) piece (omega (arith, e, le, length-drop m piece)))

@@ -1,5 +1,6 @@
 -- The run over a flow: a piece moved from its front, and what it says of the whole stream.
-use Rattle.std.proofs.Common.{◌≡◌, ◌⊎◌, inl, inr, ℕ, ◌*◌, ◌≤◌, List, [], ◌∷◌, ◌++◌, take, drop, Option, Some, None, Result, Ok, Err, refl, sym, ap, ap₂, subst, ◌∙◌, append_assoc, take-append-drop, arith}
+use Rattle.std.proofs.Common.{◌≡◌, ◌⊎◌, inl, inr, ℕ, ◌*◌, ◌≤◌, List, [], ◌∷◌, ◌++◌, take, drop, Option, Some, None, Result, Ok, Err, refl, sym, ap}
+use Rattle.std.proofs.Common.{ap₂, subst, ◌∙◌, append_assoc, take-append-drop, arith}
 use Rattle.std.specs.Prelude.{IsOk, IfOk, IfErr}
 use Rattle.dst_spec.specs.Bits.{AreBytes}
 use Rattle.dst_spec.specs.Sample.{sound_bytes}
@@ -17,7 +18,8 @@ use Rattle.dst_pipes.specs.declared.faults.PipeFault.{PipeFault}
 use Rattle.dst_pipes.specs.declared.faults.PipeFault.TheVariants.{Read, Write, Memory, File, Frame}
 use Rattle.dst_pipes.proofs.Final.{ends_done, ends_unsettled, ends_at_fault, ends_at_frame, ends_in_writing}
 
-pub flow_moved : (piece rest : List ℕ) (now : Option (List ℕ)) → Some rest ≡ after_piece piece now → (later : List ℕ) × (now ≡ Some later) × (rest ≡ piece ++ later)
+pub flow_moved : (piece rest : List ℕ) (now : Option (List ℕ)) → Some rest ≡ after_piece piece now → (later : List ℕ) × (now ≡ Some later)
+    × (rest ≡ piece ++ later)
 flow_moved piece rest None e = absurd cc
 flow_moved piece rest (Some later) e = (later, refl, cc)
 
@@ -34,7 +36,8 @@ piece_stops Read taken piece later old new room left bytes s = absurd s
 piece_stops (Memory refused) taken piece later old new room left bytes s = s
 piece_stops Write taken piece later old new room left bytes s =
     let same = split_at taken piece later s.count in
-    subst (λ w. PipeEnds (Err Write) w old new room) (sym same) (ends_in_writing taken piece (drop s.count piece ++ later) old new room s (subst AreBytes same bytes))
+    subst (λ w. PipeEnds (Err Write) w old new room) (sym same)
+    (ends_in_writing taken piece (drop s.count piece ++ later) old new room s (subst AreBytes same bytes))
 piece_stops (File fault) taken piece later old new room left bytes s =
     let same = split_at taken piece later s.count in
     subst (λ w. PipeEnds (Err (File fault)) w old new room) (sym same) (ends_at_fault fault taken piece (drop s.count piece ++ later) old new room left s)
@@ -51,7 +54,8 @@ told_most p work old new room left h =
     let told = h.works.2.told in
     (h.works.0, h.works.1, omega (arith, few, told))
 
-pub finished : (r : Result Piped PipeFault) (p rest : List ℕ) (work : Option Work) (old mid new : Option (List ℕ)) (room left : Option ℕ) (h : HasCome p work old mid room left) → AreBytes (p ++ rest) →
+pub finished : (r : Result Piped PipeFault) (p rest : List ℕ) (work : Option Work) (old mid new : Option (List ℕ)) (room left : Option ℕ)
+    (h : HasCome p work old mid room left) → AreBytes (p ++ rest) →
     new ≡ mid → ((n : ℕ) → left ≡ Some n → IsOk r) → IfErr r (λ fault. fault ≡ Write) → ((m : Work) → work ≡ Some m → IfOk r (λ s. s.frames ≡ m.told)) →
     ((m : Work) → work ≡ Some m → IfOk r (λ s. s.bytes ≡ m.told * sound_bytes m.channels)) → PipeEnds r (p ++ rest) old new room
 finished (Err fault) p rest work old mid new room left h bytes same sure write frames size =
@@ -82,10 +86,12 @@ pub ends_decoded : (r : Result Piped PipeFault) (flow : Option (List ℕ)) (old 
 ends_decoded (Err fault) flow old new room ends = tt
 ends_decoded (Ok s) flow old new room ends = λ w told. (let e = ends w told in (e.0, e.1.0, e.1.1))
 
-pub ends_short : (r : Result Piped PipeFault) (w : List ℕ) (old new : Option (List ℕ)) (room : Option ℕ) → (r ≡ Err Read) ⊎ (r ≡ Err Write) → PipeEnds r w old new room →
+pub ends_short : (r : Result Piped PipeFault) (w : List ℕ) (old new : Option (List ℕ)) (room : Option ℕ) → (r ≡ Err Read) ⊎ (r ≡ Err Write) →
+    PipeEnds r w old new room →
     (o : Answer) × StreamOutcome w o × IsCutShort old o.out new
 ends_short r w old new room (inl e) ends = subst (λ x. PipeEnds x w old new room) e ends
 ends_short r w old new room (inr e) ends = (subst (λ x. PipeEnds x w old new room) e ends).0
 
-pub ends_lacking : (r : Result Piped PipeFault) (w : List ℕ) (old new : Option (List ℕ)) (room : Option ℕ) → r ≡ Err Write → PipeEnds r w old new room → LacksRoom w room
+pub ends_lacking : (r : Result Piped PipeFault) (w : List ℕ) (old new : Option (List ℕ)) (room : Option ℕ) → r ≡ Err Write →
+    PipeEnds r w old new room → LacksRoom w room
 ends_lacking r w old new room e ends = (subst (λ x. PipeEnds x w old new room) e ends).1

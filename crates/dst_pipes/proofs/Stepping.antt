@@ -1,5 +1,6 @@
 -- What a step leaves, by what its event asks for.
-use Rattle.std.proofs.Common.{◌≡◌, ℕ, ◌+◌, ◌-◌, ◌<◌, List, [], ◌∷◌, ◌++◌, take, Option, Some, None, Result, Ok, Err, refl, sym, ap, subst, ◌∙◌, arith, length-append, append-nil, append_assoc}
+use Rattle.std.proofs.Common.{◌≡◌, ℕ, ◌+◌, ◌-◌, ◌<◌, List, [], ◌∷◌, ◌++◌, take, Option, Some, None, Result, Ok, Err, refl, sym, ap, subst, ◌∙◌, arith}
+use Rattle.std.proofs.Common.{length-append, append-nil, append_assoc}
 use Rattle.std.specs.List.{AllZip, concat}
 use Rattle.std.specs.declared.alloc.AllocError.{AllocError}
 use Rattle.dst_spec.specs.Means.{Means}
@@ -40,7 +41,8 @@ told_of taken answered channels multiple frames d work t = record { taken = take
 pub lawful_told : (front : Front) (channels multiple frames : ℕ) (d : PushDecoder) → FrontIsTold front channels multiple frames d → IsLawfulFront front
 lawful_told front channels multiple frames d t = (streams_are_lawful (t.taken ++ [])).front front (events_law d t.taken (begun front []) t.stands []).0
 
-pub shape_told : (front : Front) (channels multiple frames : ℕ) (d : PushDecoder) → FrontIsTold front channels multiple frames d → IsShape (shape_of channels multiple)
+pub shape_told : (front : Front) (channels multiple frames : ℕ) (d : PushDecoder) → FrontIsTold front channels multiple frames d →
+    IsShape (shape_of channels multiple)
 shape_told front channels multiple frames d t =
     subst IsShape (sym t.shape) (prop_has_a_shape 0 front.prop (lawful_told front channels multiple frames d t).rules)
 
@@ -64,7 +66,8 @@ begun_goes_on m front taken d old here new room half left stands works wrote add
       };
     }
 
-pub begun_stops : (fault : PipeFault) (front : Front) (taken piece : List ℕ) (n : ℕ) (d : PushDecoder) (old here new : Option (List ℕ)) (room half left : Option ℕ) →
+pub begun_stops : (fault : PipeFault) (front : Front) (taken piece : List ℕ) (n : ℕ) (d : PushDecoder) (old here new : Option (List ℕ))
+    (room half left : Option ℕ) →
     StandsFor d (taken ++ take n piece) (begun front []) → Wrote nothing_answered old here room half → HasBegun (Err fault) front here new half left →
     StopsBy fault taken piece old new room left
 begun_stops Read front taken piece n d old here new room half left stands wrote b = b
@@ -83,7 +86,8 @@ begun_stops Write front taken piece n d old here new room half left stands wrote
           (subst (λ a. Stops (Unit {0}) (head_of front) a new room) wrote.0 (subst (Stops (Unit {0}) (head_of front) here new) wrote.1 b));
     }
 
-pub begun_no_read : (fault : PipeFault) (front : Front) (old new : Option (List ℕ)) (room left : Option ℕ) → HasBegun (Err fault) front old new room left → fault ≡ Read → ⊥
+pub begun_no_read : (fault : PipeFault) (front : Front) (old new : Option (List ℕ)) (room left : Option ℕ) →
+    HasBegun (Err fault) front old new room left → fault ≡ Read → ⊥
 begun_no_read fault front old new room left b e = subst (λ f. HasBegun (Err f) front old new room left) e b
 
 -- ---- a sound is written
@@ -97,7 +101,8 @@ concat_one_more : (xs : List (List ℕ)) (x : List ℕ) → concat (xs ++ x ∷ 
 concat_one_more [] x = append-nil x
 concat_one_more (y ∷ ys) x = ap (λ w. y ++ w) (concat_one_more ys x) ∙ sym (append_assoc y (concat ys) x)
 
-one_more_sound : (front : Front) (frames sounds : List (List ℕ)) (frame sound : List ℕ) → AreSounds front frames sounds → Means (shape_in front.prop) frame sound →
+one_more_sound : (front : Front) (frames sounds : List (List ℕ)) (frame sound : List ℕ) → AreSounds front frames sounds →
+    Means (shape_in front.prop) frame sound →
     NotRefused decode (shape_in front.prop) frame → AreSounds front (frames ++ frame ∷ []) (sounds ++ sound ∷ [])
 one_more_sound front frames sounds frame sound are means none =
     record {
@@ -105,19 +110,22 @@ one_more_sound front frames sounds frame sound are means none =
       none = all_append (NotRefused decode (shape_in front.prop)) frames (frame ∷ []) are.none (none, tt);
     }
 
-pieces_are : (front : Front) (sounds : List (List ℕ)) (sound : List ℕ) → (head_of front ++ concat sounds) ++ sound ≡ head_of front ++ concat (sounds ++ sound ∷ [])
+pieces_are : (front : Front) (sounds : List (List ℕ)) (sound : List ℕ) →
+    (head_of front ++ concat sounds) ++ sound ≡ head_of front ++ concat (sounds ++ sound ∷ [])
 pieces_are front sounds sound =
     append_assoc (head_of front) (concat sounds) sound ∙ ap (λ w. head_of front ++ w) (sym (concat_one_more sounds sound))
 
 -- how far it came before the frame, which is the last that was answered
-pub wrote_before : (taken : List ℕ) (answered : Answered) (answer : Result ℕ FrameFault) (d : PushDecoder) (work : Option Work) (t : FrameCame taken answered answer d work)
+pub wrote_before : (taken : List ℕ) (answered : Answered) (answer : Result ℕ FrameFault) (d : PushDecoder) (work : Option Work)
+    (t : FrameCame taken answered answer d work)
     (old new : Option (List ℕ)) (room left : Option ℕ) → Wrote answered old new room left → HasWritten t.front t.frames old new room left
 wrote_before taken answered answer d work t old new room left wrote = subst (λ a. Wrote a old new room left) t.behind wrote
 
 abbrev pub WithOneMore : Work → Work
 WithOneMore m = record m { decoded = m.decoded + 1 }
 
-pub sound_works : (answer : Result ℕ FrameFault) (taken : List ℕ) (answered : Answered) (d : PushDecoder) (work later : Option Work) (t : FrameCame taken answered answer d work)
+pub sound_works : (answer : Result ℕ FrameFault) (taken : List ℕ) (answered : Answered) (d : PushDecoder) (work later : Option Work)
+    (t : FrameCame taken answered answer d work)
     (here new : Option (List ℕ)) (half left : Option ℕ) → SoundEnds answer (Ok tt) t.work_is later here new half left →
     Works (begun t.front (t.frames ++ t.frame ∷ [])) later
 sound_works (Err fault) taken answered d work later t here new half left ends = absurd ends
@@ -133,7 +141,8 @@ sound_works (Ok tail) taken answered d work later t here new half left ends = (
   },
 )
 
-pub sound_goes_on : (answer : Result ℕ FrameFault) (taken : List ℕ) (answered : Answered) (d : PushDecoder) (work later : Option Work) (t : FrameCame taken answered answer d work)
+pub sound_goes_on : (answer : Result ℕ FrameFault) (taken : List ℕ) (answered : Answered) (d : PushDecoder) (work later : Option Work)
+    (t : FrameCame taken answered answer d work)
     (old here new : Option (List ℕ)) (room half left : Option ℕ) → Wrote answered old here room half →
     SoundEnds answer (Ok tt) t.work_is later here new half left → GoesOn taken d later old new room left
 sound_goes_on (Err fault) taken answered d work later t old here new room half left wrote ends = absurd ends
@@ -152,8 +161,10 @@ sound_goes_on (Ok tail) taken answered d work later t old here new room half lef
       };
     }
 
-pub sound_left : (answer : Result ℕ FrameFault) (taken : List ℕ) (answered : Answered) (d : PushDecoder) (first work later : Option Work) (t : FrameCame taken answered answer d work)
-    (here new : Option (List ℕ)) (half left : Option ℕ) → Works answered first → SoundEnds answer (Ok tt) t.work_is later here new half left → events_left later < events_left first
+pub sound_left : (answer : Result ℕ FrameFault) (taken : List ℕ) (answered : Answered) (d : PushDecoder) (first work later : Option Work)
+    (t : FrameCame taken answered answer d work)
+    (here new : Option (List ℕ)) (half left : Option ℕ) → Works answered first → SoundEnds answer (Ok tt) t.work_is later here new half left →
+    events_left later < events_left first
 sound_left (Err fault) taken answered d first work later t here new half left works ends = absurd ends
 sound_left (Ok tail) taken answered d first work later t here new half left works ends =
     let m = t.work_is in
@@ -167,7 +178,8 @@ sound_left (Ok tail) taken answered d first work later t here new half left work
     let e = before.2.decoded in
     omega (arith, room, now, then, a, b, c, e)
 
-pub sound_stops : (answer : Result ℕ FrameFault) (fault : PipeFault) (taken piece : List ℕ) (n : ℕ) (answered : Answered) (d : PushDecoder) (work later : Option Work)
+pub sound_stops : (answer : Result ℕ FrameFault) (fault : PipeFault) (taken piece : List ℕ) (n : ℕ) (answered : Answered) (d : PushDecoder)
+    (work later : Option Work)
     (t : FrameCame (taken ++ take n piece) answered answer d work)
     (old here new : Option (List ℕ)) (room half left : Option ℕ) → Wrote answered old here room half →
     SoundEnds answer (Err fault) t.work_is later here new half left → StopsBy fault taken piece old new room left

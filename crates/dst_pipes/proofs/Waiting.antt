@@ -7,7 +7,8 @@ use Rattle.dst_pipes.specs.Steps.{Waits}
 use Rattle.dst_pipes.specs.declared.work.Work.{Work}
 
 -- so many bytes were read, and all of them taken; nothing is due of them
-pub record IsWaiting (d : PushDecoder) (work : Option Work) (read : ℕ) (old new : Option (List ℕ)) (room left : Option ℕ) (left_then left_now : Option (List ℕ)) : Type 0 where
+pub record IsWaiting (d : PushDecoder) (work : Option Work) (read : ℕ) (old new : Option (List ℕ)) (room left : Option ℕ)
+    (left_then left_now : Option (List ℕ)) : Type 0 where
   pub taken : List ℕ
   pub waits : Waits taken d work old new room left
   pub count : read ≡ length taken
@@ -29,4 +30,5 @@ no_end_behind (f ∷ fs) e = absurd cc
 
 pub waits_for_more : (p : List ℕ) (answered : Answered) → due p answered ≡ None → (stream p).ending ≡ ended → ⊥
 waits_for_more p nothing_answered none e = no_end (stream p).front (subst (λ x. front_event (stream p).front x ≡ None) e none)
-waits_for_more p (begun f fs) none e = no_end_behind (drop (length fs) (stream p).frames) (subst (λ x. frame_event (drop (length fs) (stream p).frames) x ≡ None) e none)
+waits_for_more p (begun f fs) none e = no_end_behind (drop (length fs) (stream p).frames)
+    (subst (λ x. frame_event (drop (length fs) (stream p).frames) x ≡ None) e none)

@@ -1,5 +1,6 @@
 -- The bytes of the plain file: its head, the sounds of some frames, and zeros for the others.
-use Rattle.std.proofs.Common.{◌≡◌, ℕ, zero, suc, ◌+◌, ◌-◌, ◌*◌, ◌%◌, ◌≤◌, ◌==◌, List, [], ◌∷◌, ◌++◌, length, replicate, refl, sym, ap, ap₂, ◌∙◌, arith, length-append, append-nil, append_assoc}
+use Rattle.std.proofs.Common.{◌≡◌, ℕ, zero, suc, ◌+◌, ◌-◌, ◌*◌, ◌%◌, ◌≤◌, ◌==◌, List, [], ◌∷◌, ◌++◌, length, replicate, refl, sym, ap, ap₂, ◌∙◌}
+use Rattle.std.proofs.Common.{arith, length-append, append-nil, append_assoc}
 use Rattle.std.specs.Prelude.{codes, if◌then◌else◌}
 use Rattle.std.specs.List.{concat}
 use Rattle.std.proofs.lemmas.List.{length-replicate}
@@ -37,7 +38,8 @@ length-body front sounds whole le =
     let all : k + m ≡ front.frames = omega (arith, le) in
     length-append (concat sounds) (zeros front k)
     ∙ ap₂ (λ a b. a + b) (length-sounds (size_of front) sounds whole)
-    (length-sounds (size_of front) (replicate m (replicate (size_of front) 0)) (zeros_whole m (size_of front)) ∙ ap (λ n. n * size_of front) (length-replicate m (replicate (size_of front) 0)))
+    (length-sounds (size_of front) (replicate m (replicate (size_of front) 0)) (zeros_whole m (size_of front))
+    ∙ ap (λ n. n * size_of front) (length-replicate m (replicate (size_of front) 0)))
     ∙ shared k m (size_of front)
     ∙ ap (λ n. n * size_of front) all
 
@@ -90,7 +92,8 @@ piped_is front sounds four whole le =
     ∙ ap (λ x. form_of (v ∷ p ∷ x ∷ [])) (sound_is body n long (even front))
     ∙ ap (λ x. codes "FRM8" ++ big_bytes 8 (4 + length x) ++ codes "DSD " ++ x) (three v p d)
     ∙ ap (λ m. opening_bytes m ++ (v ++ (p ++ d))) size
-    ∙ ap (λ x. opening_bytes (plain_size front.prop n) ++ (v ++ (p ++ x))) (append_assoc (codes "DSD ") (big_bytes 8 n) body ∙ sym (append_assoc (codes "DSD ") (big_bytes 8 n) body))
+    ∙ ap (λ x. opening_bytes (plain_size front.prop n) ++ (v ++ (p ++ x)))
+    (append_assoc (codes "DSD ") (big_bytes 8 n) body ∙ sym (append_assoc (codes "DSD ") (big_bytes 8 n) body))
     ∙ grouped (opening_bytes (plain_size front.prop n)) v p (codes "DSD " ++ big_bytes 8 n) body
 
 pub length-head : (front : Front) → length front.version ≡ 4 → length (head_of front) ≡ place_of_piped_sound front

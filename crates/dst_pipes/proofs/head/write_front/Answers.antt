@@ -17,7 +17,8 @@ returns-in_default-clause-written g c =
     let sound = c.args.sound in
     let version = c.args.version.now in
     let same = opening_is prop c.plain_cmpr-cmpr.result.now sound _ c.prop_length.result c.prop_length.ensures.length c.plain_cmpr-cmpr.ensures refl in
-    stops_first (Unit {0}) (opening_bytes (plain_size prop sound) ++ version_bytes version ++ prop_with prop cmpr_plain) (codes "DSD " ++ big_bytes 8 sound) _ _ _
+    stops_first (Unit {0}) (opening_bytes (plain_size prop sound) ++ version_bytes version ++ prop_with prop cmpr_plain)
+    (codes "DSD " ++ big_bytes 8 sound) _ _ _
     (stops_first (Unit {0}) (opening_bytes (plain_size prop sound) ++ version_bytes version) (prop_with prop cmpr_plain) _ _ _
     (stops_first (Unit {0}) (opening_bytes (plain_size prop sound)) (version_bytes version) _ _ _
     (stops_same (Unit {0}) _ (opening_bytes (plain_size prop sound)) _ _ _ same c.in_default.ensures.written)))
@@ -28,7 +29,8 @@ returns-in_default-write_version-clause-written g c =
     let sound = c.args.sound in
     let version = c.args.version.now in
     let same = opening_is prop c.plain_cmpr-cmpr.result.now sound _ c.prop_length.result c.prop_length.ensures.length c.plain_cmpr-cmpr.ensures refl in
-    stops_first (Unit {0}) (opening_bytes (plain_size prop sound) ++ version_bytes version ++ prop_with prop cmpr_plain) (codes "DSD " ++ big_bytes 8 sound) _ _ _
+    stops_first (Unit {0}) (opening_bytes (plain_size prop sound) ++ version_bytes version ++ prop_with prop cmpr_plain)
+    (codes "DSD " ++ big_bytes 8 sound) _ _ _
     (stops_first (Unit {0}) (opening_bytes (plain_size prop sound) ++ version_bytes version) (prop_with prop cmpr_plain) _ _ _
     (stops_then (Unit {0}) (opening_bytes (plain_size prop sound)) (version_bytes version) _ _ _ _ _
     (adds_same _ (opening_bytes (plain_size prop sound)) _ _ _ _ same c.in-Ok.ensures.written) c.in_default-write_version.ensures.written))
@@ -40,7 +42,8 @@ returns-in_default-write_prop-clause-written g c =
     let version = c.args.version.now in
     let same = opening_is prop c.plain_cmpr-cmpr.result.now sound _ c.prop_length.result c.prop_length.ensures.length c.plain_cmpr-cmpr.ensures refl in
     let of_prop = ap (prop_with prop) c.plain_cmpr-cmpr.ensures in
-    stops_first (Unit {0}) (opening_bytes (plain_size prop sound) ++ version_bytes version ++ prop_with prop cmpr_plain) (codes "DSD " ++ big_bytes 8 sound) _ _ _
+    stops_first (Unit {0}) (opening_bytes (plain_size prop sound) ++ version_bytes version ++ prop_with prop cmpr_plain)
+    (codes "DSD " ++ big_bytes 8 sound) _ _ _
     (stops_then (Unit {0}) (opening_bytes (plain_size prop sound) ++ version_bytes version) (prop_with prop cmpr_plain) _ _ _ _ _
     (adds_then (opening_bytes (plain_size prop sound)) (version_bytes version) _ _ _ _ _ _
     (adds_same _ (opening_bytes (plain_size prop sound)) _ _ _ _ same c.in-Ok.ensures.written) c.in-Ok-write_version.ensures.written)
@@ -54,7 +57,8 @@ returns-clause-written g c =
     let version = c.args.version.now in
     let same = opening_is prop c.plain_cmpr-cmpr.result.now sound _ c.prop_length.result c.prop_length.ensures.length c.plain_cmpr-cmpr.ensures refl in
     let of_prop = ap (prop_with prop) c.plain_cmpr-cmpr.ensures in
-    then_appended c.write_head.result (opening_bytes (plain_size prop sound) ++ version_bytes version ++ prop_with prop cmpr_plain) (codes "DSD " ++ big_bytes 8 sound) _ _ _ _ _ _
+    then_appended c.write_head.result (opening_bytes (plain_size prop sound) ++ version_bytes version ++ prop_with prop cmpr_plain)
+    (codes "DSD " ++ big_bytes 8 sound) _ _ _ _ _ _
     (adds_then (opening_bytes (plain_size prop sound) ++ version_bytes version) (prop_with prop cmpr_plain) _ _ _ _ _ _
     (adds_then (opening_bytes (plain_size prop sound)) (version_bytes version) _ _ _ _ _ _
     (adds_same _ (opening_bytes (plain_size prop sound)) _ _ _ _ same c.in-Ok.ensures.written) c.in-Ok-write_version.ensures.written)

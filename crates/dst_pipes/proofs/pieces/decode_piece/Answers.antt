@@ -29,7 +29,8 @@ loop-taken-preserved g c = record {
       let goes = c.loop-taken.invariant.goes taken answered has works old room wrote in
       let m = c.loop-taken.start in
       let ends = rw c.in-Again.is at (c.in-Ok.ensures.ends (taken ++ take m c.args.piece.now) goes.answered goes.stands goes.works old room goes.wrote) in
-      subst (λ p. GoesOn p c.decode_step.new.decoder c.decode_step.new.work old (g.K.Sink.written c.decode_step.new.sink) room (g.K.Sink.room c.decode_step.new.sink))
+      subst (λ p. GoesOn p c.decode_step.new.decoder c.decode_step.new.work old (g.K.Sink.written c.decode_step.new.sink) room
+      (g.K.Sink.room c.decode_step.new.sink))
       (and_more taken c.args.piece.now m c.in-Ok.taken.0) (rw (rest_of c.args.piece.now m) at ends);
 }
 
@@ -39,7 +40,8 @@ returns-in-More-clause-ends g c taken answered has works old room wrote =
     let m = c.loop-taken.start in
     let ends = rw c.in-More.is at (c.in-Ok.ensures.ends (taken ++ take m c.args.piece.now) goes.answered goes.stands goes.works old room goes.wrote) in
     let moved = rw (rest_of c.args.piece.now m) at ends in
-    subst (λ p. Waits p c.decode_step.new.decoder c.decode_step.new.work old (g.K.Sink.written c.decode_step.new.sink) room (g.K.Sink.room c.decode_step.new.sink))
+    subst (λ p. Waits p c.decode_step.new.decoder c.decode_step.new.work old (g.K.Sink.written c.decode_step.new.sink) room
+    (g.K.Sink.room c.decode_step.new.sink))
     (whole_piece taken c.args.piece.now m c.in-Ok.taken.0 moved.0 (omega (arith, c.loop-taken.invariant.within))) moved.1
 
 pub returns-in-End-clause-ends : goal.returns-in-End-clause-ends

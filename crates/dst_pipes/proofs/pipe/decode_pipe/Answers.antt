@@ -8,12 +8,14 @@ returns-clause-decoded g c = ends_decoded c.run.result _ _ _ _ c.run.ensures.end
 
 pub returns-clause-file : goal.returns-clause-file
 returns-clause-file g c fault e w told =
-    let ends = subst (λ r. PipeEnds r w (g.K.Sink.written c.args.sink.now) (g.K.Sink.written c.run.new.sink) (g.K.Sink.room c.args.sink.now)) e (c.run.ensures.ends w told) in
+    let ends = subst (λ r. PipeEnds r w (g.K.Sink.written c.args.sink.now) (g.K.Sink.written c.run.new.sink) (g.K.Sink.room c.args.sink.now)) e
+    (c.run.ensures.ends w told) in
     (ends.0, ends.1.0, ends.1.1)
 
 pub returns-clause-frame : goal.returns-clause-frame
 returns-clause-frame g c k fault e w told =
-    let ends = subst (λ r. PipeEnds r w (g.K.Sink.written c.args.sink.now) (g.K.Sink.written c.run.new.sink) (g.K.Sink.room c.args.sink.now)) e (c.run.ensures.ends w told) in
+    let ends = subst (λ r. PipeEnds r w (g.K.Sink.written c.args.sink.now) (g.K.Sink.written c.run.new.sink) (g.K.Sink.room c.args.sink.now)) e
+    (c.run.ensures.ends w told) in
     (ends.0, ends.1.0, ends.1.1)
 
 pub returns-clause-cut_short : goal.returns-clause-cut_short

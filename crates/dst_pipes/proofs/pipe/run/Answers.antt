@@ -34,7 +34,8 @@ returns-in_default-clause-ends g c w told =
     let flow = at.flow w told in
     let bytes = g.met.F.Flow.told_are_bytes c.args.flow.now w told in
     subst (λ v. IsStoppedShort v (g.K.Sink.written c.args.sink.now) (g.K.Sink.written c.loop-read.sink)) (sym flow.2)
-    (ends_in_reading at.taken flow.0 at.waits.answered _ _ _ _ (subst AreBytes flow.2 bytes) (events_law c.loop-read.decoder at.taken at.waits.answered at.waits.stands) at.waits.wrote)
+    (ends_in_reading at.taken flow.0 at.waits.answered _ _ _ _ (subst AreBytes flow.2 bytes)
+    (events_law c.loop-read.decoder at.taken at.waits.answered at.waits.stands) at.waits.wrote)
 
 -- the flow is at its end
 pub returns-then-count-eq0-clause-ends : goal.returns-then-count-eq0-clause-ends
@@ -45,7 +46,8 @@ returns-then-count-eq0-clause-ends g c w told =
     let none : flow.0 ≡ [] = zero.0 c.if-count-eq0.true in
     let same : w ≡ at.taken = flow.2 ∙ ap (λ x. at.taken ++ x) none ∙ append-nil at.taken in
     ends_cut_off w at.waits.answered c.cut_fault.result _ _ _ _
-    (subst (λ v. AreOf at.waits.answered (stream v)) (append-nil at.taken ∙ sym same) (events_law c.loop-read.decoder at.taken at.waits.answered at.waits.stands []))
+    (subst (λ v. AreOf at.waits.answered (stream v)) (append-nil at.taken ∙ sym same)
+    (events_law c.loop-read.decoder at.taken at.waits.answered at.waits.stands []))
     (ap (λ v. due v at.waits.answered) same ∙ at.waits.nothing_due)
     (subst (λ v. EndsAs (Err c.cut_fault.result) (stream v).ending) (sym same) (c.cut_fault.ensures at.taken at.waits.answered at.waits.stands))
     at.waits.wrote
@@ -67,7 +69,8 @@ returns-in-Ok-true-clause-ends g c w told =
     flow.2 ∙ ap (λ x. at.taken ++ x) moved.2 ∙ split_at at.taken piece moved.0 ends.0 in
     let bytes = g.met.F.Flow.told_are_bytes c.args.flow.now w told in
     subst (λ v. PipeEnds c.finish.result v (g.K.Sink.written c.args.sink.now) (g.K.Sink.written c.finish.new.sink) (g.K.Sink.room c.args.sink.now)) (sym same)
-    (finished c.finish.result (at.taken ++ take ends.0 piece) (drop ends.0 piece ++ moved.0) _ _ _ _ _ _ ends.1 (subst AreBytes same bytes) c.finish.ensures.written
+    (finished c.finish.result (at.taken ++ take ends.0 piece) (drop ends.0 piece ++ moved.0) _ _ _ _ _ _ ends.1 (subst AreBytes same bytes)
+    c.finish.ensures.written
     c.finish.ensures.sure (write_alone c.finish.result _ _ c.finish.ensures.cause) c.finish.ensures.frames c.finish.ensures.bytes)
 
 pub returns-in-Err-clause-ends : goal.returns-in-Err-clause-ends
@@ -79,7 +82,8 @@ returns-in-Err-clause-ends g c w told =
     let moved = flow_moved piece flow.0 _ (sym flow.1 ∙ c.in-Ok.ensures.moved) in
     let same : w ≡ at.taken ++ (piece ++ moved.0) = flow.2 ∙ ap (λ x. at.taken ++ x) moved.2 in
     let bytes = g.met.F.Flow.told_are_bytes c.args.flow.now w told in
-    subst (λ v. PipeEnds (Err c.in-Err.fault) v (g.K.Sink.written c.args.sink.now) (g.K.Sink.written c.decode_piece.new.sink) (g.K.Sink.room c.args.sink.now)) (sym same)
+    subst (λ v. PipeEnds (Err c.in-Err.fault) v (g.K.Sink.written c.args.sink.now) (g.K.Sink.written c.decode_piece.new.sink)
+    (g.K.Sink.room c.args.sink.now)) (sym same)
     (piece_stops c.in-Err.fault at.taken piece moved.0 _ _ _ _ (subst AreBytes same bytes) ends)
 
 pub loop-read-preserved : goal.loop-read-preserved

@@ -8,7 +8,8 @@ use Rattle.dst_pipes.specs.Heads.{head_with, head_of}
 use Rattle.dst_pipes.proofs.Stepping.{lawful_told, shape_told}
 use Rattle.dst_pipes.proofs.steps.begin.Goals as goal
 
-head_told : (front : Front) (version prop : List ℕ) (sound : ℕ) → version ≡ front.version → prop ≡ front.prop → sound ≡ front.frames * sound_bytes (shape_in front.prop) →
+head_told : (front : Front) (version prop : List ℕ) (sound : ℕ) → version ≡ front.version → prop ≡ front.prop →
+    sound ≡ front.frames * sound_bytes (shape_in front.prop) →
     head_with version prop sound ≡ head_of front
 head_told front version prop sound a b c =
     ap (λ v. head_with v prop sound) a ∙ ap (λ p. head_with front.version p sound) b ∙ ap (head_with front.version front.prop) c

@@ -2,7 +2,8 @@ use Rattle.std.proofs.Common.{◌≡◌, [], ◌∷◌, ◌++◌, take, Some, No
 use Rattle.push_decoder.specs.Events.{begun, has_ended, due}
 use Rattle.push_decoder.proofs.Pieces.{events_law}
 use Rattle.dst_pipes.specs.States.{Works, Wrote, BeginsSo, events_left}
-use Rattle.dst_pipes.proofs.Stepping.{begins_more, told_of, begun_goes_on, begun_stops, begun_no_read, sound_works, sound_goes_on, sound_left, sound_stops, sound_no_device, both_none, sound_some}
+use Rattle.dst_pipes.proofs.Stepping.{begins_more, told_of, begun_goes_on, begun_stops, begun_no_read, sound_works, sound_goes_on, sound_left}
+use Rattle.dst_pipes.proofs.Stepping.{sound_stops, sound_no_device, both_none, sound_some}
 use Rattle.dst_pipes.proofs.steps.decode_step.Goals as goal
 
 pub returns-in-Err-clause-ends : goal.returns-in-Err-clause-ends
@@ -104,12 +105,14 @@ pub returns-in-Err-write_sound-clause-memory : goal.returns-in-Err-write_sound-c
 returns-in-Err-write_sound-clause-memory g c refused e =
     let r = c.requires.ready in
     let t = rw c.in-Frame.is at (c.in-Ok.ensures.took r.taken r.answered r.stands r.works) in
-    absurd ((sound_no_device c.in-Frame.answer c.in-Err-write_sound.fault t.work_is _ _ _ _ _ (c.in-Err-write_sound.ensures.sound t.work_is t.some)).1 refused cc)
+    absurd ((sound_no_device c.in-Frame.answer c.in-Err-write_sound.fault t.work_is _ _ _ _ _ (c.in-Err-write_sound.ensures.sound t.work_is t.some)).1
+    refused cc)
 
 pub returns-in-Err-write_sound-clause-ends : goal.returns-in-Err-write_sound-clause-ends
 returns-in-Err-write_sound-clause-ends g c taken answered has works old room wrote =
     let t = rw c.in-Frame.is at (c.in-Ok.ensures.took taken answered has works) in
-    sound_stops c.in-Frame.answer c.in-Err-write_sound.fault taken c.args.piece.now c.in-Ok.taken.0 answered c.take_step.new.decoder _ _ t old _ _ room _ _ wrote
+    sound_stops c.in-Frame.answer c.in-Err-write_sound.fault taken c.args.piece.now c.in-Ok.taken.0 answered c.take_step.new.decoder _ _ t old _ _
+    room _ _ wrote
     (c.in-Err-write_sound.ensures.sound t.work_is t.some)
 
 pub returns-in-More-clause-untouched : goal.returns-in-More-clause-untouched
@@ -135,7 +138,13 @@ returns-in-Ok-begin-clause-ready g c n e =
     let r = c.requires.ready in
     let t = rw c.in-Head.is at (c.in-Ok.ensures.took r.taken r.answered r.stands r.works) in
     let begun_is = c.in-Ok-begin.ensures.begun t.front (told_of _ _ _ _ _ _ _ t) in
-    record { taken = r.taken ++ take c.in-Ok.taken.0 c.args.piece.now; answered = begun t.front []; stands = t.stands; works = (c.in-Ok-begin.begun, refl, begun_is.0) }
+    record {
+      taken = r.taken ++ take c.in-Ok.taken.0 c.args.piece.now;
+      answered = begun t.front [];
+      stands = t.stands;
+      works =
+          (c.in-Ok-begin.begun, refl, begun_is.0);
+    }
 
 pub returns-in-Ok-write_sound-clause-ready : goal.returns-in-Ok-write_sound-clause-ready
 returns-in-Ok-write_sound-clause-ready g c n e =

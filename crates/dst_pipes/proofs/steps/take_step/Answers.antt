@@ -16,8 +16,13 @@ returns-in-Err-clause-took c taken answered has works =
 pub returns-in-More-clause-took : goal.returns-in-More-clause-took
 returns-in-More-clause-took c taken answered has works =
     let told = rw c.in-More.is at (c.in-Ok.ensures.answer taken answered has) in
-    let read = rw c.in-Ok.is at (c.take.follows.holds-at-none taken answered has) in
-    (told.1.1, told.1.0, subst (λ e. HasRead c.take.follows.lender-at-none.reader (taken ++ take c.in-Ok.taken.0 c.args.piece.now) (answered_with e answered)) told.1.0 read.read, works)
+    let read = rw c.in-Ok.is at (c.take.follows.holds-at-none taken answered has) in (
+      told.1.1,
+      told.1.0,
+      subst (λ e. HasRead c.take.follows.lender-at-none.reader (taken ++ take c.in-Ok.taken.0 c.args.piece.now)
+          (answered_with e answered)) told.1.0 read.read,
+      works,
+    )
 
 pub returns-in-Head-clause-took : goal.returns-in-Head-clause-took
 returns-in-Head-clause-took c taken answered has works =
@@ -55,7 +60,8 @@ pub decode_frame-answer-requires-clause-frame : goal.decode_frame-answer-require
 decode_frame-answer-requires-clause-frame c =
     let r = c.requires.ready in
     let told = rw c.in-Frame.is at (c.in-Ok.ensures.answer r.taken r.answered r.stands) in
-    let room = frame_room c.args.decoder.now c.args.work.now c.in-Some.work r.taken (take c.in-Ok.taken.0 c.args.piece.now) r.answered c.in-Frame.bytes.now r.stands r.works told.1.0 c.in-Some.is in
+    let room = frame_room c.args.decoder.now c.args.work.now c.in-Some.work r.taken (take c.in-Ok.taken.0 c.args.piece.now) r.answered
+    c.in-Frame.bytes.now r.stands r.works told.1.0 c.in-Some.is in
     let short = room.fits.short in
     subst (λ f. length c.in-Frame.bytes.now ≤ 2 * (sound_bytes f + 1)) (sym room.works.channels) short
 
@@ -65,7 +71,8 @@ returns-in-Some-clause-took c taken answered has works =
     let read = rw c.in-Ok.is at (c.take.follows.holds-at-none taken answered has) in
     let p = taken ++ take c.in-Ok.taken.0 c.args.piece.now in
     let frame = c.in-Frame.bytes.now in
-    let room = frame_room c.args.decoder.now c.args.work.now c.in-Some.work taken (take c.in-Ok.taken.0 c.args.piece.now) answered frame has works told.1.0 c.in-Some.is in
+    let room = frame_room c.args.decoder.now c.args.work.now c.in-Some.work taken (take c.in-Ok.taken.0 c.args.piece.now) answered frame has works
+    told.1.0 c.in-Some.is in
     let after = subst (λ e. HasRead c.take.follows.lender-at-none.reader p (answered_with e answered)) told.1.0 read.read in
     let channels = room.works.channels in
     let long = c.decode_frame-answer.auto.out ∙ ap length c.deref_mut.ensures.value in
@@ -89,5 +96,6 @@ returns-in-Some-clause-took c taken answered has works =
       few = room.few;
       decoded = is_decoded c.decode_frame-answer.result c.in-Some.work.channels room.front frame c.decode_frame-answer.new.out _ channels kept
           (decoded_is c.decode_frame-answer.result c.in-Some.work.channels frame c.decode_frame-answer.new.out
-          (subst IsShape (sym channels) room.lawful) c.decode_frame-answer.ensures.sound c.decode_frame-answer.ensures.whole c.decode_frame-answer.ensures.fault);
+          (subst IsShape (sym channels) room.lawful) c.decode_frame-answer.ensures.sound c.decode_frame-answer.ensures.whole
+          c.decode_frame-answer.ensures.fault);
     }
