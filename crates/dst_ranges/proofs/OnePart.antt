@@ -20,7 +20,8 @@ use Rattle.dst_ranges.specs.Reading.{AreRead, OfSound, Wrote, Stopped}
 frame_of_reader : (file : List ℕ) (form : Form) (r : Reader) (k : ℕ) → IsReaderOf file form r → frame_in file r k ≡ nth_frame file form k
 frame_of_reader file form r k is = sym (ap (λ (es : List Entry). frame_at file (entry es k)) is.entries_are)
 
-means_in_form : (file : List ℕ) (form : Form) (r : Reader) (k : ℕ) (s : List ℕ) → IsReaderOf file form r → Means r.shape (frame_in file r k) s → Means (shape form) (nth_frame file form k) s
+means_in_form : (file : List ℕ) (form : Form) (r : Reader) (k : ℕ) (s : List ℕ) → IsReaderOf file form r → Means r.shape (frame_in file r k) s →
+    Means (shape form) (nth_frame file form k) s
 means_in_form file form r k s is h =
     subst (λ f. Means f (nth_frame file form k) s) (sym is.shape_is) (subst (λ w. Means r.shape w s) (frame_of_reader file form r k is) h)
 
@@ -30,7 +31,8 @@ refuses_in_form file form r k fault is h =
     subst (λ f. Offends f (nth_frame file form k) fault) (sym is.shape_is) (subst (λ w. Offends r.shape w fault) (frame_of_reader file form r k is) h)
 
 -- ---- the frame means a sound, of which the part was read
-one_is_read : (file : List ℕ) (form : Form) (sound : List ℕ) (r : Reader) (k from count : ℕ) (ks piece : List ℕ) → ks ≡ k ∷ [] → length piece ≡ count → IsReaderOf file form r →
+one_is_read : (file : List ℕ) (form : Form) (sound : List ℕ) (r : Reader) (k from count : ℕ) (ks piece : List ℕ) → ks ≡ k ∷ [] → length piece ≡ count →
+    IsReaderOf file form r →
     MeanSounds file r ks → piece ≡ bytes_at sound from count → AreRead file form sound (part k from count ∷ [])
 one_is_read file form sound r k from count ks piece one long is means same =
     let m = subst (MeanSounds file r) one means in
@@ -42,7 +44,8 @@ one_is_read file form sound r k from count ks piece one long is means same =
 piece_is : (sound piece : List ℕ) (k from count : ℕ) → piece ≡ bytes_at sound from count → piece ≡ bytes_of sound (part k from count ∷ [])
 piece_is sound piece k from count same = same ∙ sym (append-nil (bytes_at sound from count))
 
-pub one_wrote : (r r' : Reader) (k from count decoded : ℕ) (ks piece : List ℕ) (bytes : Option (List ℕ)) (given given' : ℕ) (old new : Option (List ℕ)) (room left : Option ℕ) →
+pub one_wrote : (r r' : Reader) (k from count decoded : ℕ) (ks piece : List ℕ) (bytes : Option (List ℕ)) (given given' : ℕ) (old new : Option (List ℕ))
+    (room left : Option ℕ) →
     ks ≡ k ∷ [] → length piece ≡ count → HasWanted r r' ks decoded bytes given given' → OfSound bytes r (λ file form sound. piece ≡ bytes_at sound from count) →
     Adds piece old new room left → Wrote r r' (part k from count ∷ []) bytes given given' old new room left
 one_wrote r r' k from count decoded ks piece bytes given given' old new room left one long wanted read adds = record {
@@ -56,7 +59,8 @@ one_wrote r r' k from count decoded ks piece bytes given given' old new room lef
 }
 
 -- ---- the sink fails
-pub one_unwritten : (r r' : Reader) (k from count decoded : ℕ) (ks piece : List ℕ) (bytes : Option (List ℕ)) (given given' : ℕ) (old new : Option (List ℕ)) (room : Option ℕ) →
+pub one_unwritten : (r r' : Reader) (k from count decoded : ℕ) (ks piece : List ℕ) (bytes : Option (List ℕ)) (given given' : ℕ) (old new : Option (List ℕ))
+    (room : Option ℕ) →
     ks ≡ k ∷ [] → length piece ≡ count → HasWanted r r' ks decoded bytes given given' → OfSound bytes r (λ file form sound. piece ≡ bytes_at sound from count) →
     Stops (Unit {0}) piece old new room → Stopped r (part k from count ∷ []) Write bytes old new room
 one_unwritten r r' k from count decoded ks piece bytes given given' old new room one long wanted read stops file form sound told keeps of whole =
@@ -79,7 +83,8 @@ only_one [] behind k j e = cc
 only_one (b ∷ []) behind k j e = absurd cc
 only_one (b ∷ c ∷ cs) behind k j e = absurd cc
 
-pub one_refused : (r : Reader) (k from count j : ℕ) (fault : FrameFault) (ks order : List ℕ) (bytes : Option (List ℕ)) (old : Option (List ℕ)) (room : Option ℕ) →
+pub one_refused : (r : Reader) (k from count j : ℕ) (fault : FrameFault) (ks order : List ℕ) (bytes : Option (List ℕ)) (old : Option (List ℕ))
+    (room : Option ℕ) →
     ks ≡ k ∷ [] → IsRefusedAt r ks order bytes j fault → Stopped r (part k from count ∷ []) (Frame j fault) bytes old old room
 one_refused r k from count j fault ks order bytes old room one h file form sound told keeps of whole = record {
   before = [];

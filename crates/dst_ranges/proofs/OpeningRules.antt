@@ -1,5 +1,6 @@
 -- The rules of parts behind those of listing a file's frames: each pair lies in the sound.
-use Rattle.std.proofs.Common.{◌≡◌, ℕ, suc, ◌+◌, ◌*◌, ◌<◌, ◌≤◌, if◌then◌else◌, List, [], ◌∷◌, length, get_or, drop, Option, Some, None, refl, sym, ap, ap₂, subst, ◌∙◌, arith, drop-cons}
+use Rattle.std.proofs.Common.{◌≡◌, ℕ, suc, ◌+◌, ◌*◌, ◌<◌, ◌≤◌, if◌then◌else◌, List, [], ◌∷◌, length, get_or, drop, Option, Some, None, refl, sym, ap, ap₂}
+use Rattle.std.proofs.Common.{subst, ◌∙◌, arith, drop-cons}
 use Rattle.std.specs.List.{AllByRecursion}
 use Rattle.std.proofs.Math.Nat.{le-div_iff_mul-le}
 use Rattle.std.proofs.lemmas.Bool.{ltb-false, lt-ltb, le-ltb}
@@ -43,7 +44,8 @@ pub pairs_asked : (pairs : List (ℕ × ℕ)) (file : List ℕ) (form : Form) �
     refusal (range pairs) file ≡ first_some (past_fault form) pairs
 pairs_asked pairs file form h is = rules_of_range pairs file ∙ go (form_fault file) h ∙ ap (λ f. first_some (past_fault f) pairs) is
   where
-    go : (o : Option FileFault) → refused_by (form_by o file) index file ≡ None → refused_by (form_by o file) (range pairs) file ≡ first_some (past_fault (accepted file)) pairs
+    go : (o : Option FileFault) → refused_by (form_by o file) index file ≡ None →
+        refused_by (form_by o file) (range pairs) file ≡ first_some (past_fault (accepted file)) pairs
     go (Some other) e = absurd cc
     go None e = then_is (not_walked file (accepted file)) (first_some (past_fault (accepted file)) pairs) e
 

@@ -1,5 +1,6 @@
 -- Parts that are read and written behind others, and where that stops.
-use Rattle.std.proofs.Common.{◌≡◌, ℕ, ◌+◌, false, true, List, [], ◌∷◌, ◌++◌, length, Option, Some, refl, sym, ap, subst, ◌∙◌, arith, length-append, append_assoc, append-nil}
+use Rattle.std.proofs.Common.{◌≡◌, ℕ, ◌+◌, false, true, List, [], ◌∷◌, ◌++◌, length, Option, Some, refl, sym, ap, subst, ◌∙◌, arith, length-append}
+use Rattle.std.proofs.Common.{append_assoc, append-nil}
 use Rattle.dst_spec.specs.Means.{Means}
 use Rattle.dst_spec.proofs.Lists.{all_append}
 use Rattle.dst_streams.specs.Told.{and_then}
@@ -18,17 +19,20 @@ use Rattle.dst_ranges.specs.Reading.{AreRead, Wrote, IsCut, StopsIn, Stopped}
 use Rattle.dst_ranges.proofs.Asking.{frames_append, counts_append, bytes_append}
 
 -- ---- parts that are read
-pub are_read_then : (file : List ℕ) (form : Form) (sound : List ℕ) (xs ys : List Part) → AreRead file form sound xs → AreRead file form sound ys → AreRead file form sound (xs ++ ys)
+pub are_read_then : (file : List ℕ) (form : Form) (sound : List ℕ) (xs ys : List Part) → AreRead file form sound xs → AreRead file form sound ys →
+    AreRead file form sound (xs ++ ys)
 are_read_then file form sound xs ys a b = record {
   means = all_append (λ p. (s : List ℕ) × Means (shape form) (nth_frame file form p.frame) s) xs ys a.means b.means;
   whole = omega (arith, a.whole, b.whole, ap length (bytes_append sound xs ys), length-append (bytes_of sound xs) (bytes_of sound ys), counts_append xs ys);
 }
 
 reader_stays : (file : List ℕ) (form : Form) (r r' : Reader) → IsSame r r' → IsReaderOf file form r → IsReaderOf file form r'
-reader_stays file form r r' same is = subst (IsReaderOf file form) (sym same) (record { shape_is = is.shape_is; entries_are = is.entries_are; size_is = is.size_is })
+reader_stays file form r r' same is = subst (IsReaderOf file form) (sym same)
+    (record { shape_is = is.shape_is; entries_are = is.entries_are; size_is = is.size_is })
 
 -- ---- nothing, and parts behind others
-pub wrote_nothing : (r : Reader) (bytes : Option (List ℕ)) (given : ℕ) (old : Option (List ℕ)) (room : Option ℕ) → Wrote r r [] bytes given given old old room room
+pub wrote_nothing : (r : Reader) (bytes : Option (List ℕ)) (given : ℕ) (old : Option (List ℕ)) (room : Option ℕ) →
+    Wrote r r [] bytes given given old old room room
 wrote_nothing r bytes given old room = record {
   decoded = 0;
   wanted = none_wanted r bytes given;
@@ -52,7 +56,8 @@ wrote_then r r' r'' xs ys bytes g g' g'' old mid new room half left a b = record
 
 -- ---- it stops behind some parts
 cut_behind : (file : List ℕ) (form : Form) (sound : List ℕ) (xs ys : List Part) (fault : DecodeFault) (old mid new : Option (List ℕ)) (room half : Option ℕ) →
-    AreRead file form sound xs → Adds (bytes_of sound xs) old mid room half → IsCut file form sound ys fault mid new half → IsCut file form sound (xs ++ ys) fault old new room
+    AreRead file form sound xs → Adds (bytes_of sound xs) old mid room half → IsCut file form sound ys fault mid new half →
+    IsCut file form sound (xs ++ ys) fault old new room
 cut_behind file form sound xs ys fault old mid new room half read adds cut = record {
   before = xs ++ cut.before;
   behind = cut.behind;
@@ -63,7 +68,8 @@ cut_behind file form sound xs ys fault old mid new room half read adds cut = rec
       (stops_then (fault ≡ Write) (bytes_of sound xs) (bytes_of sound cut.before) old mid new room half adds cut.stops);
 }
 
-stops_in_behind : (fault : DecodeFault) (file : List ℕ) (form : Form) (sound : List ℕ) (xs ys : List Part) (old mid new : Option (List ℕ)) (room half : Option ℕ) →
+stops_in_behind : (fault : DecodeFault) (file : List ℕ) (form : Form) (sound : List ℕ) (xs ys : List Part) (old mid new : Option (List ℕ))
+    (room half : Option ℕ) →
     AreRead file form sound xs → Adds (bytes_of sound xs) old mid room half → StopsIn fault file form sound ys mid new half →
     StopsIn fault file form sound (xs ++ ys) old new room
 stops_in_behind (Frame k f) file form sound xs ys old mid new room half read adds s = record {
@@ -78,9 +84,11 @@ stops_in_behind (Frame k f) file form sound xs ys old mid new room half read add
       ∙ ap (and_then old) (sym (bytes_append sound xs s.before));
 }
 stops_in_behind Write file form sound xs ys old mid new room half read adds s = cut_behind file form sound xs ys Write old mid new room half read adds s
-stops_in_behind (Source f) file form sound xs ys old mid new room half read adds s = cut_behind file form sound xs ys (Source f) old mid new room half read adds s
+stops_in_behind (Source f) file form sound xs ys old mid new room half read adds s = cut_behind file form sound xs ys (Source f) old mid new room half read
+    adds s
 
-pub stopped_behind : (fault : DecodeFault) (r r' : Reader) (xs ys : List Part) (bytes : Option (List ℕ)) (g g' : ℕ) (old mid new : Option (List ℕ)) (room half : Option ℕ) →
+pub stopped_behind : (fault : DecodeFault) (r r' : Reader) (xs ys : List Part) (bytes : Option (List ℕ)) (g g' : ℕ) (old mid new : Option (List ℕ))
+    (room half : Option ℕ) →
     Wrote r r' xs bytes g g' old mid room half → Stopped r' ys fault bytes mid new half → Stopped r (xs ++ ys) fault bytes old new room
 stopped_behind fault r r' xs ys bytes g g' old mid new room half a s file form sound told keeps of whole =
     let first = a.added file form sound told keeps of whole in
@@ -119,7 +127,8 @@ stopped_before fault r xs ys bytes old new room s file form sound told keeps of 
     stops_in_before fault file form sound xs ys old new room (s file form sound told keeps of whole)
 
 -- it stops in some parts, behind some and in front of others
-pub stopped_among : (fault : DecodeFault) (r r' : Reader) (xs ys zs : List Part) (bytes : Option (List ℕ)) (g g' : ℕ) (old mid new : Option (List ℕ)) (room half : Option ℕ) →
+pub stopped_among : (fault : DecodeFault) (r r' : Reader) (xs ys zs : List Part) (bytes : Option (List ℕ)) (g g' : ℕ) (old mid new : Option (List ℕ))
+    (room half : Option ℕ) →
     Wrote r r' xs bytes g g' old mid room half → Stopped r' ys fault bytes mid new half → Stopped r (xs ++ (ys ++ zs)) fault bytes old new room
 stopped_among fault r r' xs ys zs bytes g g' old mid new room half a s =
     stopped_behind fault r r' xs (ys ++ zs) bytes g g' old mid new room half a (stopped_before fault r' ys zs bytes mid new half s)

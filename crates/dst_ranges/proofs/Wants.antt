@@ -63,7 +63,8 @@ pub place_first : (k : ℕ) (w : Want) (ws : List Want) → w.frame ≡ k → pl
 place_first k w ws e = ap (λ b. if b then 0 else 1 + place_of k ws) (eq-eqb w.frame k e)
 
 -- ---- the output in front of a want behind some parts that are read
-sum_of_wants : (xs : List Part) (ws : List Want) → sum (map (λ (w : Want). w.bytes) (map want_of xs ++ ws)) ≡ counts_of xs + sum (map (λ (w : Want). w.bytes) ws)
+sum_of_wants : (xs : List Part) (ws : List Want) →
+    sum (map (λ (w : Want). w.bytes) (map want_of xs ++ ws)) ≡ counts_of xs + sum (map (λ (w : Want). w.bytes) ws)
 sum_of_wants [] ws = omega arith
 sum_of_wants (x ∷ xs) ws =
     let here : sum (map (λ (w : Want). w.bytes) (map want_of (x ∷ xs) ++ ws)) ≡ x.count + sum (map (λ (w : Want). w.bytes) (map want_of xs ++ ws)) =
@@ -80,9 +81,11 @@ written_before file form pairs sound xs ys j some split read =
     let wants_is : wants form pairs ≡ map want_of xs ++ map want_of ys = sym (wants_are form pairs) ∙ ap (map want_of) split ∙ map-append want_of xs ys in
     let long : length (map want_of xs) ≡ length xs = length-map xs want_of in
     let taken : take (length xs + j) (wants form pairs) ≡ map want_of xs ++ take j (map want_of ys) =
-    ap (take (length xs + j)) wants_is ∙ ap (λ n. take (n + j) (map want_of xs ++ map want_of ys)) (sym long) ∙ take-append-add (map want_of xs) (map want_of ys) j in
+    ap (take (length xs + j)) wants_is ∙ ap (λ n. take (n + j) (map want_of xs ++ map want_of ys)) (sym long)
+    ∙ take-append-add (map want_of xs) (map want_of ys) j in
     let total : sum (map (λ (w : Want). w.bytes) (take (length xs + j) (wants form pairs))) ≡ length (bytes_of sound xs) + counts_in j ys =
     ap (λ ws. sum (map (λ (w : Want). w.bytes) ws)) taken ∙ sum_of_wants xs (take j (map want_of ys)) ∙ ap (λ n. n + counts_in j ys) (sym read.whole) in
-    let whole : range_of form pairs sound ≡ bytes_of sound xs ++ bytes_of sound ys = sym (range_is form pairs sound some) ∙ ap (bytes_of sound) split ∙ bytes_append sound xs ys in
+    let whole : range_of form pairs sound ≡ bytes_of sound xs ++ bytes_of sound ys = sym (range_is form pairs sound some) ∙ ap (bytes_of sound) split
+    ∙ bytes_append sound xs ys in
     ap (λ n. take n (range_of form pairs sound)) total ∙ ap (take (length (bytes_of sound xs) + counts_in j ys)) whole
     ∙ take-append-add (bytes_of sound xs) (bytes_of sound ys) (counts_in j ys)

@@ -38,7 +38,8 @@ asked_of pairs file o bytes ready is = record {
 abbrev pub its_parts : List (ℕ × ℕ) → OpenedParts → List Part
 its_parts pairs o = parts_of (sound_bytes o.reader.shape) o.channels.channels pairs
 
-parts_same : (pairs : List (ℕ × ℕ)) (file : List ℕ) (o : OpenedParts) → IsReady pairs o → IsOpened pairs file o → its_parts pairs o ≡ all_parts (accepted file) pairs
+parts_same : (pairs : List (ℕ × ℕ)) (file : List ℕ) (o : OpenedParts) → IsReady pairs o → IsOpened pairs file o →
+    its_parts pairs o ≡ all_parts (accepted file) pairs
 parts_same pairs file o ready is =
     let bytes : sound_bytes o.reader.shape ≡ sound_bytes_of (accepted file) = ap sound_bytes (sym is.reader_is.shape_is) in
     let channels : o.channels.channels ≡ (accepted file).channels = ap (λ (f : Shape). f.channels) (ready.shape_is ∙ sym is.reader_is.shape_is) in
@@ -49,7 +50,8 @@ keeps_none pairs file o ready =
     subst (λ (ks : List Kept). AllByRecursion (λ x. Means o.reader.shape (frame_in file o.reader x.frame) x.sound) ks) (sym ready.kept_is) tt
 
 -- ---- all is written
-pub ends_done : (pairs : List (ℕ × ℕ)) (file : List ℕ) (o : OpenedParts) (r' : Reader) (s : RangeWritten) (bytes : Option (List ℕ)) (given given' : ℕ) (old mid new : Option (List ℕ)) (room left : Option ℕ) →
+pub ends_done : (pairs : List (ℕ × ℕ)) (file : List ℕ) (o : OpenedParts) (r' : Reader) (s : RangeWritten) (bytes : Option (List ℕ)) (given given' : ℕ)
+    (old mid new : Option (List ℕ)) (room left : Option ℕ) →
     AreBytes file → IsReady pairs o → IsOpened pairs file o → bytes ≡ Some file → s.bytes ≡ groups_asked pairs * o.channels.channels →
     Wrote o.reader r' (its_parts pairs o) bytes given given' old mid room left → new ≡ mid → RangeEnds (Ok s) pairs file old new room
 ends_done pairs file o r' s bytes given given' old mid new room left are ready is told count w same =
@@ -65,7 +67,8 @@ ends_done pairs file o r' s bytes given given' old mid new room left are ready i
     (ends.0, ends.1, same ∙ ends.2)
 
 -- ---- it stops
-pub ends_short : (fault : DecodeFault) (pairs : List (ℕ × ℕ)) (file : List ℕ) (o : OpenedParts) (bytes : Option (List ℕ)) (old new : Option (List ℕ)) (room : Option ℕ) →
+pub ends_short : (fault : DecodeFault) (pairs : List (ℕ × ℕ)) (file : List ℕ) (o : OpenedParts) (bytes : Option (List ℕ)) (old new : Option (List ℕ))
+    (room : Option ℕ) →
     AreBytes file → IsReady pairs o → IsOpened pairs file o → bytes ≡ Some file → Stopped o.reader (its_parts pairs o) fault bytes old new room →
     RangeEnds (Err fault) pairs file old new room
 ends_short fault pairs file o bytes old new room are ready is told stopped =
@@ -78,7 +81,8 @@ frames_of_wants : (ps : List Part) → frames_wanted ps ≡ map (λ (w : Want). 
 frames_of_wants [] = refl
 frames_of_wants (p ∷ ps) = ap (λ ks. p.frame ∷ ks) (frames_of_wants ps)
 
-pub given_most : (pairs : List (ℕ × ℕ)) (file : List ℕ) (o : OpenedParts) (r' : Reader) (bytes : Option (List ℕ)) (given given' : ℕ) (old new : Option (List ℕ)) (room left : Option ℕ) →
+pub given_most : (pairs : List (ℕ × ℕ)) (file : List ℕ) (o : OpenedParts) (r' : Reader) (bytes : Option (List ℕ)) (given given' : ℕ)
+    (old new : Option (List ℕ)) (room left : Option ℕ) →
     IsReady pairs o → IsOpened pairs file o → given < 2 ^ 64 → Wrote o.reader r' (its_parts pairs o) bytes given given' old new room left →
     given' ≤ given + bytes_read file (accepted file) pairs
 given_most pairs file o r' bytes given given' old new room left ready is small w =
@@ -92,6 +96,7 @@ given_most pairs file o r' bytes given given' old new room left ready is small w
     ∙ ap (λ l. decoded_of [] l r.capacity) frames ∙ ap (decoded_of [] (map (λ (w : Want). w.frame) (wants form pairs))) ready.capacity_is in
     let stored : stored_bytes r (decoded_of (order r) (frames_wanted (its_parts pairs o)) r.capacity) ≡ bytes_read file form pairs =
     ap (stored_bytes r) decoded
-    ∙ ap (λ (es : List Entry). sum (map (λ k. (entry es k).size) (decoded_of [] (map (λ (w : Want). w.frame) (wants form pairs)) 16))) (sym is.reader_is.entries_are) in
+    ∙ ap (λ (es : List Entry). sum (map (λ k. (entry es k).size) (decoded_of [] (map (λ (w : Want). w.frame) (wants form pairs)) 16)))
+    (sym is.reader_is.entries_are) in
     let more = w.wanted.given_is small in
     omega (arith, more, stored)

@@ -43,7 +43,8 @@ returns-clause-opened g c file told =
     let fresh = c.in-Ok-new.ensures.fresh in
     let is = c.in-Ok.ensures.opened file told in
     record {
-      accepts = pairs_asked c.args.pairs.now file (coded_seen form) (c.in-Ok.ensures.accepted file told) is.form_is ∙ sym c.past_fault.ensures.first ∙ c.in_default.is;
+      accepts = pairs_asked c.args.pairs.now file (coded_seen form) (c.in-Ok.ensures.accepted file told) is.form_is ∙ sym c.past_fault.ensures.first
+          ∙ c.in_default.is;
       reader_is = record {
         shape_is = ap shape is.form_is ∙ sym (ap (λ (x : Reader). x.shape) fresh);
         entries_are = ap (entries file) is.form_is ∙ is.entries_are ∙ sym (ap (λ (x : Reader). x.index) fresh);

@@ -27,9 +27,11 @@ returns-in-Err-clause-stops g c =
     let is : count ≡ first_count n l.place c.args.end = c.min-count.ensures in
     let fits = first_fits n l.place c.args.end c.requires.some c.loop-place-test.true in
     let long : length (take count l.buffer) ≡ count = length-take-le count l.buffer (omega (arith, is, l.invariant.long)) in
-    stopped_there c.in-Err.fault c.args.reader.now l.reader n c.args.from l.place c.args.end count _ _ _ _ _ _ _ _ c.requires.some c.loop-place-test.true is l.invariant.underway
+    stopped_there c.in-Err.fault c.args.reader.now l.reader n c.args.from l.place c.args.end count _ _ _ _ _ _ _ _ c.requires.some c.loop-place-test.true is
+    l.invariant.underway
     (stopped_as c.in-Err.fault l.reader _ (part (l.place / n) l.place count ∷ []) _ _ _ _ _
-    (part_as c.args.reader.now l.reader n l.place _ count l.invariant.underway.wrote.wanted.same c.requires.buffer long) l.invariant.bytes c.in-Err.ensures.stops)
+    (part_as c.args.reader.now l.reader n l.place _ count l.invariant.underway.wrote.wanted.same c.requires.buffer long) l.invariant.bytes
+    c.in-Err.ensures.stops)
 
 pub loop-place-preserved : goal.loop-place-preserved
 loop-place-preserved g c =
@@ -46,14 +48,25 @@ loop-place-preserved g c =
       sink_later = omega (arith, c.in-Ok.ensures.sink_later, l.invariant.sink_later);
       least = omega (arith, l.invariant.least);
       most = omega (arith, fits.1, is);
-      long = omega (arith, length-append c.write_part.new.room (drop count l.buffer), length-drop count l.buffer, c.write_part.auto.room, long, l.invariant.long, is);
+      long = omega (
+        arith,
+        length-append c.write_part.new.room (drop count l.buffer),
+        length-drop count l.buffer,
+        c.write_part.auto.room,
+        long,
+        l.invariant.long,
+        is,
+      );
       unchanged = λ e. absurd (omega (arith, e, fits.0, is, l.invariant.least));
-      underway = one_more c.args.reader.now l.reader c.write_part.new.reader n c.args.from l.place c.args.end count _ _ _ _ _ _ _ _ _ _ c.requires.some c.loop-place-test.true is l.invariant.underway
+      underway = one_more c.args.reader.now l.reader c.write_part.new.reader n c.args.from l.place c.args.end count _ _ _ _ _ _ _ _ _ _ c.requires.some
+          c.loop-place-test.true is l.invariant.underway
           (wrote_as l.reader c.write_part.new.reader _ (part (l.place / n) l.place count ∷ []) _ _ _ _ _ _ _ _
-          (part_as c.args.reader.now l.reader n l.place _ count l.invariant.underway.wrote.wanted.same c.requires.buffer long) l.invariant.bytes c.in-Ok.ensures.wrote);
+          (part_as c.args.reader.now l.reader n l.place _ count l.invariant.underway.wrote.wanted.same c.requires.buffer long) l.invariant.bytes
+          c.in-Ok.ensures.wrote);
     }
 
 pub returns-clause-wrote : goal.returns-clause-wrote
 returns-clause-wrote g c =
     let l = c.loop-place in
-    all_done c.args.reader.now l.reader (length c.args.buffer.now) c.args.from l.place c.args.end _ _ _ _ _ _ _ (omega (arith, c.loop-place-test.false, l.invariant.most)) l.invariant.underway
+    all_done c.args.reader.now l.reader (length c.args.buffer.now) c.args.from l.place c.args.end _ _ _ _ _ _ _
+    (omega (arith, c.loop-place-test.false, l.invariant.most)) l.invariant.underway

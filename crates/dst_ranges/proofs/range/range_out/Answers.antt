@@ -29,30 +29,36 @@ if_written (Err fault) pairs bytes old new room h = tt {0}
 
 pub returns-clause-written : goal.returns-clause-written
 returns-clause-written g c =
-    if_written c.write_opened.result c.args.pairs.now (g.S.Source.bytes c.args.source.now) (g.K.Sink.written c.args.sink.now) (g.K.Sink.written c.write_opened.new.sink)
+    if_written c.write_opened.result c.args.pairs.now (g.S.Source.bytes c.args.source.now) (g.K.Sink.written c.args.sink.now)
+    (g.K.Sink.written c.write_opened.new.sink)
     (g.K.Sink.room c.args.sink.now)
     (λ file told. c.write_opened.ensures.written file (c.in-Ok.ensures.bytes ∙ told))
 
 pub returns-clause-frame : goal.returns-clause-frame
 returns-clause-frame g c k fault e file told =
-    subst (λ r. RangeEnds r c.args.pairs.now file (g.K.Sink.written c.args.sink.now) (g.K.Sink.written c.write_opened.new.sink) (g.K.Sink.room c.args.sink.now)) e
+    subst (λ r. RangeEnds r c.args.pairs.now file (g.K.Sink.written c.args.sink.now) (g.K.Sink.written c.write_opened.new.sink)
+    (g.K.Sink.room c.args.sink.now)) e
     (c.write_opened.ensures.written file (c.in-Ok.ensures.bytes ∙ told))
 
 pub returns-clause-cut_short : goal.returns-clause-cut_short
 returns-clause-cut_short g c (inl e) file told =
-    subst (λ r. RangeEnds r c.args.pairs.now file (g.K.Sink.written c.args.sink.now) (g.K.Sink.written c.write_opened.new.sink) (g.K.Sink.room c.args.sink.now)) e
+    subst (λ r. RangeEnds r c.args.pairs.now file (g.K.Sink.written c.args.sink.now) (g.K.Sink.written c.write_opened.new.sink)
+    (g.K.Sink.room c.args.sink.now)) e
     (c.write_opened.ensures.written file (c.in-Ok.ensures.bytes ∙ told))
 returns-clause-cut_short g c (inr e) file told =
-    (subst (λ r. RangeEnds r c.args.pairs.now file (g.K.Sink.written c.args.sink.now) (g.K.Sink.written c.write_opened.new.sink) (g.K.Sink.room c.args.sink.now)) e
+    (subst (λ r. RangeEnds r c.args.pairs.now file (g.K.Sink.written c.args.sink.now) (g.K.Sink.written c.write_opened.new.sink)
+    (g.K.Sink.room c.args.sink.now)) e
     (c.write_opened.ensures.written file (c.in-Ok.ensures.bytes ∙ told))).0
 
 pub returns-clause-sure : goal.returns-clause-sure
 returns-clause-sure g c e file told =
-    (subst (λ r. RangeEnds r c.args.pairs.now file (g.K.Sink.written c.args.sink.now) (g.K.Sink.written c.write_opened.new.sink) (g.K.Sink.room c.args.sink.now)) e
+    (subst (λ r. RangeEnds r c.args.pairs.now file (g.K.Sink.written c.args.sink.now) (g.K.Sink.written c.write_opened.new.sink)
+    (g.K.Sink.room c.args.sink.now)) e
     (c.write_opened.ensures.written file (c.in-Ok.ensures.bytes ∙ told))).1
 
 -- what the source gives
-if_given : (r : Result RangeWritten DecodeFault) (bytes bytes' : Option (List ℕ)) (pairs : List (ℕ × ℕ)) (old mid new : ℕ) → bytes' ≡ bytes → mid ≤ old + 48208948 →
+if_given : (r : Result RangeWritten DecodeFault) (bytes bytes' : Option (List ℕ)) (pairs : List (ℕ × ℕ)) (old mid new : ℕ) → bytes' ≡ bytes →
+    mid ≤ old + 48208948 →
     OnOk r ((file : List ℕ) → bytes' ≡ Some file → mid < 2 ^ 64 → new ≤ mid + bytes_read file (accepted file) pairs) →
     OnOk r ((file : List ℕ) → bytes ≡ Some file → old < 2 ^ 63 → new ≤ old + 48208948 + bytes_read file (accepted file) pairs)
 if_given (Ok s) bytes bytes' pairs old mid new same most h = λ file told small. let more = h file (same ∙ told) (omega arith) in omega (arith, more, most)
