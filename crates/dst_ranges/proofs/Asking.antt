@@ -92,3 +92,12 @@ pub pair_asked : (pairs : List (ℕ × ℕ)) (i : ℕ) (d : ℕ × ℕ) → i < 
 pair_asked [] i d h = absurd (omega arith)
 pair_asked (p ∷ ps) zero d h = let here = asked_first p ps in omega (arith, here)
 pair_asked (p ∷ ps) (suc i) d h = let here = asked_first p ps in let rest = pair_asked ps i d (omega arith) in omega (arith, here, rest)
+
+-- where nothing is asked for no pair asks for a byte
+pub none_asked : (pairs : List (ℕ × ℕ)) (i : ℕ) (d : ℕ × ℕ) (from count group : ℕ) → i < length pairs → groups_asked pairs ≡ 0 →
+    count ≡ (get_or pairs i d).1 → from < from + count * group → ⊥
+none_asked pairs i d from count group h none is some =
+    let asked = pair_asked pairs i d h in
+    let zero : count ≡ 0 = omega (arith, asked, none, is) in
+    let no_bytes : count * group ≡ 0 * group = ap (λ n. n * group) zero in
+    omega (arith, some, no_bytes)

@@ -143,8 +143,8 @@ count_within n (suc most) a b some order le = elim (cases_lt a b) [
       let m = first_count n a b in
       let fits = first_fits n a b some h in
       let rest = count_within n most (a + m) b some fits.1 (omega (arith, fits.0)) in
-      let both : counts_of (part (a / n) a m ∷ parts_between n (a + m) b) ≡ m + counts_of (parts_between n (a + m) b) =
-      counts_first (part (a / n) a m) (parts_between n (a + m) b) in
+      let both : counts_of (part (a / n) a m ∷ parts_between n (a + m) b) ≡ m + counts_of (parts_between n (a + m) b) = counts_first (part (a / n) a m)
+      (parts_between n (a + m) b) in
       ap counts_of (first_part n a b some h) ∙ both ∙ omega (arith, rest, fits.1)
 ]
 

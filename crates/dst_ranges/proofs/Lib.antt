@@ -7,3 +7,4 @@ pub mod Wants
 pub mod Outcomes
 pub mod OpeningRules
 pub mod Whole
+pub mod Examples

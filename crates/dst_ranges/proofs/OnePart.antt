@@ -31,8 +31,8 @@ refuses_in_form file form r k fault is h =
     subst (λ f. Offends f (nth_frame file form k) fault) (sym is.shape_is) (subst (λ w. Offends r.shape w fault) (frame_of_reader file form r k is) h)
 
 -- ---- the frame means a sound, of which the part was read
-one_is_read : (file : List ℕ) (form : Form) (sound : List ℕ) (r : Reader) (k from count : ℕ) (ks piece : List ℕ) → ks ≡ k ∷ [] →
-    length piece ≡ count → IsReaderOf file form r →
+one_is_read : (file : List ℕ) (form : Form) (sound : List ℕ) (r : Reader) (k from count : ℕ) (ks piece : List ℕ) → ks ≡ k ∷ [] → length piece ≡ count →
+    IsReaderOf file form r →
     MeanSounds file r ks → piece ≡ bytes_at sound from count → AreRead file form sound (part k from count ∷ [])
 one_is_read file form sound r k from count ks piece one long is means same =
     let m = subst (MeanSounds file r) one means in
@@ -44,8 +44,8 @@ one_is_read file form sound r k from count ks piece one long is means same =
 piece_is : (sound piece : List ℕ) (k from count : ℕ) → piece ≡ bytes_at sound from count → piece ≡ bytes_of sound (part k from count ∷ [])
 piece_is sound piece k from count same = same ∙ sym (append-nil (bytes_at sound from count))
 
-pub one_wrote : (r r' : Reader) (k from count decoded : ℕ) (ks piece : List ℕ) (bytes : Option (List ℕ)) (given given' : ℕ)
-    (old new : Option (List ℕ)) (room left : Option ℕ) →
+pub one_wrote : (r r' : Reader) (k from count decoded : ℕ) (ks piece : List ℕ) (bytes : Option (List ℕ)) (given given' : ℕ) (old new : Option (List ℕ))
+    (room left : Option ℕ) →
     ks ≡ k ∷ [] → length piece ≡ count → HasWanted r r' ks decoded bytes given given' → OfSound bytes r (λ file form sound. piece ≡ bytes_at sound from count) →
     Adds piece old new room left → Wrote r r' (part k from count ∷ []) bytes given given' old new room left
 one_wrote r r' k from count decoded ks piece bytes given given' old new room left one long wanted read adds = record {
@@ -59,8 +59,8 @@ one_wrote r r' k from count decoded ks piece bytes given given' old new room lef
 }
 
 -- ---- the sink fails
-pub one_unwritten : (r r' : Reader) (k from count decoded : ℕ) (ks piece : List ℕ) (bytes : Option (List ℕ)) (given given' : ℕ)
-    (old new : Option (List ℕ)) (room : Option ℕ) →
+pub one_unwritten : (r r' : Reader) (k from count decoded : ℕ) (ks piece : List ℕ) (bytes : Option (List ℕ)) (given given' : ℕ) (old new : Option (List ℕ))
+    (room : Option ℕ) →
     ks ≡ k ∷ [] → length piece ≡ count → HasWanted r r' ks decoded bytes given given' → OfSound bytes r (λ file form sound. piece ≡ bytes_at sound from count) →
     Stops (Unit {0}) piece old new room → Stopped r (part k from count ∷ []) Write bytes old new room
 one_unwritten r r' k from count decoded ks piece bytes given given' old new room one long wanted read stops file form sound told keeps of whole =

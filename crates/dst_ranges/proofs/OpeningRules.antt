@@ -1,6 +1,6 @@
 -- The rules of parts behind those of listing a file's frames: each pair lies in the sound.
-use Rattle.std.proofs.Common.{◌≡◌, ℕ, suc, ◌+◌, ◌*◌, ◌<◌, ◌≤◌, if◌then◌else◌, List, [], ◌∷◌, length, get_or, drop, Option, Some, None, refl, sym, ap}
-use Rattle.std.proofs.Common.{ap₂, subst, ◌∙◌, arith, drop-cons}
+use Rattle.std.proofs.Common.{◌≡◌, ℕ, suc, ◌+◌, ◌*◌, ◌<◌, ◌≤◌, if◌then◌else◌, List, [], ◌∷◌, length, get_or, drop, Option, Some, None, refl, sym, ap, ap₂}
+use Rattle.std.proofs.Common.{subst, ◌∙◌, arith, drop-cons}
 use Rattle.std.specs.List.{AllByRecursion}
 use Rattle.std.proofs.Math.Nat.{le-div_iff_mul-le}
 use Rattle.std.proofs.lemmas.Bool.{ltb-false, lt-ltb, le-ltb}

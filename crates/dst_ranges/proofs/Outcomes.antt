@@ -1,6 +1,6 @@
 -- What writing parts comes to: the outcome of the command, or a prefix of what it writes.
-use Rattle.std.proofs.Common.{◌≡◌, ◌⊎◌, inl, inr, ℕ, ◌+◌, ◌*◌, ◌<◌, List, [], ◌∷◌, ◌++◌, length, map, take, Option, None, Err, refl, sym, ap, ap₂}
-use Rattle.std.proofs.Common.{subst, ◌∙◌, append-nil}
+use Rattle.std.proofs.Common.{◌≡◌, ◌⊎◌, inl, inr, ℕ, ◌+◌, ◌*◌, ◌<◌, List, [], ◌∷◌, ◌++◌, length, map, take, Option, None, Err, refl, sym, ap, ap₂, subst, ◌∙◌}
+use Rattle.std.proofs.Common.{append-nil}
 use Rattle.std.proofs.lemmas.List.{map-append}
 use Rattle.dst_spec.specs.Bits.{AreBytes}
 use Rattle.dst_spec.specs.Sample.{IsShape}
@@ -36,8 +36,8 @@ pub record IsAskedOf (pairs : List (ℕ × ℕ)) (file : List ℕ) : Type 0 wher
   pub lawful : IsShape (shape (accepted file))
   pub some : 0 < sound_bytes_of (accepted file)
 
-outcome_is : (pairs : List (ℕ × ℕ)) (file : List ℕ) (o : Answer) → IsAskedOf pairs file → IsStopped (range pairs) file (accepted file) o
-    ⊎ IsDone (range pairs) file (accepted file) o →
+outcome_is : (pairs : List (ℕ × ℕ)) (file : List ℕ) (o : Answer) → IsAskedOf pairs file →
+    IsStopped (range pairs) file (accepted file) o ⊎ IsDone (range pairs) file (accepted file) o →
     OutcomeOf (range pairs) file o
 outcome_is pairs file o a h = subst (λ r. OfCommand (range pairs) file r o) (sym a.accepts) h
 
@@ -73,8 +73,8 @@ is_stopped pairs file sound k fault old new a is s =
     let tagged = with_frame file form in
     let ws : wants form pairs ≡ map want_of s.before ++ want_of s.stop ∷ map want_of s.behind =
     sym (wants_are form pairs) ∙ ap (map want_of) s.split ∙ map-append want_of s.before (s.stop ∷ s.behind) in
-    let refuses : Offends (shape form) (nth_frame file form s.stop.frame) fault =
-    subst (λ j. Offends (shape form) (nth_frame file form j) fault) (sym s.frame_is) s.refuses in
+    let refuses : Offends (shape form) (nth_frame file form s.stop.frame) fault = subst (λ j. Offends (shape form) (nth_frame file form j) fault)
+    (sym s.frame_is) s.refuses in
     let place : place_of s.stop.frame (wants form pairs) ≡ length s.before + 0 =
     ap (place_of s.stop.frame) ws
     ∙ place_behind file form s.stop.frame fault s.before (want_of s.stop ∷ map want_of s.behind) a.lawful s.are_read.means refuses

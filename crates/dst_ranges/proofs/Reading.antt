@@ -84,8 +84,8 @@ stops_in_behind (Frame k f) file form sound xs ys old mid new room half read add
       ∙ ap (and_then old) (sym (bytes_append sound xs s.before));
 }
 stops_in_behind Write file form sound xs ys old mid new room half read adds s = cut_behind file form sound xs ys Write old mid new room half read adds s
-stops_in_behind (Source f) file form sound xs ys old mid new room half read adds s =
-    cut_behind file form sound xs ys (Source f) old mid new room half read adds s
+stops_in_behind (Source f) file form sound xs ys old mid new room half read adds s = cut_behind file form sound xs ys (Source f) old mid new room half read
+    adds s
 
 pub stopped_behind : (fault : DecodeFault) (r r' : Reader) (xs ys : List Part) (bytes : Option (List ℕ)) (g g' : ℕ) (old mid new : Option (List ℕ))
     (room half : Option ℕ) →

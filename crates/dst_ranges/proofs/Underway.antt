@@ -1,6 +1,6 @@
 -- Bytes of which some parts are written, and pairs of which some are written.
-use Rattle.std.proofs.Common.{◌≡◌, ℕ, suc, ◌+◌, ◌*◌, ◌/◌, ◌<◌, List, [], ◌∷◌, ◌++◌, length, get_or, take, drop, Option, refl, sym, ap, ap₂, subst}
-use Rattle.std.proofs.Common.{◌∙◌, arith, append-nil, append_assoc}
+use Rattle.std.proofs.Common.{◌≡◌, ℕ, suc, ◌+◌, ◌*◌, ◌/◌, ◌<◌, List, [], ◌∷◌, ◌++◌, length, get_or, take, drop, Option, refl, sym, ap, ap₂, subst, ◌∙◌, arith}
+use Rattle.std.proofs.Common.{append-nil, append_assoc}
 use Rattle.std.specs.Prelude.{flat_map}
 use Rattle.std.proofs.Math.Seq.{drop-cons}
 use Rattle.std.proofs.lemmas.Grind.{flat_map-append}
@@ -15,8 +15,8 @@ use Rattle.dst_ranges.proofs.Geometry.{first_count, first_part, no_parts}
 use Rattle.dst_ranges.proofs.Reading.{wrote_nothing, wrote_then, stopped_among}
 
 -- ---- the bytes from a place up to an end: the parts in front of another place are written
-pub record IsUnderway (r r' : Reader) (n from place end : ℕ) (bytes : Option (List ℕ)) (given given' : ℕ) (old new : Option (List ℕ))
-    (room left : Option ℕ) : Type 0 where
+pub record IsUnderway (r r' : Reader) (n from place end : ℕ) (bytes : Option (List ℕ)) (given given' : ℕ) (old new : Option (List ℕ)) (room left : Option ℕ) :
+    Type 0 where
   pub done : List Part
   pub split : parts_between n from end ≡ done ++ parts_between n place end
   pub wrote : Wrote r r' done bytes given given' old new room left
@@ -51,8 +51,8 @@ all_done r r' n from place end bytes g g' old new room left last u =
     u.split ∙ ap (λ m. u.done ++ parts_between n m end) last ∙ ap (λ ps. u.done ++ ps) (no_parts n end) ∙ append-nil u.done in
     subst (λ ps. Wrote r r' ps bytes g g' old new room left) (sym whole) u.wrote
 
-pub stopped_there : (fault : DecodeFault) (r r' : Reader) (n from place end count : ℕ) (bytes : Option (List ℕ)) (g g' : ℕ)
-    (old mid new : Option (List ℕ)) (room half : Option ℕ) →
+pub stopped_there : (fault : DecodeFault) (r r' : Reader) (n from place end count : ℕ) (bytes : Option (List ℕ)) (g g' : ℕ) (old mid new : Option (List ℕ))
+    (room half : Option ℕ) →
     0 < n → place < end → count ≡ first_count n place end → IsUnderway r r' n from place end bytes g g' old mid room half →
     Stopped r' (part (place / n) place count ∷ []) fault bytes mid new half → Stopped r (parts_between n from end) fault bytes old new room
 stopped_there fault r r' n from place end count bytes g g' old mid new room half some h is u s =
@@ -89,14 +89,14 @@ stopped_in_pair fault r r' n c i pairs d bytes g g' old mid new room half h a s 
     (stopped_among fault r r' (parts_of n c (take i pairs)) (parts_at n c pairs i d) (parts_of n c (drop (i + 1) pairs)) bytes g g' old mid new room half a s)
 
 -- ---- by other names of the same
-pub wrote_as : (r r' : Reader) (xs ys : List Part) (bytes bytes' : Option (List ℕ)) (g g' : ℕ) (old new : Option (List ℕ)) (room left : Option ℕ) →
-    xs ≡ ys → bytes ≡ bytes' →
+pub wrote_as : (r r' : Reader) (xs ys : List Part) (bytes bytes' : Option (List ℕ)) (g g' : ℕ) (old new : Option (List ℕ)) (room left : Option ℕ) → xs ≡ ys →
+    bytes ≡ bytes' →
     Wrote r r' xs bytes g g' old new room left → Wrote r r' ys bytes' g g' old new room left
 wrote_as r r' xs ys bytes bytes' g g' old new room left e f w =
     subst (λ b. Wrote r r' ys b g g' old new room left) f (subst (λ ps. Wrote r r' ps bytes g g' old new room left) e w)
 
-pub stopped_as : (fault : DecodeFault) (r : Reader) (xs ys : List Part) (bytes bytes' : Option (List ℕ)) (old new : Option (List ℕ))
-    (room : Option ℕ) → xs ≡ ys → bytes ≡ bytes' →
+pub stopped_as : (fault : DecodeFault) (r : Reader) (xs ys : List Part) (bytes bytes' : Option (List ℕ)) (old new : Option (List ℕ)) (room : Option ℕ) →
+    xs ≡ ys → bytes ≡ bytes' →
     Stopped r xs fault bytes old new room → Stopped r ys fault bytes' old new room
 stopped_as fault r xs ys bytes bytes' old new room e f s =
     subst (λ b. Stopped r ys fault b old new room) f (subst (λ ps. Stopped r ps fault bytes old new room) e s)

@@ -27,11 +27,11 @@ OfSound bytes r holds =
     Sound file form sound → holds file form sound
 
 -- some parts were wanted of a reader, and written
-pub record Wrote (r r' : Reader) (parts : List Part) (bytes : Option (List ℕ)) (given given' : ℕ) (old new : Option (List ℕ)) (room left : Option ℕ) :
-    Type 0 where
-  pub decoded : ℕ
-  pub wanted : HasWanted r r' (frames_wanted parts) decoded bytes given given'
-  pub added : OfSound bytes r (λ file form sound. AreRead file form sound parts × Adds (bytes_of sound parts) old new room left)
+pub record Wrote (r r' : Reader) (parts : List Part) (bytes : Option (List ℕ)) (given given' : ℕ) (old new : Option (List ℕ)) (room left : Option ℕ) : Type 0
+  where
+    pub decoded : ℕ
+    pub wanted : HasWanted r r' (frames_wanted parts) decoded bytes given given'
+    pub added : OfSound bytes r (λ file form sound. AreRead file form sound parts × Adds (bytes_of sound parts) old new room left)
 
 -- frame k is the first of them that is refused; the parts before its own were written
 pub record IsRefused (file : List ℕ) (form : Form) (sound : List ℕ) (parts : List Part) (k : ℕ) (fault : FrameFault) (old new : Option (List ℕ)) : Type 0 where
@@ -45,8 +45,8 @@ pub record IsRefused (file : List ℕ) (form : Form) (sound : List ℕ) (parts :
   pub written : new ≡ and_then old (bytes_of sound before)
 
 -- a device failed; what was written before is a prefix of some of the first parts, which were read
-pub record IsCut (file : List ℕ) (form : Form) (sound : List ℕ) (parts : List Part) (fault : DecodeFault) (old new : Option (List ℕ))
-    (room : Option ℕ) : Type 0 where
+pub record IsCut (file : List ℕ) (form : Form) (sound : List ℕ) (parts : List Part) (fault : DecodeFault) (old new : Option (List ℕ)) (room : Option ℕ) : Type
+    0 where
   pub before : List Part
   pub behind : List Part
   pub split : parts ≡ before ++ behind

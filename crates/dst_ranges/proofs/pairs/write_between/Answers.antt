@@ -27,8 +27,8 @@ returns-in-Err-clause-stops g c =
     let is : count ≡ first_count n l.place c.args.end = c.min-count.ensures in
     let fits = first_fits n l.place c.args.end c.requires.some c.loop-place-test.true in
     let long : length (take count l.buffer) ≡ count = length-take-le count l.buffer (omega (arith, is, l.invariant.long)) in
-    stopped_there c.in-Err.fault c.args.reader.now l.reader n c.args.from l.place c.args.end count _ _ _ _ _ _ _ _ c.requires.some
-    c.loop-place-test.true is l.invariant.underway
+    stopped_there c.in-Err.fault c.args.reader.now l.reader n c.args.from l.place c.args.end count _ _ _ _ _ _ _ _ c.requires.some c.loop-place-test.true is
+    l.invariant.underway
     (stopped_as c.in-Err.fault l.reader _ (part (l.place / n) l.place count ∷ []) _ _ _ _ _
     (part_as c.args.reader.now l.reader n l.place _ count l.invariant.underway.wrote.wanted.same c.requires.buffer long) l.invariant.bytes
     c.in-Err.ensures.stops)
@@ -58,8 +58,8 @@ loop-place-preserved g c =
         is,
       );
       unchanged = λ e. absurd (omega (arith, e, fits.0, is, l.invariant.least));
-      underway = one_more c.args.reader.now l.reader c.write_part.new.reader n c.args.from l.place c.args.end count _ _ _ _ _ _ _ _ _ _
-          c.requires.some c.loop-place-test.true is l.invariant.underway
+      underway = one_more c.args.reader.now l.reader c.write_part.new.reader n c.args.from l.place c.args.end count _ _ _ _ _ _ _ _ _ _ c.requires.some
+          c.loop-place-test.true is l.invariant.underway
           (wrote_as l.reader c.write_part.new.reader _ (part (l.place / n) l.place count ∷ []) _ _ _ _ _ _ _ _
           (part_as c.args.reader.now l.reader n l.place _ count l.invariant.underway.wrote.wanted.same c.requires.buffer long) l.invariant.bytes
           c.in-Ok.ensures.wrote);

@@ -6,27 +6,21 @@ use Rattle.dst_spec.proofs.Lists.{get_all}
 use Rattle.frame_cache.proofs.Bringing.{length-written}
 use Rattle.dst_ranges.specs.Asked.{groups_asked}
 use Rattle.dst_ranges.specs.Parts.{parts_of}
-use Rattle.dst_ranges.proofs.Asking.{asked_more, pair_asked}
+use Rattle.dst_ranges.proofs.Asking.{asked_more, none_asked}
 use Rattle.dst_ranges.proofs.Underway.{one_pair_more, parts_at, pair_parts, stopped_in_pair, stopped_as, wrote_as}
 use Rattle.dst_ranges.proofs.pairs.write_pairs.Goals as goal
 
 pub returns-in-Err-clause-no_call : goal.returns-in-Err-clause-no_call
 returns-in-Err-clause-no_call g c none =
     let l = c.loop-first in
-    let below : l.first-index < length c.args.pairs.now = omega (arith, c.loop-first-test.true, l.auto.first-index-end) in
-    let asked = pair_asked c.args.pairs.now l.first-index (0, 0) below in
-    let zero : c.from-in-loop-first.result ≡ 0 = omega (arith, asked, none, c.from-in-loop-first.ensures) in
-    let no_bytes : c.from-in-loop-first.result * c.count-group.result ≡ 0 * c.count-group.result = ap (λ n. n * c.count-group.result) zero in
-    absurd (omega (arith, c.in-Err.ensures.no_fault, no_bytes))
+    absurd (none_asked c.args.pairs.now l.first-index (0, 0) _ _ _ (omega (arith, c.loop-first-test.true, l.auto.first-index-end)) none
+    c.from-in-loop-first.ensures c.in-Err.ensures.no_fault)
 
 pub returns-in-Err-clause-no_write : goal.returns-in-Err-clause-no_write
 returns-in-Err-clause-no_write g c none e =
     let l = c.loop-first in
-    let below : l.first-index < length c.args.pairs.now = omega (arith, c.loop-first-test.true, l.auto.first-index-end) in
-    let asked = pair_asked c.args.pairs.now l.first-index (0, 0) below in
-    let zero : c.from-in-loop-first.result ≡ 0 = omega (arith, asked, none, c.from-in-loop-first.ensures) in
-    let no_bytes : c.from-in-loop-first.result * c.count-group.result ≡ 0 * c.count-group.result = ap (λ n. n * c.count-group.result) zero in
-    omega (arith, c.in-Err.ensures.no_fault, no_bytes)
+    none_asked c.args.pairs.now l.first-index (0, 0) _ _ _ (omega (arith, c.loop-first-test.true, l.auto.first-index-end)) none
+    c.from-in-loop-first.ensures c.in-Err.ensures.no_fault
 
 pub returns-in-Err-clause-stops : goal.returns-in-Err-clause-stops
 returns-in-Err-clause-stops g c =
@@ -68,8 +62,8 @@ loop-first-preserved g c =
       known = c.in-Ok.ensures.stays ∙ l.invariant.known;
       later = omega (arith, c.in-Ok.ensures.source_later, l.invariant.later);
       sink_later = omega (arith, c.in-Ok.ensures.sink_later, l.invariant.sink_later);
-      buffer = length-written l.opened.buffer _ c.write_between.new.buffer _ c.deref_mut.ensures.value c.deref_mut.ensures.len
-          c.write_between.auto.buffer l.invariant.buffer;
+      buffer = length-written l.opened.buffer _ c.write_between.new.buffer _ c.deref_mut.ensures.value c.deref_mut.ensures.len c.write_between.auto.buffer
+          l.invariant.buffer;
       count = omega (arith, l.invariant.count, all, counted);
       most = omega (arith, l.invariant.most, counted, inside, both, c.requires.ready.size_most);
       unchanged = λ none.

@@ -19,8 +19,8 @@ returns-in_default-clause-written g c file told =
 
 pub returns-in-Ok-finish-clause-given : goal.returns-in-Ok-finish-clause-given
 returns-in-Ok-finish-clause-given g c file told small =
-    given_most c.args.pairs.now file c.args.opened.now c.write_pairs.new.opened.reader _ _ _ _ _ _ _ c.requires.ready (c.requires.opened file told)
-    small c.in-Ok.ensures.wrote
+    given_most c.args.pairs.now file c.args.opened.now c.write_pairs.new.opened.reader _ _ _ _ _ _ _ c.requires.ready (c.requires.opened file told) small
+    c.in-Ok.ensures.wrote
 
 pub returns-in-Ok-finish-clause-written : goal.returns-in-Ok-finish-clause-written
 returns-in-Ok-finish-clause-written g c file told =
@@ -30,11 +30,11 @@ returns-in-Ok-finish-clause-written g c file told =
 
 pub returns-else-bytes-ne0-clause-given : goal.returns-else-bytes-ne0-clause-given
 returns-else-bytes-ne0-clause-given g c file told small =
-    given_most c.args.pairs.now file c.args.opened.now c.write_pairs.new.opened.reader _ _ _ _ _ _ _ c.requires.ready (c.requires.opened file told)
-    small c.in-Ok.ensures.wrote
+    given_most c.args.pairs.now file c.args.opened.now c.write_pairs.new.opened.reader _ _ _ _ _ _ _ c.requires.ready (c.requires.opened file told) small
+    c.in-Ok.ensures.wrote
 
 pub returns-else-bytes-ne0-clause-written : goal.returns-else-bytes-ne0-clause-written
 returns-else-bytes-ne0-clause-written g c file told =
     ends_done c.args.pairs.now file c.args.opened.now c.write_pairs.new.opened.reader (record { bytes = c.in-Ok.bytes }) _ _ _ _ _ _ _ _
-    (g.met.S.Source.told_are_bytes c.args.source.now file told) c.requires.ready (c.requires.opened file told) told c.in-Ok.ensures.size
-    c.in-Ok.ensures.wrote refl
+    (g.met.S.Source.told_are_bytes c.args.source.now file told) c.requires.ready (c.requires.opened file told) told c.in-Ok.ensures.size c.in-Ok.ensures.wrote
+    refl
