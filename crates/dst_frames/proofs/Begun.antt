@@ -55,7 +55,8 @@ begun_kept f s t n bytes tables states word b k = record {
 
 -- the code of a frame that is decoded
 pub code_in_lane : ((d : Decoding) (pairs : List (Bool × ℕ)) → StandsFor d pairs → IsCodeOf (bits d.bytes) d.first pairs) →
-    (f : Shape) (s t u : ArithLanes) (n : ℕ) (bytes : List ℕ) (tables : List ChannelTables) (states after : List ChannelState) (word octets : ℕ) (symbol : Bool) (sound heard : List ℕ) →
+    (f : Shape) (s t u : ArithLanes) (n : ℕ) (bytes : List ℕ) (tables : List ChannelTables) (states after : List ChannelState)
+    (word octets : ℕ) (symbol : Bool) (sound heard : List ℕ) →
     (b : HasBegun f s n bytes tables states word) → TakesSymbol s t n bytes (reserved_probability b.params) symbol →
     f.channels ≡ length tables → f.octets ≡ octets → LaneDecoded n 0 octets bytes t u tables states after sound heard → first_at u n ≡ first_at t n →
     IsCodeOfSound f b.params (bits bytes) b.place heard (used_at u n)

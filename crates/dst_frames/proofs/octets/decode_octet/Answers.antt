@@ -46,7 +46,8 @@ loop-place-preserved c =
           let more : 8 * c.args.byte + place + 1 ≡ 8 * c.args.byte + (place + 1) = omega arith in (
             e.0,
             λ j h. one_more_dropped place (e.0 j) (at.0 j) (samples j) (e.1 j h) (at.1 j h),
-            subst (λ m. IsUnderway f P reserved m (place + 1) e.0 (decoding_at t n (code_at c.args.frames.now n)) (states_at c.decode_place.new.rows n)) more e.2,
+            subst (λ m. IsUnderway f P reserved m (place + 1) e.0 (decoding_at t n (code_at c.args.frames.now n))
+                (states_at c.decode_place.new.rows n)) more e.2,
           );
     }
 

@@ -31,7 +31,8 @@ loop-n-preserved c =
     inv.heard_left i c.index-heard-n.result (omega arith) ∙ get_or_default sounds i c.index-heard-n.result frame (omega (arith, c.requires.same)) in
     let F : ℕ → List ChannelState → List ChannelState → DecodedFrame → DecodedFrame → Type 0 = λ m before after x y.
     FinishesSound c.args.byte (length old) (tables_at c.args.eight.now m) before after x.sound.items y.sound.items in
-    let P : ℕ → Type 0 = λ m. (frame : DecodedFrame) → F m (states_at old m) (states_at new m) (get_or sounds m frame) (get_or (set heard i frame_new) m frame) in
+    let P : ℕ → Type 0 = λ m. (frame : DecodedFrame) → F m (states_at old m) (states_at new m) (get_or sounds m frame)
+    (get_or (set heard i frame_new) m frame) in
     let below : (m : ℕ) → m < i → P m = λ m h frame.
     let ne : m ≢ i = omega arith in
     subst₂ (λ a (b : DecodedFrame). F m (states_at old m) a (get_or sounds m frame) b) (sym (c.finish_heard.ensures.others m ne))

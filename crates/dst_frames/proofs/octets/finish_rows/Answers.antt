@@ -50,10 +50,12 @@ loop-c-preserved c =
     let before : (other : ChannelState) → get_or (states_at old n) i other ≡ state_in was n = λ other.
     get_or-states old n i other d lt_old ∙ ap (λ (q : EightStates). state_in q n) (sym (inv.left i d (omega arith))) in
     let after : (other : ChannelState) → get_or (states_at (set rows i row) n) i other ≡ state_in row n = λ other.
-    get_or-states (set rows i row) n i other d (omega (arith, length-set rows i row)) ∙ ap (λ (q : EightStates). state_in q n) (get_or-set_same rows i row d lt) in
+    get_or-states (set rows i row) n i other d (omega (arith, length-set rows i row))
+    ∙ ap (λ (q : EightStates). state_in q n) (get_or-set_same rows i row d lt) in
     let apart : (j : ℕ) (other : ChannelState) → j < i → get_or (states_at (set rows i row) n) j other ≡ get_or (states_at rows n) j other = λ j other h.
     let ne : j ≢ i = omega arith in
-    get_or-states (set rows i row) n j other d (omega (arith, length-set rows i row)) ∙ ap (λ (q : EightStates). state_in q n) (get_or-set_other rows i j row d ne)
+    get_or-states (set rows i row) n j other d (omega (arith, length-set rows i row))
+    ∙ ap (λ (q : EightStates). state_in q n) (get_or-set_other rows i j row d ne)
     ∙ sym (get_or-states rows n j other d (omega arith)) in
     let N : ℕ → Type 0 = λ j. (other : ChannelState) (filter : List ℤ) (probs samples : List ℕ) (place : ℕ) →
     IsReady filter probs place samples (get_or (states_at old n) j other) → (k : ℕ) → k < 8 → get_or (set out i x) j 0 / 2 ^ k % 2 ≡ get_or samples k 0 in
