@@ -1,5 +1,5 @@
 -- Jobs that are decoded where their bytes are lent to, and given back.
-use Rattle.std.proofs.Common.{◌≡◌, ℕ, zero, suc, ◌+◌, ◌*◌, ◌<◌, ◌≤◌, List, [], ◌∷◌, length, get_or, ap, sym, ◌∙◌, arith}
+use Rattle.std.proofs.Common.{◌≡◌, ℕ, suc, ◌+◌, ◌*◌, ◌<◌, ◌≤◌, List, [], ◌∷◌, length, get_or, ap, sym, ◌∙◌, arith}
 use Rattle.std.specs.List.{AllZip}
 use Rattle.dst_spec.specs.Sample.{Shape, sound_bytes}
 use Rattle.dst_commands.specs.Rooms.{shape_number, room_number}
@@ -9,7 +9,7 @@ use Rattle.dst_frames.specs.declared.stored.StoredFrame.{StoredFrame}
 use Rattle.dst_frames.specs.declared.stored.DecodedFrame.{DecodedFrame}
 use Rattle.dst_read.specs.declared.jobs.Job.{Job}
 use Rattle.dst_read.specs.Jobs.{longest, shape_of_job, IsWorked, stored_in as stored_in_job}
-use Rattle.dst_read.specs.Lending.{IsLent, lent_frame, given_back}
+use Rattle.dst_read.specs.Lending.{IsLent, given_back}
 use Rattle.dst_read.proofs.Working.{heard_or_refused}
 
 -- what is lent has room for the frame and its sound

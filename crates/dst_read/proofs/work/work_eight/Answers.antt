@@ -1,5 +1,5 @@
 -- The jobs of what is lent are decoded.
-use Rattle.std.proofs.Common.{◌≡◌, ℕ, ◌<◌, length, get_or, arith}
+use Rattle.std.proofs.Common.{◌<◌, length, get_or, arith}
 use Rattle.dst_frames.proofs.Lanes.{one_of}
 use Rattle.dst_read.specs.Jobs.{IsWorked}
 use Rattle.dst_read.proofs.Lent.{has_lent, worked, shape_back, all_zip}
