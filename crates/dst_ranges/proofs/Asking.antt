@@ -1,5 +1,5 @@
 -- The parts of pairs: what they are in the words of the definitions, and how the parts of one pair more follow.
-use Rattle.std.proofs.Common.{◌≡◌, ℕ, ◌+◌, ◌-◌, ◌*◌, ◌<◌, ◌≤◌, List, [], ◌∷◌, ◌++◌, length, get_or, map, take, refl, sym, ap, ap₂, ◌∙◌, arith, append-nil}
+use Rattle.std.proofs.Common.{◌≡◌, ℕ, zero, suc, ◌+◌, ◌-◌, ◌*◌, ◌<◌, ◌≤◌, List, [], ◌∷◌, ◌++◌, length, get_or, map, take, refl, sym, ap, ap₂, ◌∙◌, arith, append-nil}
 use Rattle.std.specs.Prelude.{flat_map, sum}
 use Rattle.std.proofs.lemmas.Grind.{flat_map-append}
 use Rattle.std.proofs.lemmas.List.{map-append, take_more}
@@ -86,3 +86,9 @@ all_counts n c (p ∷ ps) some =
     let asked : groups_asked (p ∷ ps) ≡ p.1 + groups_asked ps = asked_first p ps in
     let all : groups_asked (p ∷ ps) * c ≡ p.1 * c + groups_asked ps * c = ap (λ k. k * c) asked ∙ omega arith in
     counts_append (parts_between n a b) (parts_of n c ps) ∙ omega (arith, here, rest, all)
+
+-- each pair asks for no more than all
+pub pair_asked : (pairs : List (ℕ × ℕ)) (i : ℕ) (d : ℕ × ℕ) → i < length pairs → (get_or pairs i d).1 ≤ groups_asked pairs
+pair_asked [] i d h = absurd (omega arith)
+pair_asked (p ∷ ps) zero d h = let here = asked_first p ps in omega (arith, here)
+pair_asked (p ∷ ps) (suc i) d h = let here = asked_first p ps in let rest = pair_asked ps i d (omega arith) in omega (arith, here, rest)

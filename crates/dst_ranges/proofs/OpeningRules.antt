@@ -1,8 +1,9 @@
 -- The rules of parts behind those of listing a file's frames: each pair lies in the sound.
-use Rattle.std.proofs.Common.{◌≡◌, ℕ, ◌+◌, ◌*◌, ◌/◌, ◌<◌, ◌≤◌, false, true, List, [], ◌∷◌, length, get_or, drop, Option, Some, None, Ok, Err, Result, refl, sym, ap, ◌∙◌, arith}
+use Rattle.std.proofs.Common.{◌≡◌, ℕ, suc, ◌+◌, ◌*◌, ◌/◌, ◌<◌, ◌≤◌, false, true, if◌then◌else◌, List, [], ◌∷◌, length, get_or, drop, Option, Some, None, Ok, Err, Result, refl, sym, ap, ap₂, subst, ◌∙◌, arith, drop-cons}
 use Rattle.std.specs.List.{AllByRecursion}
 use Rattle.std.proofs.Math.Nat.{le-div_iff_mul-le}
-use Rattle.std.proofs.lemmas.Bool.{ltb-false}
+use Rattle.std.proofs.lemmas.Bool.{ltb-false, lt-ltb, le-ltb}
+use Rattle.dst_spec.specs.Sample.{Shape, IsShape}
 use Rattle.dst_streams.specs.Causes.{Rose}
 use Rattle.dsdiff_spec.specs.Bytes.{◌above◌}
 use Rattle.dsdiff_spec.specs.Faults.{◌when◌, ◌otherwise◌, first_some}
@@ -18,6 +19,7 @@ use Rattle.dsdiff_chunks.specs.declared.open.OpenFault.{OpenFault}
 use Rattle.dsdiff_chunks.specs.declared.open.OpenFault.TheVariants.{Read, Memory, File}
 use Rattle.dsdiff_chunks.specs.Opening.{Stops}
 use Rattle.dst_commands.proofs.InOrder.{then_is}
+use Rattle.frame_cache.specs.Reader.{Reader}
 
 rules_of_range : (pairs : List (ℕ × ℕ)) (file : List ℕ) → refusal (range pairs) file ≡ form_refusal (range pairs) file
 unfolding refusal
@@ -52,7 +54,7 @@ pair_inside form p some none =
     let not_past = ltb-false (groups form) (p.0 + p.1) (when_not (RangePast (p.0 + p.1) (groups form)) (p.0 + p.1 above groups form) none) in
     (le-div_iff_mul-le {k = form.channels} {x = p.0 + p.1} {y = size_of_sound form} some).0 not_past
 
-abbrev then_first : Option FileFault → Option FileFault → Option FileFault
+abbrev pub then_first : Option FileFault → Option FileFault → Option FileFault
 then_first o later = elim o [ Some y ↦ Some y | None ↦ later ]
 
 -- none of them is past it where the first isn't and none of the others is
@@ -66,3 +68,27 @@ all_inside form [] some none = tt
 all_inside form (p ∷ ps) some none =
     let both = both_inside (past_fault form p) (first_some (past_fault form) ps) none in
     (pair_inside form p some both.0, all_inside form ps some both.1)
+
+-- ---- the first pair that asks past the end
+pub pair_is_past : (form : Form) (p : ℕ × ℕ) (end g : ℕ) → end ≡ p.0 + p.1 → g ≡ groups form → g < end → past_fault form p ≡ Some (RangePast end g)
+pair_is_past form p end g is of over =
+    ap₂ {A = ℕ} {B = ℕ} (λ e n. RangePast e n when e above n) (sym is) (sym of) ∙ ap (λ b. if b then Some (RangePast end g) else None) (lt-ltb g end over)
+
+pub pair_is_not : (form : Form) (p : ℕ × ℕ) (end g : ℕ) → end ≡ p.0 + p.1 → g ≡ groups form → end ≤ g → past_fault form p ≡ None
+pair_is_not form p end g is of within =
+    ap₂ {A = ℕ} {B = ℕ} (λ e n. RangePast e n when e above n) (sym is) (sym of) ∙ ap (λ b. if b then Some (RangePast end g) else None) (le-ltb g end within)
+
+pub next_pair : (form : Form) (pairs : List (ℕ × ℕ)) (i : ℕ) (d : ℕ × ℕ) (o : Option FileFault) → i < length pairs → past_fault form (get_or pairs i d) ≡ o →
+    first_some (past_fault form) (drop i pairs) ≡ then_first o (first_some (past_fault form) (drop (i + 1) pairs))
+next_pair form pairs i d o h is =
+    let next : suc i ≡ i + 1 = omega arith in
+    ap (first_some (past_fault form)) (drop-cons pairs i d h) ∙ ap (λ f. then_first f (first_some (past_fault form) (drop (suc i) pairs))) is
+    ∙ ap (λ j. then_first o (first_some (past_fault form) (drop j pairs))) next
+
+-- ---- pairs that lie in the sound of a form lie in that of its reader
+pub inside_reader : (form : Form) (r : Reader) (f : Shape) (pairs : List (ℕ × ℕ)) → form.channels ≡ f.channels → size_of_sound form ≡ r.size → IsShape f →
+    first_some (past_fault form) pairs ≡ None → AllByRecursion (λ p. (p.0 + p.1) * f.channels ≤ r.size) pairs
+inside_reader form r f pairs same size lawful none =
+    let some : 0 < form.channels = omega (arith, same, lawful.least) in
+    subst (λ m. AllByRecursion (λ p. (p.0 + p.1) * f.channels ≤ m) pairs) size
+    (subst (λ m. AllByRecursion (λ p. (p.0 + p.1) * m ≤ size_of_sound form) pairs) same (all_inside form pairs some none))

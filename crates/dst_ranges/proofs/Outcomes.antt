@@ -18,7 +18,7 @@ use Rattle.dsdiff_spec.proofs.OneSound.{one_sound}
 use Rattle.dsdiff_spec.proofs.Progress.{BeginsWith}
 use Rattle.dst_commands.specs.Commands.{OutcomeOf}
 use Rattle.dst_commands.specs.Writing.{Adds, Stops}
-use Rattle.dst_commands.proofs.Writing.{stops_in}
+use Rattle.dst_commands.proofs.Writing.{stops_at_once, stops_in}
 use Rattle.dst_read.specs.declared.faults.DecodeFault.{DecodeFault}
 use Rattle.dst_read.specs.declared.faults.DecodeFault.TheVariants.{Source, Write, Frame}
 use Rattle.dst_ranges.specs.Asked.{groups_asked}
@@ -156,3 +156,9 @@ ends_stopped (Frame k f) pairs file old new room a stops =
 ends_stopped Write pairs file old new room a stops =
     (short pairs file Write old new room a stops, λ o is. (cut_in_outcome pairs file Write old new room o a stops is).lacks refl)
 ends_stopped (Source f) pairs file old new room a stops = short pairs file (Source f) old new room a stops
+
+-- nothing is written
+pub nothing_written : (pairs : List (ℕ × ℕ)) (file : List ℕ) (told : Option (List ℕ)) → AreBytes file → IsStoppedShort pairs file told told
+nothing_written pairs file told bytes =
+    let one = command_has_one_outcome (range pairs) file tt bytes in
+    (one.0, one.1, (stops_at_once ⊥ one.0.out told None (λ p. p)).cut)

@@ -1,10 +1,11 @@
 -- Bytes of which some parts are written, and pairs of which some are written.
-use Rattle.std.proofs.Common.{◌≡◌, ℕ, suc, ◌+◌, ◌*◌, ◌/◌, ◌<◌, List, [], ◌∷◌, ◌++◌, length, get_or, take, drop, Option, refl, sym, ap, subst, ◌∙◌, arith, append-nil, append_assoc}
+use Rattle.std.proofs.Common.{◌≡◌, ℕ, suc, ◌+◌, ◌*◌, ◌/◌, ◌<◌, List, [], ◌∷◌, ◌++◌, length, get_or, take, drop, Option, refl, sym, ap, ap₂, subst, ◌∙◌, arith, append-nil, append_assoc}
 use Rattle.std.specs.Prelude.{flat_map}
 use Rattle.std.proofs.Math.Seq.{drop-cons}
 use Rattle.std.proofs.lemmas.Grind.{flat_map-append}
 use Rattle.std.proofs.lemmas.List.{take-append-drop}
-use Rattle.frame_cache.specs.Reader.{Reader}
+use Rattle.dst_spec.specs.Sample.{sound_bytes}
+use Rattle.frame_cache.specs.Reader.{Reader, IsSame}
 use Rattle.dst_read.specs.declared.faults.DecodeFault.{DecodeFault}
 use Rattle.dst_ranges.specs.Parts.{Part, part, parts_between, parts_of}
 use Rattle.dst_ranges.specs.Reading.{Wrote, Stopped}
@@ -79,3 +80,31 @@ pub stopped_in_pair : (fault : DecodeFault) (r r' : Reader) (n c i : ℕ) (pairs
 stopped_in_pair fault r r' n c i pairs d bytes g g' old mid new room half h a s =
     subst (λ ps. Stopped r ps fault bytes old new room) (sym (parts_split n c i pairs d h))
     (stopped_among fault r r' (parts_of n c (take i pairs)) (parts_at n c pairs i d) (parts_of n c (drop (i + 1) pairs)) bytes g g' old mid new room half a s)
+
+-- ---- by other names of the same
+pub wrote_as : (r r' : Reader) (xs ys : List Part) (bytes bytes' : Option (List ℕ)) (g g' : ℕ) (old new : Option (List ℕ)) (room left : Option ℕ) → xs ≡ ys → bytes ≡ bytes' →
+    Wrote r r' xs bytes g g' old new room left → Wrote r r' ys bytes' g g' old new room left
+wrote_as r r' xs ys bytes bytes' g g' old new room left e f w =
+    subst (λ b. Wrote r r' ys b g g' old new room left) f (subst (λ ps. Wrote r r' ps bytes g g' old new room left) e w)
+
+pub stopped_as : (fault : DecodeFault) (r : Reader) (xs ys : List Part) (bytes bytes' : Option (List ℕ)) (old new : Option (List ℕ)) (room : Option ℕ) → xs ≡ ys → bytes ≡ bytes' →
+    Stopped r xs fault bytes old new room → Stopped r ys fault bytes' old new room
+stopped_as fault r xs ys bytes bytes' old new room e f s =
+    subst (λ b. Stopped r ys fault b old new room) f (subst (λ ps. Stopped r ps fault bytes old new room) e s)
+
+-- the part of a reader that is the same but for what it keeps
+pub part_as : (r r' : Reader) (n place k count : ℕ) → IsSame r r' → n ≡ sound_bytes r.shape → k ≡ count →
+    part (place / sound_bytes r'.shape) place k ∷ [] ≡ part (place / n) place count ∷ []
+part_as r r' n place k count same is e =
+    let bytes : sound_bytes r'.shape ≡ n = ap (λ (x : Reader). sound_bytes x.shape) same ∙ sym is in
+    ap₂ {A = ℕ} {B = ℕ} (λ m j. part (place / m) place j ∷ []) bytes e
+
+-- the parts of a pair, by the places that are worked out of it
+pub pair_parts : (n c : ℕ) (pairs : List (ℕ × ℕ)) (i : ℕ) (d : ℕ × ℕ) (bytes first count group : ℕ) → bytes ≡ n → first ≡ (get_or pairs i d).0 → count ≡ (get_or pairs i d).1 → group ≡ c →
+    parts_between bytes (first * group) (first * group + count * group) ≡ parts_at n c pairs i d
+pair_parts n c pairs i d bytes first count group is a b e =
+    let from : first * group ≡ (get_or pairs i d).0 * c = ap₂ {A = ℕ} {B = ℕ} (λ x y. x * y) a e in
+    let long : count * group ≡ (get_or pairs i d).1 * c = ap₂ {A = ℕ} {B = ℕ} (λ x y. x * y) b e in
+    let both : ((get_or pairs i d).0 + (get_or pairs i d).1) * c ≡ (get_or pairs i d).0 * c + (get_or pairs i d).1 * c = omega arith in
+    let end : first * group + count * group ≡ ((get_or pairs i d).0 + (get_or pairs i d).1) * c = omega (arith, from, long, both) in
+    ap (λ m. parts_between m (first * group) (first * group + count * group)) is ∙ ap₂ {A = ℕ} {B = ℕ} (parts_between n) from end

@@ -1,6 +1,7 @@
 // Opening a coded file for parts of its sound.
 ghost use Rattle.std.specs.Prelude.{◌≡◌, ◌+◌, ◌≤◌, ℕ, List, Some, IfOk, IfErr};
 ghost use Rattle.dsdiff_spec.specs.Faults.{first_some};
+ghost use Rattle.dsdiff_spec.specs.Form.{size_of_sound};
 ghost use Rattle.dsdiff_spec.specs.Words as words;
 ghost use Rattle.dsdiff_spec.specs.Refusal.{past_fault, refusal};
 ghost use Rattle.dsdiff_chunks.specs.Forms.{coded_seen};
@@ -62,7 +63,8 @@ pub(crate) fn open_parts<S: Source>(
 
 // The fault of the first pair that asks past the last group of a form.
 fn past_fault(form: &CodedForm, pairs: &[(u32, u32)]) -> Option<FileFault>
-    ensures { result ≡ first_some (past_fault (coded_seen form.now)) pairs.now }
+    ensures first { result ≡ first_some (past_fault (coded_seen form.now)) pairs.now }
+    ensures most { size_of_sound (coded_seen form.now) ≤ 112896000000 }
 {
     let groups = sound_size(form) / form.channels.count() as u64;
     for (first, count) in pairs {
