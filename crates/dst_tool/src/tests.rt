@@ -10,6 +10,7 @@ mod devices;
 mod encoding;
 mod files;
 mod making;
+mod ranges;
 mod reading;
 mod refused;
 mod sounds;

@@ -1,5 +1,6 @@
 -- The words of each row by its name, and words that have none of these names.
-use Rattle.std.proofs.Common.{◌≡◌, ℕ, zero, suc, ◌+◌, ◌<◌, ◌≤◌, Bool, true, false, if◌then◌else◌, List, [], ◌∷◌, length, map, get_or, refl, arith, Option, Some, None}
+use Rattle.std.proofs.Common.{◌≡◌, ℕ, zero, suc, ◌+◌, ◌<◌, ◌≤◌, Bool, true, false, if◌then◌else◌, List, [], ◌∷◌, length, map, get_or, refl, arith, Option}
+use Rattle.std.proofs.Common.{Some, None}
 use Rattle.std.specs.Prelude.{codes, bytes_eq}
 use Rattle.std.specs.List.{AllByRecursion, range_with_len}
 use Rattle.std.proofs.lemmas.Slice.Eq.{bytes_eq-Decides}
@@ -73,9 +74,9 @@ parts_named : (name : Word) (k n : ℕ) → bytes_eq name (codes "range") ≡ fa
 parts_named name k zero e = tt
 parts_named name k (suc n) e = (e, parts_named name (k + 1) n e)
 
-pub other_name : (name : Word) (words : List Word) → (name ≡ codes "encode" → ⊥) → (name ≡ codes "decode" → ⊥) → (name ≡ codes "cut" → ⊥) → (name ≡ codes "frame" → ⊥)
-    → (name ≡ codes "check" → ⊥) → (name ≡ codes "show" → ⊥) → (name ≡ codes "index" → ⊥) → (name ≡ codes "make" → ⊥) → (name ≡ codes "encode-dsf" → ⊥)
-    → (name ≡ codes "decode-dsf" → ⊥) → (name ≡ codes "range" → ⊥) → task_of (name ∷ words) ≡ None
+pub other_name : (name : Word) (words : List Word) → (name ≡ codes "encode" → ⊥) → (name ≡ codes "decode" → ⊥) → (name ≡ codes "cut" → ⊥)
+    → (name ≡ codes "frame" → ⊥) → (name ≡ codes "check" → ⊥) → (name ≡ codes "show" → ⊥) → (name ≡ codes "index" → ⊥)
+    → (name ≡ codes "make" → ⊥) → (name ≡ codes "encode-dsf" → ⊥) → (name ≡ codes "decode-dsf" → ⊥) → (name ≡ codes "range" → ⊥) → task_of (name ∷ words) ≡ None
 unfolding task_of
 other_name name words encode decode cut frame check shows index make encode_dsf decode_dsf range =
     let named_show = not_named name "show" shows in
@@ -116,7 +117,8 @@ other_name name words encode decode cut frame check shows index make encode_dsf 
     )
 
 -- words behind the first one
-pub other_words : {A : Type 0} (f : A → Word) (words : List A) (x : A) → 1 ≤ length words → ((rest : List Word) → task_of (f (get_or words 0 x) ∷ rest) ≡ None) →
+pub other_words : {A : Type 0} (f : A → Word) (words : List A) (x : A) → 1 ≤ length words →
+    ((rest : List Word) → task_of (f (get_or words 0 x) ∷ rest) ≡ None) →
     task_of (map f words) ≡ None
 other_words f [] x long h = absurd (omega arith)
 other_words f (w ∷ ws) x long h = h (map f ws)

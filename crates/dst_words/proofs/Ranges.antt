@@ -1,5 +1,6 @@
 -- The row of parts of the sound: of its sixteen forms the one that has as many numbers reads the words.
-use Rattle.std.proofs.Common.{◌≡◌, ◌≢◌, ◌⊎◌, inl, inr, ℕ, zero, suc, ◌+◌, ◌*◌, ◌/◌, ◌%◌, ◌<◌, ◌≤◌, ◌==◌, Bool, true, false, if◌then◌else◌, List, [], ◌∷◌, length, map, replicate, refl, ap, sym, ◌∙◌, arith, ltb-true, ltb-false, eqb-true, Option, Some, None}
+use Rattle.std.proofs.Common.{◌≡◌, ◌≢◌, ◌⊎◌, inl, inr, ℕ, zero, suc, ◌+◌, ◌*◌, ◌/◌, ◌%◌, ◌<◌, ◌≤◌, ◌==◌, Bool, true, false, if◌then◌else◌, List, [], ◌∷◌}
+use Rattle.std.proofs.Common.{length, map, replicate, refl, ap, sym, ◌∙◌, arith, ltb-true, ltb-false, eqb-true, Option, Some, None}
 use Rattle.std.specs.Prelude.{codes, nat_lt, option_map, ◌&&◌, ◌||◌}
 use Rattle.std.specs.List.{range_with_len}
 use Rattle.std.proofs.lemmas.Bool.{le-ltb, eqb-false}
@@ -111,14 +112,16 @@ at_no_option numbers (w ∷ ws) = refl
 abbrev behind_slots : Option (List ℕ × List Word) → Option Task
 behind_slots r = elim r [ None ↦ None | Some read ↦ task_behind (range_row 0) read ]
 
-files_read : (i o : Bool) (r : Option (List ℕ × List Word)) → behind_slots (then_slot (no_number i) (then_slot (no_number o) r)) ≡ of_files i o (of_read parts r)
+files_read : (i o : Bool) (r : Option (List ℕ × List Word)) →
+    behind_slots (then_slot (no_number i) (then_slot (no_number o) r)) ≡ of_files i o (of_read parts r)
 files_read false o r = refl
 files_read true false r = refl
 files_read true true None = refl
 files_read true true (Some read) = at_no_option read.0 read.1
 
 form_read : (n : ℕ) (i o : Word) (words : List Word) →
-    row_task (codes "range" ∷ i ∷ o ∷ words) (range_row n) ≡ of_files (is_file_word i) (is_file_word o) (of_read parts (read_slots (replicate (2 * n) number) words))
+    row_task (codes "range" ∷ i ∷ o ∷ words) (range_row n)
+    ≡ of_files (is_file_word i) (is_file_word o) (of_read parts (read_slots (replicate (2 * n) number) words))
 form_read n i o words = files_read (is_file_word i) (is_file_word o) (read_slots (replicate (2 * n) number) words)
 
 no_files : (i o : Bool) → of_files i o None ≡ None
@@ -186,7 +189,8 @@ NoPairs words = (n : ℕ) → 1 ≤ n → n ≤ 16 → length words ≢ 2 * n
 pairs_or_none : (words : List Word) → ((n : ℕ) × ArePairs words n) ⊎ NoPairs words
 pairs_or_none words = go (nat_lt (length words) 2) (nat_lt 32 (length words)) (length words % 2 == 0) refl refl refl
   where
-    go : (a b c : Bool) → nat_lt (length words) 2 ≡ a → nat_lt 32 (length words) ≡ b → (length words % 2 == 0) ≡ c → ((n : ℕ) × ArePairs words n) ⊎ NoPairs words
+    go : (a b c : Bool) → nat_lt (length words) 2 ≡ a → nat_lt 32 (length words) ≡ b → (length words % 2 == 0) ≡ c →
+        ((n : ℕ) × ArePairs words n) ⊎ NoPairs words
     go true b c few many even = let h = ltb-true (length words) 2 few in inr (λ n least most same. omega arith)
     go false true c few many even = let h = ltb-true 32 (length words) many in inr (λ n least most same. omega arith)
     go false false true few many even =
@@ -234,4 +238,5 @@ range_row_read (i ∷ o ∷ words) = go (pairs_or_none words)
         ∙ ap (λ t. of_files (is_file_word i) (is_file_word o) (option_map parts_task t)) (sym (are_pairs words n p.1))
     go (inr none) =
         no_form (codes "range" ∷ i ∷ o ∷ words) 1 16 (λ n least most. other_form n i o words (none n least (omega arith)))
-        ∙ sym (ap (λ t. of_files (is_file_word i) (is_file_word o) (option_map parts_task t)) (are_no_pairs words none) ∙ no_files (is_file_word i) (is_file_word o))
+        ∙ sym (ap (λ t. of_files (is_file_word i) (is_file_word o) (option_map parts_task t)) (are_no_pairs words none)
+        ∙ no_files (is_file_word i) (is_file_word o))

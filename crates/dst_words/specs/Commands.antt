@@ -3,7 +3,8 @@ use Rattle.std.specs.Prelude.{ℕ, ◌/◌, ◌≤◌, length, ⊤}
 use Rattle.dst_spec.specs.Sample.{Shape}
 use Rattle.dsdiff_spec.specs.Words as words
 use Rattle.dst_words.specs.declared.words.Command.{Command}
-use Rattle.dst_words.specs.declared.words.Command.TheVariants.{Encode, Decode, Cut, Frame, Check, Show, ShowFrame, Index, Make, MakeRun, EncodeDsf, DecodeDsf, Range}
+use Rattle.dst_words.specs.declared.words.Command.TheVariants.{Encode, Decode, Cut, Frame, Check, Show, ShowFrame, Index, Make, MakeRun, EncodeDsf}
+use Rattle.dst_words.specs.declared.words.Command.TheVariants.{DecodeDsf, Range}
 use Rattle.dst_words.specs.declared.words.Task.{Task}
 
 -- channels, and their rate in multiples of 64 times 44.1 kHz

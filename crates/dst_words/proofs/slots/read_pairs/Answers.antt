@@ -7,7 +7,8 @@ use Rattle.words_spec.specs.Slots.{number_word}
 use Rattle.dst_words.proofs.Ranges.{are_pairs, are_no_pairs}
 use Rattle.dst_words.proofs.PairWords.{AreReadSoFar, none_yet, one_more_read, first_is_none, second_is_none, all_are_read, word_at}
 use Rattle.dst_words.proofs.slots.read_pairs.Goals as goal
-use Rattle.dst_words.proofs.slots.read_pairs.Goals.{then-count-lt1-via-then-count-lt1, then-count-lt1-via-else-count-lt1+then-count-gt16, then-count-lt1-via-else-count-lt1+else-count-gt16+then-words-count}
+use Rattle.dst_words.proofs.slots.read_pairs.Goals.{then-count-lt1-via-then-count-lt1, then-count-lt1-via-else-count-lt1+then-count-gt16}
+use Rattle.dst_words.proofs.slots.read_pairs.Goals.{then-count-lt1-via-else-count-lt1+else-count-gt16+then-words-count}
 
 pub returns-then-count-lt1-clause-pairs : goal.returns-then-count-lt1-clause-pairs
 returns-then-count-lt1-clause-pairs c =

@@ -1,5 +1,6 @@
 -- One pair more takes the place of the first zeros.
-use Rattle.std.proofs.Common.{◌≡◌, ◌<◌, ℕ, suc, ◌+◌, ◌-◌, List, [], ◌∷◌, ◌++◌, length, take, replicate, set, ap, sym, ◌∙◌, arith, append_assoc, length-append, refl}
+use Rattle.std.proofs.Common.{◌≡◌, ◌<◌, ℕ, suc, ◌+◌, ◌-◌, List, [], ◌∷◌, ◌++◌, length, take, replicate, set, ap, sym, ◌∙◌, arith, append_assoc}
+use Rattle.std.proofs.Common.{length-append, refl}
 use Rattle.std.proofs.lemmas.List.{set_at, take_more_set}
 use Rattle.dst_words.specs.Pairs.{IsFilledUp, filled_up}
 use Rattle.dst_words.proofs.pairs.Pairs.push.Goals as goal
