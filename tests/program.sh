@@ -55,6 +55,15 @@ cmp plain.dff again.dff
 expect 0 check level2.dff
 expect 0 frame level2.dff sound.raw 0 --by-index
 [ "$(wc -c <sound.raw)" = 4704 ] || fail "the frame's sound has $(wc -c <sound.raw) bytes"
+expect 0 range level2.dff parts.raw 4700 4 0 2
+prints 'range 6 bytes'
+cmp parts.raw <(tail -c 4 sound.raw; head -c 2 sound.raw)
+expect 0 range level2.dff none.raw 4704 0
+prints 'range 0 bytes'
+absent none.raw
+expect 5 range level2.dff none.raw 0 1 4700 5
+prints 'file refused: 33 RangePast 4705 4704'
+absent none.raw
 expect 0 show level2.dff
 expect 0 index level2.dff
 expect 0 cut level2.dff cut.dff 0 0
@@ -91,7 +100,7 @@ fits_a_screen() {
   [ "$(wc -l <printed)" -le 50 ] || fail "the help has $(wc -l <printed) lines"
   [ "$(wc -L <printed)" -le 80 ] || fail "the help has lines of $(wc -L <printed) columns"
 }
-for command in encode decode cut frame check show index pipe encode-dsf decode-dsf make; do
+for command in encode decode cut frame range check show index pipe encode-dsf decode-dsf make; do
   expect 1 "$command"
   tells "usage: dst_cli $command "
   expect 0 "$command" --help

@@ -14,7 +14,7 @@ pub(crate) struct CommandHelp {
 }
 
 /// All commands.
-pub(crate) const COMMANDS: [CommandHelp; 11] = [
+pub(crate) const COMMANDS: [CommandHelp; 12] = [
     CommandHelp {
         name: "encode",
         usage: "encode IN OUT [--level L] [--workers W]",
@@ -42,6 +42,13 @@ pub(crate) const COMMANDS: [CommandHelp; 11] = [
         places: &["IN", "OUT", "K"],
         options: &["--by-index"],
         text: FRAME,
+    },
+    CommandHelp {
+        name: "range",
+        usage: "range IN OUT FROM COUNT ..",
+        places: &["IN", "OUT", "FROM", "COUNT"],
+        options: &[],
+        text: RANGE,
     },
     CommandHelp {
         name: "check",
@@ -106,6 +113,7 @@ Direct Stream Transfer, the lossless coding of Super Audio CD, in DSDIFF files.
   dst_cli decode IN OUT [--workers W]    write the plain file of a coded file
   dst_cli cut IN OUT A B                 write frames A to B as a coded file
   dst_cli frame IN OUT K [--by-index]    write the sound of frame K
+  dst_cli range IN OUT FROM COUNT ..     write parts of the sound
   dst_cli check IN [--workers W]         decode all frames and compare the index
   dst_cli show IN                        print what the file is
   dst_cli show IN K                      print the header of frame K
@@ -206,6 +214,24 @@ Prints: frame K, B bytes
 Status: 0, 1, 2, 3, 4, 5, 6 or 7
 
   dst_cli frame master.dff sound.raw 1234 --by-index
+";
+
+const RANGE: &str = "\
+dst_cli range IN OUT FROM COUNT ..
+
+Writes parts of the sound, one behind the other, without any chunk around them:
+COUNT groups from group FROM on. A group is eight samples of each channel, a
+byte of each; groups are counted from 0, and there are 352,800 a second at 64
+times 44.1 kHz. One to sixteen pairs of FROM and COUNT may stand there. The
+sounds of the sixteen frames that were wanted last are kept, so that no frame
+is decoded again for a part that overlaps them. Where no group is asked for OUT
+isn't made.
+
+Prints: range B bytes
+Status: 0, 1, 2, 3, 4, 5, 6 or 7. Behind 6 OUT ends in front of the part of the
+frame that is refused.
+
+  dst_cli range master.dff parts.raw 3528000 352800 0 4704
 ";
 
 const CHECK: &str = "\

@@ -1,4 +1,5 @@
 pub mod Statuses
+pub mod OtherCommands
 pub mod OneLine
 pub mod OwnLines
 pub mod Runs

@@ -183,6 +183,9 @@ encoding_dsf_is_no_frame level k e = absurd cc
 pub decoding_dsf_is_no_frame : (k : ℕ) → decode_dsf ≡ frame k true → ⊥
 decoding_dsf_is_no_frame k e = absurd cc
 
+pub ranging_is_no_frame : (pairs : List (ℕ × ℕ)) (k : ℕ) → range pairs ≡ frame k true → ⊥
+ranging_is_no_frame pairs k e = absurd cc
+
 pub checking_is_no_frame : (k : ℕ) → check ≡ frame k true → ⊥
 checking_is_no_frame k e = absurd cc
 
@@ -236,7 +239,7 @@ nothing_of (make start frames channels multiple) file out old w = absurd w
 nothing_of (make_run start frames channels multiple) file out old w = nothing_cut old out
 nothing_of (encode_dsf level) file out old w = absurd w
 nothing_of decode_dsf file out old w = absurd w
-nothing_of (range pairs) file out old w = absurd w
+nothing_of (range pairs) file out old w = nothing_cut old out
 
 pub not_both_kinds : (c : Command) → WritesNowhere c → WritesFile c → ⊥
 not_both_kinds (encode level) w f = w
@@ -251,7 +254,7 @@ not_both_kinds (make start frames channels multiple) w f = w
 not_both_kinds (make_run start frames channels multiple) w f = f
 not_both_kinds (encode_dsf level) w f = w
 not_both_kinds decode_dsf w f = w
-not_both_kinds (range pairs) w f = w
+not_both_kinds (range pairs) w f = omega arith
 
 -- where the source failed nothing is written; where the sink did, a prefix
 pub cut_or_nothing : (c : Command) (r : Result Numbers Fault) (file : List ℕ) (old new : Option (List ℕ)) → One (OutcomeOf c file) → (r ≡ Err Read → new ≡ old) → (r ≡ Err Write → (o : Answer) × OutcomeOf c file o × IsCutShort old o.out new) →

@@ -2,9 +2,9 @@
 use Rattle.std.specs.Prelude.{ℕ, ◌*◌, [], ⊤, Result, Ok, Err}
 use Rattle.dst_spec.specs.Sample.{sound_bytes}
 use Rattle.dsdiff_spec.specs.Form.{shape_of}
-use Rattle.dsdiff_spec.specs.Words.{Command, encode, decode, cut, frame, check, make, make_run, encode_dsf, decode_dsf}
+use Rattle.dsdiff_spec.specs.Words.{Command, encode, decode, cut, frame, check, make, make_run, encode_dsf, decode_dsf, range}
 use Rattle.dsdiff_spec.specs.Lines.{Line, read_fault_line, write_fault_line, memory_line, file_line, frame_fault_line, coded_line, decoded_line, cut_line}
-use Rattle.dsdiff_spec.specs.Lines.{frame_line, check_line, made_line, made_run_line}
+use Rattle.dsdiff_spec.specs.Lines.{frame_line, range_line, check_line, made_line, made_run_line}
 use Rattle.dsdiff_chunks.specs.declared.open.OpenFault.{OpenFault}
 use Rattle.dsdiff_chunks.specs.declared.open.OpenFault.TheVariants as opening
 use Rattle.dst_read.specs.declared.faults.DecodeFault.{DecodeFault}
@@ -44,6 +44,7 @@ done_line (encode_dsf level) s = coded_line s.frames s.bytes
 done_line decode_dsf s = decoded_line s.frames s.bytes
 done_line (cut first last) s = cut_line s.frames
 done_line (frame k by_index) s = frame_line k s.bytes
+done_line (range pairs) s = range_line s.bytes
 done_line check s = check_line s.frames s.unread
 done_line (make start frames channels multiple) s = made_line s.frames
 done_line (make_run start frames channels multiple) s =
@@ -57,6 +58,7 @@ TellsOneLine (encode_dsf level) = ⊤
 TellsOneLine decode_dsf = ⊤
 TellsOneLine (cut first last) = ⊤
 TellsOneLine (frame k by_index) = ⊤
+TellsOneLine (range pairs) = ⊤
 TellsOneLine check = ⊤
 TellsOneLine (make start frames channels multiple) = ⊤
 TellsOneLine (make_run start frames channels multiple) = ⊤

@@ -1,9 +1,9 @@
 -- What a run of words leaves, by its status.
-use Rattle.std.specs.Prelude.{◌≡◌, ◌≢◌, ◌⊎◌, ℕ, ◌+◌, ◌*◌, ◌≤◌, true, List, [], ◌∷◌, length, Option, Some, None, ⊤}
+use Rattle.std.specs.Prelude.{◌≡◌, ◌≢◌, ◌⊎◌, ℕ, ◌+◌, ◌*◌, ◌<◌, ◌≤◌, true, List, [], ◌∷◌, length, Option, Some, None, ⊤}
 use Rattle.dst_streams.specs.Causes.{Rose}
 use Rattle.dst_streams.specs.Told.{and_then, IsCutShort}
 use Rattle.dsdiff_spec.specs.Form.{sound_bytes_of}
-use Rattle.dsdiff_spec.specs.Words.{Word, Command, encode, decode, cut, frame, check, show, show_frame, index, make, make_run, encode_dsf, decode_dsf}
+use Rattle.dsdiff_spec.specs.Words.{Word, Command, encode, decode, cut, frame, check, show, show_frame, index, make, make_run, encode_dsf, decode_dsf, range}
 use Rattle.dsdiff_spec.specs.Dsf.{dsdiff}
 use Rattle.words_spec.specs.Rows.{command_of}
 use Rattle.dsdiff_spec.specs.Lines.{Line, report, read_fault_line, write_fault_line, memory_line}
@@ -13,6 +13,7 @@ use Rattle.dsdiff_spec.specs.Outcome.{Answer, NoneRefused, run}
 use Rattle.words_spec.specs.Outcome.{Outcome}
 use Rattle.dsdiff_spec.specs.declared.faults.FileFault.{FileFault}
 use Rattle.dst_commands.specs.Commands.{OutcomeOf}
+use Rattle.dst_ranges.specs.Asked.{groups_asked}
 use Rattle.dst_write.specs.Unfinished.{HoldsNothing, HoldsUnfinished, sound_size_place}
 
 -- a count of faults didn't rise: the device didn't fail
@@ -74,13 +75,14 @@ NoFrameIsRefused words file =
     (c : Command) × (command_of words ≡ Some c) × (refusal c file ≡ None) × NoneRefused c (accepted file) (run c file (accepted file))
 
 -- ---- commands
--- one that makes no call on the sink
+-- one that makes no call on the sink; of parts of the sound where they have no group
 abbrev pub WritesNowhere : Command → Type 0
 WritesNowhere check = ⊤
 WritesNowhere show = ⊤
 WritesNowhere (show_frame k) = ⊤
 WritesNowhere index = ⊤
 WritesNowhere (make_run start frames channels multiple) = ⊤
+WritesNowhere (range pairs) = groups_asked pairs ≡ 0
 WritesNowhere c = ⊥
 
 -- one that makes no call on the source: it makes its sound
@@ -98,7 +100,19 @@ WritesFile (frame k by_index) = ⊤
 WritesFile (make start frames channels multiple) = ⊤
 WritesFile (encode_dsf level) = ⊤
 WritesFile decode_dsf = ⊤
+WritesFile (range pairs) = 0 < groups_asked pairs
 WritesFile c = ⊥
+
+-- one that reads a file and may write one
+abbrev pub ReadsAndWrites : Command → Type 0
+ReadsAndWrites (encode level) = ⊤
+ReadsAndWrites decode = ⊤
+ReadsAndWrites (cut first last) = ⊤
+ReadsAndWrites (frame k by_index) = ⊤
+ReadsAndWrites (encode_dsf level) = ⊤
+ReadsAndWrites decode_dsf = ⊤
+ReadsAndWrites (range pairs) = ⊤
+ReadsAndWrites c = ⊥
 
 -- the most bytes that the source gives where one frame is found by the index, a frame's sound having so many
 abbrev pub most_given : ℕ → ℕ

@@ -6,6 +6,7 @@ use crate::making::RunFault;
 use dsdiff_chunks::{FileFault, OpenFault};
 use dst_make::{Made, MakeFault};
 use dst_num::FrameFault;
+use dst_ranges::RangeWritten;
 use dst_read::{
     CheckFault, Checked, DecodeFault, Decoded, FrameWritten, ListFault, Reported, ShowFault,
 };
@@ -136,6 +137,21 @@ pub(crate) fn frame_written(answer: Result<FrameWritten, DecodeFault>) -> Result
     match answer {
         Ok(FrameWritten { bytes }) => Ok(Numbers {
             frames: 1,
+            bytes,
+            unread: 0,
+            restored: 0,
+        }),
+        Err(fault) => Err(of_decode(fault)),
+    }
+}
+
+/// The answer of `range`.
+pub(crate) fn range_written(answer: Result<RangeWritten, DecodeFault>) -> Result<Numbers, Fault>
+    ensures { result ≡ answered (λ r. record { frames = 0; bytes = r.bytes; unread = 0; restored = 0 }) of_decode answer }
+{
+    match answer {
+        Ok(RangeWritten { bytes }) => Ok(Numbers {
+            frames: 0,
             bytes,
             unread: 0,
             restored: 0,

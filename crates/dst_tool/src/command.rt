@@ -5,15 +5,17 @@ ghost use Rattle.dst_streams.specs.Told.{IsCutShort, and_then};
 ghost use Rattle.dsdiff_spec.specs.Lines as reports;
 ghost use Rattle.dst_words.specs.Commands.{command_seen, NumbersAreLawful};
 ghost use Rattle.dst_tool.specs.Answers.{status_of, done_line, fault_line, line_of, TellsOneLine};
-ghost use Rattle.dst_tool.specs.Runs.{IsRun, Counts, Held};
+ghost use Rattle.dst_tool.specs.Runs.{IsRun, Counts, Held, ReadsAndWrites};
 
 use crate::answers::{
-    Fault, Numbers, checked, cut_out, decoded, encoded, frame_written, listed, made, ran, shown,
+    Fault, Numbers, checked, cut_out, decoded, encoded, frame_written, listed, made, ran,
+    range_written, shown,
 };
 use crate::making::make_run;
 use dst_dsf::{decode_dsf, encode_dsf};
 use dst_lines::lines;
 use dst_make::make_file;
+use dst_ranges::range_out;
 use dst_read::{check_file, decode_file, frame_out, index_file, show_file};
 use dst_streams::{Sink, Source};
 use dst_words::Command;
@@ -44,23 +46,6 @@ pub(crate) fn run_command<E: Threads + Sync, S: Source, K: Sink, R: Sink>(
         (sink.new ≡ sink.old) (K.settled sink.new ≡ true) (source.new ≡ source.old) }
 {
     match command {
-        Command::Encode { level } => {
-            let picker = picker_of(level);
-            let answer = encode_file(rt, alloc, source, sink, &picker, workers, &OpenGate);
-            tell(report, command, encoded(answer))
-        }
-        Command::Decode => {
-            let answer = decode_file(rt, alloc, source, sink, workers, &OpenGate);
-            tell(report, command, decoded(answer))
-        }
-        Command::Cut { first, last } => {
-            let answer = cut_file(alloc, source, sink, first, last);
-            tell(report, command, cut_out(answer))
-        }
-        Command::Frame { frame, by_index } => {
-            let answer = frame_out(alloc, source, sink, frame, by_index);
-            tell(report, command, frame_written(answer))
-        }
         Command::Check => {
             let answer = check_file(rt, alloc, source, workers, &OpenGate);
             tell(report, command, checked(answer))
@@ -93,6 +78,49 @@ pub(crate) fn run_command<E: Threads + Sync, S: Source, K: Sink, R: Sink>(
             let answer = make_run(rt, alloc, start, frames, channels, &OpenGate);
             tell(report, command, ran(answer))
         }
+        _ => run_on_files(rt, alloc, command, workers, source, sink, report),
+    }
+}
+
+// Runs a command that reads a file and may write one, and reports its line.
+fn run_on_files<E: Threads + Sync, S: Source, K: Sink, R: Sink>(
+    rt: &E,
+    alloc: Global,
+    command: Command,
+    workers: u32,
+    source: &mut S,
+    sink: &mut K,
+    report: &mut R,
+) -> u8
+    requires least { 1 ≤ workers }
+    requires most { workers ≤ 16 }
+    requires files { ReadsAndWrites (command_seen command) }
+    requires numbers { NumbersAreLawful command }
+    ensures { IsRun (command_seen command) result (S.bytes source.old)
+        (record { before = S.faults source.old; now = S.faults source.new }) (record { before = K.faults sink.old; now = K.faults sink.new })
+        (record { before = R.faults report.old; now = R.faults report.new }) (record { before = S.given source.old; now = S.given source.new })
+        (record { old = K.written sink.old; new = K.written sink.new; room = K.room sink.old })
+        (record { old = R.written report.old; new = R.written report.new; room = R.room report.old })
+        (sink.new ≡ sink.old) (K.settled sink.new ≡ true) (source.new ≡ source.old) }
+{
+    match command {
+        Command::Encode { level } => {
+            let picker = picker_of(level);
+            let answer = encode_file(rt, alloc, source, sink, &picker, workers, &OpenGate);
+            tell(report, command, encoded(answer))
+        }
+        Command::Decode => {
+            let answer = decode_file(rt, alloc, source, sink, workers, &OpenGate);
+            tell(report, command, decoded(answer))
+        }
+        Command::Cut { first, last } => {
+            let answer = cut_file(alloc, source, sink, first, last);
+            tell(report, command, cut_out(answer))
+        }
+        Command::Frame { frame, by_index } => {
+            let answer = frame_out(alloc, source, sink, frame, by_index);
+            tell(report, command, frame_written(answer))
+        }
         Command::EncodeDsf { level } => {
             let picker = picker_of(level);
             let answer = encode_dsf(rt, alloc, source, sink, &picker, workers, &OpenGate);
@@ -102,6 +130,11 @@ pub(crate) fn run_command<E: Threads + Sync, S: Source, K: Sink, R: Sink>(
             let answer = decode_dsf(rt, alloc, source, sink, workers, &OpenGate);
             tell(report, command, decoded(answer))
         }
+        Command::Range { pairs } => {
+            let answer = range_out(alloc, source, sink, pairs.as_slice());
+            tell(report, command, range_written(answer))
+        }
+        _ => unreachable!(),
     }
 }
 
@@ -170,6 +203,7 @@ fn done_line(command: Command, done: Numbers) -> lines::Line
         Command::Decode | Command::DecodeDsf => lines::decoded(done.frames, done.bytes),
         Command::Cut { .. } => lines::cut(done.frames),
         Command::Frame { frame, .. } => lines::frame_written(frame, done.bytes),
+        Command::Range { .. } => lines::range(done.bytes),
         Command::Check => lines::checked(done.frames, done.unread),
         Command::Make { .. } => lines::made(done.frames),
         Command::MakeRun { channels, .. } => {

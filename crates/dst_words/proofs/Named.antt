@@ -1,6 +1,6 @@
 -- The words of each row by its name, and words that have none of these names.
-use Rattle.std.proofs.Common.{◌≡◌, ℕ, zero, suc, ◌+◌, ◌<◌, ◌≤◌, Bool, true, false, if◌then◌else◌, List, [], ◌∷◌, length, map, get_or, refl, arith}
-use Rattle.std.proofs.Common.{Option, Some, None}
+use Rattle.std.proofs.Common.{◌≡◌, ℕ, zero, suc, ◌+◌, ◌<◌, ◌≤◌, Bool, true, false, if◌then◌else◌, List, [], ◌∷◌, length, map, get_or, refl, arith, Option}
+use Rattle.std.proofs.Common.{Some, None}
 use Rattle.std.specs.Prelude.{codes, bytes_eq}
 use Rattle.std.specs.List.{AllByRecursion, range_with_len}
 use Rattle.std.proofs.lemmas.Slice.Eq.{bytes_eq-Decides}
@@ -74,10 +74,9 @@ parts_named : (name : Word) (k n : ℕ) → bytes_eq name (codes "range") ≡ fa
 parts_named name k zero e = tt
 parts_named name k (suc n) e = (e, parts_named name (k + 1) n e)
 
-pub other_name : (name : Word) (words : List Word) → (name ≡ codes "encode" → ⊥) → (name ≡ codes "decode" → ⊥) → (name ≡ codes "cut" → ⊥) →
-    (name ≡ codes "frame" → ⊥)
-    → (name ≡ codes "check" → ⊥) → (name ≡ codes "show" → ⊥) → (name ≡ codes "index" → ⊥) → (name ≡ codes "make" → ⊥) → (name ≡ codes "encode-dsf" → ⊥)
-    → (name ≡ codes "decode-dsf" → ⊥) → (name ≡ codes "range" → ⊥) → task_of (name ∷ words) ≡ None
+pub other_name : (name : Word) (words : List Word) → (name ≡ codes "encode" → ⊥) → (name ≡ codes "decode" → ⊥) → (name ≡ codes "cut" → ⊥)
+    → (name ≡ codes "frame" → ⊥) → (name ≡ codes "check" → ⊥) → (name ≡ codes "show" → ⊥) → (name ≡ codes "index" → ⊥)
+    → (name ≡ codes "make" → ⊥) → (name ≡ codes "encode-dsf" → ⊥) → (name ≡ codes "decode-dsf" → ⊥) → (name ≡ codes "range" → ⊥) → task_of (name ∷ words) ≡ None
 unfolding task_of
 other_name name words encode decode cut frame check shows index make encode_dsf decode_dsf range =
     let named_show = not_named name "show" shows in

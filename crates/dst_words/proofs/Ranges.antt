@@ -1,6 +1,6 @@
 -- The row of parts of the sound: of its sixteen forms the one that has as many numbers reads the words.
-use Rattle.std.proofs.Common.{◌≡◌, ◌≢◌, ◌⊎◌, inl, inr, ℕ, zero, suc, ◌+◌, ◌*◌, ◌/◌, ◌%◌, ◌<◌, ◌≤◌, ◌==◌, Bool, true, false, if◌then◌else◌, List, []}
-use Rattle.std.proofs.Common.{◌∷◌, length, map, replicate, refl, ap, sym, ◌∙◌, arith, ltb-true, ltb-false, eqb-true, Option, Some, None}
+use Rattle.std.proofs.Common.{◌≡◌, ◌≢◌, ◌⊎◌, inl, inr, ℕ, zero, suc, ◌+◌, ◌*◌, ◌/◌, ◌%◌, ◌<◌, ◌≤◌, ◌==◌, Bool, true, false, if◌then◌else◌, List, [], ◌∷◌}
+use Rattle.std.proofs.Common.{length, map, replicate, refl, ap, sym, ◌∙◌, arith, ltb-true, ltb-false, eqb-true, Option, Some, None}
 use Rattle.std.specs.Prelude.{codes, nat_lt, option_map, ◌&&◌, ◌||◌}
 use Rattle.std.specs.List.{range_with_len}
 use Rattle.std.proofs.lemmas.Bool.{le-ltb, eqb-false}
@@ -120,8 +120,8 @@ files_read true true None = refl
 files_read true true (Some read) = at_no_option read.0 read.1
 
 form_read : (n : ℕ) (i o : Word) (words : List Word) →
-    row_task (codes "range" ∷ i ∷ o ∷ words) (range_row n) ≡ of_files (is_file_word i) (is_file_word o)
-    (of_read parts (read_slots (replicate (2 * n) number) words))
+    row_task (codes "range" ∷ i ∷ o ∷ words) (range_row n)
+    ≡ of_files (is_file_word i) (is_file_word o) (of_read parts (read_slots (replicate (2 * n) number) words))
 form_read n i o words = files_read (is_file_word i) (is_file_word o) (read_slots (replicate (2 * n) number) words)
 
 no_files : (i o : Bool) → of_files i o None ≡ None
@@ -189,8 +189,8 @@ NoPairs words = (n : ℕ) → 1 ≤ n → n ≤ 16 → length words ≢ 2 * n
 pairs_or_none : (words : List Word) → ((n : ℕ) × ArePairs words n) ⊎ NoPairs words
 pairs_or_none words = go (nat_lt (length words) 2) (nat_lt 32 (length words)) (length words % 2 == 0) refl refl refl
   where
-    go : (a b c : Bool) → nat_lt (length words) 2 ≡ a → nat_lt 32 (length words) ≡ b → (length words % 2 == 0) ≡ c → ((n : ℕ) × ArePairs words n)
-        ⊎ NoPairs words
+    go : (a b c : Bool) → nat_lt (length words) 2 ≡ a → nat_lt 32 (length words) ≡ b → (length words % 2 == 0) ≡ c →
+        ((n : ℕ) × ArePairs words n) ⊎ NoPairs words
     go true b c few many even = let h = ltb-true (length words) 2 few in inr (λ n least most same. omega arith)
     go false true c few many even = let h = ltb-true 32 (length words) many in inr (λ n least most same. omega arith)
     go false false true few many even =

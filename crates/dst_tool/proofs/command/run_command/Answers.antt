@@ -34,23 +34,12 @@ use Rattle.dst_tool.proofs.Coding.{encoded_whole, part_of_encoding, accepted_out
 use Rattle.dst_tool.proofs.DsfCoding.{dsf_at, dsf_whole, dsf_out, part_of_dsf}
 use Rattle.dst_tool.proofs.MadeOutcomes.{asks_make, asks_run, of_ran, made_outcome, made_out, made_whole, run_done, sink_failed}
 use Rattle.dst_tool.proofs.OwnLines.{run_of_listing}
+use Rattle.dst_tool.proofs.OtherCommands.{reads_and_writes}
 use Rattle.dst_tool.proofs.command.run_command.Goals as goal
 
 -- ---- what each command answers, in the words of the report
-abbrev of_encoded : Encoded → Numbers
-of_encoded d = record { frames = d.frames; bytes = d.bytes; unread = 0; restored = 0 }
-
-abbrev of_decoded : Decoded → Numbers
-of_decoded d = record { frames = d.frames; bytes = d.bytes; unread = 0; restored = 0 }
-
-abbrev of_cut_out : Cut → Numbers
-of_cut_out d = record { frames = d.frames; bytes = 0; unread = 0; restored = 0 }
-
 abbrev of_made : Made → Numbers
 of_made d = record { frames = d.frames; bytes = 0; unread = 0; restored = 0 }
-
-abbrev of_written : FrameWritten → Numbers
-of_written f = record { frames = 1; bytes = f.bytes; unread = 0; restored = 0 }
 
 abbrev of_checked : Checked → Numbers
 of_checked d = record { frames = d.frames; bytes = 0; unread = d.unread; restored = 0 }
@@ -58,277 +47,7 @@ of_checked d = record { frames = d.frames; bytes = 0; unread = d.unread; restore
 abbrev of_reported : Reported → Numbers
 of_reported d = record { frames = d.frames; bytes = 0; unread = 0; restored = 0 }
 
-either : {A B C D : Type 0} → (A → C) → (B → D) → A ⊎ B → C ⊎ D
-either f h (inl a) = inl (f a)
-either f h (inr b) = inr (h b)
-
 -- ---- commands that report one line
-pub returns-in-Encode : goal.returns-in-Encode
-returns-in-Encode g c =
-    let d = c.encode_file-answer.result in
-    let e = c.encode_file-answer.ensures in
-    let r = c.encoded.result in
-    let is : r ≡ answered of_encoded of_encode d = c.encoded.ensures in
-    let back : (f : Fault) → r ≡ Err f → d ≡ Err (to_encode f) = λ f h. back_from of_encoded of_encode to_encode encode_again d f (sym is ∙ h) in
-    let t = c.tell.ensures in
-    let bytes = g.S.Source.bytes c.args.source.now in
-    let written = g.K.Sink.written c.args.sink.now in
-    let same = ap command_seen c.in-Encode.is in
-    let level = c.in-Encode.level in
-    let asks = asked.encode level in
-    let new = g.K.Sink.written c.encode_file-answer.new.sink in
-    let picker = c.picker_of-picker.result in
-    let picker_is : picker ≡ level = c.picker_of-picker.ensures in
-    let one : (file : List ℕ) → bytes ≡ Some file → One (OutcomeOf asks file) = λ file told. command_has_one_outcome asks file tt (g.met.S.Source.told_are_bytes c.args.source.now file told) in
-    same_run same (run_of_answer asks r c.tell.result bytes _ _ _ _ _ _ _ _ _ tt (λ file told. g.met.S.Source.told_are_bytes c.args.source.now file told)
-    (λ file told. record {
-      finished = subst (λ r. IfOk r (λ s. (out : List ℕ) × OutcomeOf asks file (done out (done_line asks s ∷ [])) × WholeOf (Some asks) out written new)) (sym is)
-          (if_answered of_encoded of_encode d _ (encoded_whole d level picker file bytes written new picker_is told e.accepted e.encoded e.frames e.stored));
-      file_is = λ fault h. e.file fault (back (File fault) h) file told level;
-      untouched = λ fault h. ap g.K.Sink.written (e.untouched fault (back (File fault) h));
-      frame_is = λ k fault h. absurd (encode_refuses of_encoded d k fault (sym is ∙ h));
-      cut_short = λ h. part_of_encoding level picker file written new picker_is (λ fault refused. ap g.K.Sink.written (e.refused file told level fault refused))
-          (λ nothing. e.unfinished (either (back Read) (back Write) h) file told nothing);
-      memory = λ h. ap g.K.Sink.written (e.memory (back Memory h));
-      no_report = λ h. encode_reports of_encoded d (sym is ∙ h);
-    })
-    (λ w. absurd w)
-    (record {
-      read = λ h. e.read (back Read h);
-      write = λ h. e.write (back Write h);
-      sure = λ h file told o outcome n room fits.
-          let out = accepted_out level file o (e.write_accepted (back Write h) file told level) outcome (one file told) ∙ ap (λ n. coded_at n file (accepted file)) (sym picker_is) in
-          e.sure (back Write h) file told n room (subst (λ w. length w ≤ n) out fits);
-      memory = λ h. e.memory (back Memory h);
-      untouched = λ fault h. e.untouched fault (back (File fault) h);
-      idle = λ w. absurd w;
-      no_write = λ w. absurd w;
-      unread = λ w. absurd w;
-      no_file = λ w. absurd w;
-      settled = λ w s h. if_done of_encoded of_encode d s (sym is ∙ h) e.settled;
-      by_index = λ k h. absurd (encoding_is_no_frame level k h);
-      any_source = λ k h. absurd (encoding_is_no_frame level k h);
-      no_report = λ h. encode_reports of_encoded d (sym is ∙ h);
-    })
-    (record { reported = t.reported; whole = t.whole; cut_short = t.cut_short; cause = t.cause; sure = t.sure }))
-
-pub returns-in-Decode : goal.returns-in-Decode
-returns-in-Decode g c =
-    let d = c.decode_file-answer.result in
-    let e = c.decode_file-answer.ensures in
-    let r = c.decoded.result in
-    let is : r ≡ answered of_decoded of_decode d = c.decoded.ensures in
-    let back : (f : Fault) → r ≡ Err f → d ≡ Err (to_decode f) = λ f h. back_from of_decoded of_decode to_decode decode_again d f (sym is ∙ h) in
-    let t = c.tell-in-Decode.ensures in
-    let bytes = g.S.Source.bytes c.args.source.now in
-    let written = g.K.Sink.written c.args.sink.now in
-    let same = ap command_seen c.in-Decode.is in
-    let asks = asked.decode in
-    same_run same (run_of_answer asks r c.tell-in-Decode.result bytes _ _ _ _ _ _ _ _ _ tt (λ file told. g.met.S.Source.told_are_bytes c.args.source.now file told)
-    (λ file told. record {
-      finished = subst (λ r. IfOk r (λ s. (out : List ℕ) × OutcomeOf asks file (done out (done_line asks s ∷ [])) × (g.K.Sink.written c.decode_file-answer.new.sink ≡ and_then written out))) (sym is)
-          (if_answered of_decoded of_decode d _ (at_file d (λ s file. (out : List ℕ) × OutcomeOf asks file (done out (done_line asks (of_decoded s) ∷ [])) × (g.K.Sink.written c.decode_file-answer.new.sink ≡ and_then written out)) bytes file told e.decoded));
-      file_is = λ fault h. e.file fault (back (File fault) h) file told;
-      untouched = λ fault h. ap g.K.Sink.written (e.untouched fault (back (File fault) h));
-      frame_is = λ k fault h. e.frame k fault (back (Frame k fault) h) file told;
-      cut_short = λ h. e.cut_short (either (back Read) (back Write) h) file told;
-      memory = λ h. ap g.K.Sink.written (e.memory (back Memory h));
-      no_report = λ h. decode_reports of_decoded d (sym is ∙ h);
-    })
-    (λ w. absurd w)
-    (record {
-      read = λ h. e.read (back Read h);
-      write = λ h. e.write (back Write h);
-      sure = λ h. e.sure (back Write h);
-      memory = λ h. e.memory (back Memory h);
-      untouched = λ fault h. e.untouched fault (back (File fault) h);
-      idle = λ w. absurd w;
-      no_write = λ w. absurd w;
-      unread = λ w. absurd w;
-      no_file = λ w. absurd w;
-      settled = λ w s h. if_done of_decoded of_decode d s (sym is ∙ h) e.settled;
-      by_index = λ k h. absurd (decoding_is_no_frame k h);
-      any_source = λ k h. absurd (decoding_is_no_frame k h);
-      no_report = λ h. decode_reports of_decoded d (sym is ∙ h);
-    })
-    (subst (λ q. TellsLine (status_of r) (line_of q r) c.tell-in-Decode.result (record { before = g.R.Sink.faults c.args.report.now; now = g.R.Sink.faults c.tell-in-Decode.new.report }) (record { old = g.R.Sink.written c.args.report.now; new = g.R.Sink.written c.tell-in-Decode.new.report; room = g.R.Sink.room c.args.report.now })) same (record { reported = t.reported; whole = t.whole; cut_short = t.cut_short; cause = t.cause; sure = t.sure })))
-
-pub returns-in-EncodeDsf : goal.returns-in-EncodeDsf
-returns-in-EncodeDsf g c =
-    let d = c.encode_dsf-answer.result in
-    let e = c.encode_dsf-answer.ensures in
-    let r = c.encoded-in-EncodeDsf.result in
-    let is : r ≡ answered of_encoded of_encode d = c.encoded-in-EncodeDsf.ensures in
-    let back : (f : Fault) → r ≡ Err f → d ≡ Err (to_encode f) = λ f h. back_from of_encoded of_encode to_encode encode_again d f (sym is ∙ h) in
-    let t = c.tell-in-EncodeDsf.ensures in
-    let bytes = g.S.Source.bytes c.args.source.now in
-    let written = g.K.Sink.written c.args.sink.now in
-    let same = ap command_seen c.in-EncodeDsf.is in
-    let level = c.in-EncodeDsf.level in
-    let asks = asked.encode_dsf level in
-    let new = g.K.Sink.written c.encode_dsf-answer.new.sink in
-    let picker = c.picker_of-picker-in-EncodeDsf.result in
-    let picker_is : picker ≡ level = c.picker_of-picker-in-EncodeDsf.ensures in
-    let one : (file : List ℕ) → bytes ≡ Some file → One (OutcomeOf asks file) = λ file told. command_has_one_outcome asks file tt (g.met.S.Source.told_are_bytes c.args.source.now file told) in
-    same_run same (run_of_answer asks r c.tell-in-EncodeDsf.result bytes _ _ _ _ _ _ _ _ _ tt (λ file told. g.met.S.Source.told_are_bytes c.args.source.now file told)
-    (λ file told. record {
-      finished = subst (λ r. IfOk r (λ s. (out : List ℕ) × OutcomeOf asks file (done out (done_line asks s ∷ [])) × WholeOf (Some asks) out written new)) (sym is)
-          (if_answered of_encoded of_encode d _ (dsf_whole d level picker file bytes written new picker_is told e.accepted e.encoded e.frames e.stored));
-      file_is = λ fault h. e.file fault (back (File fault) h) file told level;
-      untouched = λ fault h. ap g.K.Sink.written (e.untouched fault (back (File fault) h));
-      frame_is = λ k fault h. absurd (encode_refuses of_encoded d k fault (sym is ∙ h));
-      cut_short = λ h. part_of_dsf level picker file written new picker_is (λ fault refused. ap g.K.Sink.written (e.refused file told level fault refused))
-          (λ nothing. e.unfinished (either (back Read) (back Write) h) file told nothing);
-      memory = λ h. ap g.K.Sink.written (e.memory (back Memory h));
-      no_report = λ h. encode_reports of_encoded d (sym is ∙ h);
-    })
-    (λ w. absurd w)
-    (record {
-      read = λ h. e.read (back Read h);
-      write = λ h. e.write (back Write h);
-      sure = λ h file told o outcome n room fits.
-          let out = dsf_out level file o (e.write_accepted (back Write h) file told level) outcome (one file told) ∙ ap (λ n. dsf_at n file) (sym picker_is) in
-          e.sure (back Write h) file told n room (subst (λ w. length w ≤ n) out fits);
-      memory = λ h. e.memory (back Memory h);
-      untouched = λ fault h. e.untouched fault (back (File fault) h);
-      idle = λ w. absurd w;
-      no_write = λ w. absurd w;
-      unread = λ w. absurd w;
-      no_file = λ w. absurd w;
-      settled = λ w s h. if_done of_encoded of_encode d s (sym is ∙ h) e.settled;
-      by_index = λ k h. absurd (encoding_dsf_is_no_frame level k h);
-      any_source = λ k h. absurd (encoding_dsf_is_no_frame level k h);
-      no_report = λ h. encode_reports of_encoded d (sym is ∙ h);
-    })
-    (record { reported = t.reported; whole = t.whole; cut_short = t.cut_short; cause = t.cause; sure = t.sure }))
-
-pub returns-in-DecodeDsf : goal.returns-in-DecodeDsf
-returns-in-DecodeDsf g c =
-    let d = c.decode_dsf-answer.result in
-    let e = c.decode_dsf-answer.ensures in
-    let r = c.decoded-in-DecodeDsf.result in
-    let is : r ≡ answered of_decoded of_decode d = c.decoded-in-DecodeDsf.ensures in
-    let back : (f : Fault) → r ≡ Err f → d ≡ Err (to_decode f) = λ f h. back_from of_decoded of_decode to_decode decode_again d f (sym is ∙ h) in
-    let t = c.tell-in-DecodeDsf.ensures in
-    let bytes = g.S.Source.bytes c.args.source.now in
-    let written = g.K.Sink.written c.args.sink.now in
-    let same = ap command_seen c.in-DecodeDsf.is in
-    let asks = asked.decode_dsf in
-    same_run same (run_of_answer asks r c.tell-in-DecodeDsf.result bytes _ _ _ _ _ _ _ _ _ tt (λ file told. g.met.S.Source.told_are_bytes c.args.source.now file told)
-    (λ file told. record {
-      finished = subst (λ r. IfOk r (λ s. (out : List ℕ) × OutcomeOf asks file (done out (done_line asks s ∷ [])) × (g.K.Sink.written c.decode_dsf-answer.new.sink ≡ and_then written out))) (sym is)
-          (if_answered of_decoded of_decode d _ (at_file d (λ s file. (out : List ℕ) × OutcomeOf asks file (done out (done_line asks (of_decoded s) ∷ [])) × (g.K.Sink.written c.decode_dsf-answer.new.sink ≡ and_then written out)) bytes file told e.decoded));
-      file_is = λ fault h. e.file fault (back (File fault) h) file told;
-      untouched = λ fault h. ap g.K.Sink.written (e.untouched fault (back (File fault) h));
-      frame_is = λ k fault h. e.frame k fault (back (Frame k fault) h) file told;
-      cut_short = λ h. e.cut_short (either (back Read) (back Write) h) file told;
-      memory = λ h. ap g.K.Sink.written (e.memory (back Memory h));
-      no_report = λ h. decode_reports of_decoded d (sym is ∙ h);
-    })
-    (λ w. absurd w)
-    (record {
-      read = λ h. e.read (back Read h);
-      write = λ h. e.write (back Write h);
-      sure = λ h. e.sure (back Write h);
-      memory = λ h. e.memory (back Memory h);
-      untouched = λ fault h. e.untouched fault (back (File fault) h);
-      idle = λ w. absurd w;
-      no_write = λ w. absurd w;
-      unread = λ w. absurd w;
-      no_file = λ w. absurd w;
-      settled = λ w s h. if_done of_decoded of_decode d s (sym is ∙ h) e.settled;
-      by_index = λ k h. absurd (decoding_dsf_is_no_frame k h);
-      any_source = λ k h. absurd (decoding_dsf_is_no_frame k h);
-      no_report = λ h. decode_reports of_decoded d (sym is ∙ h);
-    })
-    (subst (λ q. TellsLine (status_of r) (line_of q r) c.tell-in-DecodeDsf.result (record { before = g.R.Sink.faults c.args.report.now; now = g.R.Sink.faults c.tell-in-DecodeDsf.new.report }) (record { old = g.R.Sink.written c.args.report.now; new = g.R.Sink.written c.tell-in-DecodeDsf.new.report; room = g.R.Sink.room c.args.report.now })) same (record { reported = t.reported; whole = t.whole; cut_short = t.cut_short; cause = t.cause; sure = t.sure })))
-
-pub returns-in-Cut : goal.returns-in-Cut
-returns-in-Cut g c =
-    let d = c.cut_file-answer.result in
-    let e = c.cut_file-answer.ensures in
-    let r = c.cut_out.result in
-    let is : r ≡ answered of_cut_out of_cut d = c.cut_out.ensures in
-    let back : (f : Fault) → r ≡ Err f → d ≡ Err (to_cut f) = λ f h. back_from of_cut_out of_cut to_cut cut_again d f (sym is ∙ h) in
-    let t = c.tell-in-Cut.ensures in
-    let bytes = g.S.Source.bytes c.args.source.now in
-    let written = g.K.Sink.written c.args.sink.now in
-    let same = ap command_seen c.in-Cut.is in
-    let asks = asked.cut c.in-Cut.first c.in-Cut.last in
-    same_run same (run_of_answer asks r c.tell-in-Cut.result bytes _ _ _ _ _ _ _ _ _ tt (λ file told. g.met.S.Source.told_are_bytes c.args.source.now file told)
-    (λ file told. record {
-      finished = subst (λ r. IfOk r (λ s. (out : List ℕ) × OutcomeOf asks file (done out (done_line asks s ∷ [])) × (g.K.Sink.written c.cut_file-answer.new.sink ≡ and_then written out))) (sym is)
-          (if_answered of_cut_out of_cut d _ (at_file d (λ s file. (out : List ℕ) × OutcomeOf asks file (done out (done_line asks (of_cut_out s) ∷ [])) × (g.K.Sink.written c.cut_file-answer.new.sink ≡ and_then written out)) bytes file told e.cut));
-      file_is = λ fault h. e.file fault (back (File fault) h) file told;
-      untouched = λ fault h. ap g.K.Sink.written (e.untouched fault (back (File fault) h));
-      frame_is = λ k fault h. absurd (cut_refuses of_cut_out d k fault (sym is ∙ h));
-      cut_short = λ h. e.cut_short (either (back Read) (back Write) h) file told;
-      memory = λ h. ap g.K.Sink.written (e.memory (back Memory h));
-      no_report = λ h. cut_reports of_cut_out d (sym is ∙ h);
-    })
-    (λ w. absurd w)
-    (record {
-      read = λ h. e.read (back Read h);
-      write = λ h. e.write (back Write h);
-      sure = λ h. e.sure (back Write h);
-      memory = λ h. e.memory (back Memory h);
-      untouched = λ fault h. e.untouched fault (back (File fault) h);
-      idle = λ w. absurd w;
-      no_write = λ w. absurd w;
-      unread = λ w. absurd w;
-      no_file = λ w. absurd w;
-      settled = λ w s h. if_done of_cut_out of_cut d s (sym is ∙ h) e.settled;
-      by_index = λ k h. absurd (cutting_is_no_frame c.in-Cut.first c.in-Cut.last k h);
-      any_source = λ k h. absurd (cutting_is_no_frame c.in-Cut.first c.in-Cut.last k h);
-      no_report = λ h. cut_reports of_cut_out d (sym is ∙ h);
-    })
-    (record { reported = t.reported; whole = t.whole; cut_short = t.cut_short; cause = t.cause; sure = t.sure }))
-
-pub returns-in-Frame : goal.returns-in-Frame
-returns-in-Frame g c =
-    let d = c.frame_out-answer.result in
-    let e = c.frame_out-answer.ensures in
-    let r = c.frame_written.result in
-    let is : r ≡ answered of_written of_decode d = c.frame_written.ensures in
-    let back : (f : Fault) → r ≡ Err f → d ≡ Err (to_decode f) = λ f h. back_from of_written of_decode to_decode decode_again d f (sym is ∙ h) in
-    let t = c.tell-in-Frame.ensures in
-    let bytes = g.S.Source.bytes c.args.source.now in
-    let written = g.K.Sink.written c.args.sink.now in
-    let same = ap command_seen c.in-Frame.is in
-    let asks = asked.frame c.in-Frame.frame c.in-Frame.by_index in
-    let other : (f : DecodeFault) → d ≡ Err f → (f ≢ decoding.Write) → g.K.Sink.written c.frame_out-answer.new.sink ≡ written = λ f h other. ap g.K.Sink.written (e.untouched f h other) in
-    same_run same (run_of_answer asks r c.tell-in-Frame.result bytes _ _ _ _ _ _ _ _ _ tt (λ file told. g.met.S.Source.told_are_bytes c.args.source.now file told)
-    (λ file told. record {
-      finished = subst (λ r. IfOk r (λ s. (out : List ℕ) × OutcomeOf asks file (done out (done_line asks s ∷ [])) × (g.K.Sink.written c.frame_out-answer.new.sink ≡ and_then written out))) (sym is)
-          (if_answered of_written of_decode d _ (at_file d (λ s file. (out : List ℕ) × OutcomeOf asks file (done out (done_line asks (of_written s) ∷ [])) × (g.K.Sink.written c.frame_out-answer.new.sink ≡ and_then written out)) bytes file told e.written));
-      file_is = λ fault h. e.file fault (back (File fault) h) file told;
-      untouched = λ fault h. other _ (back (File fault) h) (λ w. absurd cc);
-      frame_is = λ k fault h. ([], e.frame k fault (back (Frame k fault) h) file told, other _ (back (Frame k fault) h) (λ w. absurd cc) ∙ nothing_added written);
-      cut_short = cut_or_nothing asks r file written _ (command_has_one_outcome asks file tt (g.met.S.Source.told_are_bytes c.args.source.now file told)) (λ h. other _ (back Read h) (λ w. absurd cc)) (λ h. e.cut_short (back Write h) file told);
-      memory = λ h. other _ (back Memory h) (λ w. absurd cc);
-      no_report = λ h. decode_reports of_written d (sym is ∙ h);
-    })
-    (λ w. absurd w)
-    (record {
-      read = λ h. e.read (back Read h);
-      write = λ h. e.write (back Write h);
-      sure = λ h. e.sure (back Write h);
-      memory = λ h. e.untouched _ (back Memory h) (λ w. absurd cc);
-      untouched = λ fault h. e.untouched _ (back (File fault) h) (λ w. absurd cc);
-      idle = λ w. absurd w;
-      no_write = λ w. absurd w;
-      unread = λ w. absurd w;
-      no_file = λ w. absurd w;
-      settled = λ w s h. if_done of_written of_decode d s (sym is ∙ h) e.settled;
-      by_index = λ k h file told. few_given _ _ _ (e.given (by_index_is c.in-Frame.frame k c.in-Frame.by_index h) file told);
-      any_source = λ k h. most_for_any _ _ (e.given_any (by_index_is c.in-Frame.frame k c.in-Frame.by_index h));
-      no_report = λ h. decode_reports of_written d (sym is ∙ h);
-    })
-    (record { reported = t.reported; whole = t.whole; cut_short = t.cut_short; cause = t.cause; sure = t.sure }))
-  where
-    by_index_is : (j k : ℕ) (b : Bool) → asked.frame j b ≡ asked.frame k true → b ≡ true
-    by_index_is j k b is = cc
-
 pub returns-in-Check : goal.returns-in-Check
 returns-in-Check g c =
     let d = c.check_file-answer.result in
@@ -336,13 +55,13 @@ returns-in-Check g c =
     let r = c.checked.result in
     let is : r ≡ answered of_checked of_check d = c.checked.ensures in
     let back : (f : Fault) → r ≡ Err f → d ≡ Err (to_check f) = λ f h. back_from of_checked of_check to_check check_again d f (sym is ∙ h) in
-    let t = c.tell-in-Check.ensures in
+    let t = c.tell.ensures in
     let bytes = g.S.Source.bytes c.args.source.now in
     let written = g.K.Sink.written c.args.sink.now in
     let same = ap command_seen c.in-Check.is in
     let asks = asked.check in
     let one : (file : List ℕ) → bytes ≡ Some file → One (OutcomeOf asks file) = λ file told. command_has_one_outcome asks file tt (g.met.S.Source.told_are_bytes c.args.source.now file told) in
-    same_run same (run_of_answer asks r c.tell-in-Check.result bytes _ _ _ _ _ _ _ _ _ tt (λ file told. g.met.S.Source.told_are_bytes c.args.source.now file told)
+    same_run same (run_of_answer asks r c.tell.result bytes _ _ _ _ _ _ _ _ _ tt (λ file told. g.met.S.Source.told_are_bytes c.args.source.now file told)
     (λ file told. record {
       finished = finished_alone asks r written file (subst (λ r. IfOk r (λ s. OutcomeOf asks file (done [] (done_line asks s ∷ [])))) (sym is)
           (if_answered of_checked of_check d _ (at_file d (λ s file. OutcomeOf asks file (done [] (check_line s.frames s.unread ∷ []))) bytes file told e.sound)));
@@ -369,7 +88,7 @@ returns-in-Check g c =
       any_source = λ k h. absurd (checking_is_no_frame k h);
       no_report = λ h. check_reports of_checked d (sym is ∙ h);
     })
-    (subst (λ q. TellsLine (status_of r) (line_of q r) c.tell-in-Check.result (record { before = g.R.Sink.faults c.args.report.now; now = g.R.Sink.faults c.tell-in-Check.new.report }) (record { old = g.R.Sink.written c.args.report.now; new = g.R.Sink.written c.tell-in-Check.new.report; room = g.R.Sink.room c.args.report.now })) same (record { reported = t.reported; whole = t.whole; cut_short = t.cut_short; cause = t.cause; sure = t.sure })))
+    (subst (λ q. TellsLine (status_of r) (line_of q r) c.tell.result (record { before = g.R.Sink.faults c.args.report.now; now = g.R.Sink.faults c.tell.new.report }) (record { old = g.R.Sink.written c.args.report.now; new = g.R.Sink.written c.tell.new.report; room = g.R.Sink.room c.args.report.now })) same (record { reported = t.reported; whole = t.whole; cut_short = t.cut_short; cause = t.cause; sure = t.sure })))
 
 pub returns-in-Make : goal.returns-in-Make
 returns-in-Make g c =
@@ -621,3 +340,9 @@ returns-in-Index g c =
     other_report (Frame k fault) other h same = list_refuses of_reported c.index_file-answer.result k fault (sym c.listed.ensures ∙ h)
     other_report Report other h same = other refl
     other_report Write other h same = list_writes of_reported c.index_file-answer.result (sym c.listed.ensures ∙ h)
+
+-- ---- the others
+pub run_on_files-requires-clause-files : goal.run_on_files-requires-clause-files
+run_on_files-requires-clause-files g c =
+    let d = c.in_default in
+    λ lifetimes outlive. reads_and_writes c.args.command d.not-Check d.not-Show d.not-ShowFrame d.not-Index d.not-Make d.not-MakeRun
