@@ -9,6 +9,7 @@ use dst_read::{
     CheckFault, Checked, DecodeFault, Decoded, FrameWritten, ListFault, Reported, ShowFault,
 };
 use dst_write::{Cut, CutFault, EncodeFault, Encoded, Made, MakeFault};
+use std::alloc::AllocError;
 
 /// The numbers that the line of a command has which is done.
 #[derive(Clone, Copy)]
@@ -24,7 +25,7 @@ pub(crate) struct Numbers {
 pub(crate) enum Fault {
     Read,
     Write,
-    Memory,
+    Memory(AllocError),
     Report,
     File(FileFault),
     Frame { frame: u32, fault: FrameFault },
@@ -35,7 +36,7 @@ fn of_source(fault: OpenFault) -> Fault
 {
     match fault {
         OpenFault::Read => Fault::Read,
-        OpenFault::Memory => Fault::Memory,
+        OpenFault::Memory(refused) => Fault::Memory(refused),
         OpenFault::File(fault) => Fault::File(fault),
     }
 }
@@ -108,7 +109,7 @@ pub(crate) fn made(answer: Result<Made, MakeFault>) -> Result<Numbers, Fault>
             unread: 0,
             restored: 0,
         }),
-        Err(MakeFault::Memory(_)) => Err(Fault::Memory),
+        Err(MakeFault::Memory(refused)) => Err(Fault::Memory(refused)),
         Err(MakeFault::Write) => Err(Fault::Write),
     }
 }
@@ -124,7 +125,7 @@ pub(crate) fn ran(answer: Result<(Encoded, Decoded), RunFault>) -> Result<Number
             unread: 0,
             restored: decoded.bytes,
         }),
-        Err(RunFault::Memory) => Err(Fault::Memory),
+        Err(RunFault::Memory(refused)) => Err(Fault::Memory(refused)),
     }
 }
 
