@@ -31,6 +31,8 @@ mod origin;
 mod plain;
 mod prop;
 mod read;
+#[cfg(test)]
+mod tests;
 mod top;
 mod write;
 mod write_coded;

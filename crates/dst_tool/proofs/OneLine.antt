@@ -1,6 +1,7 @@
 -- A command that reports one line: what it answered, and what the run leaves.
 use Rattle.std.proofs.Common.{◌≡◌, ◌⊎◌, inl, inr, ℕ, ◌+◌, ◌*◌, ◌<◌, ◌≤◌, true, List, [], ◌∷◌, length, Option, Some, Result, Ok, Err, refl, ap, sym, subst, ◌∙◌, arith, IfOk}
 use Rattle.std.specs.Prelude.{⊤}
+use Rattle.std.specs.declared.alloc.AllocError.{AllocError}
 use Rattle.dst_spec.specs.Bits.{AreBytes}
 use Rattle.dst_spec.specs.declared.faults.FrameFault.{FrameFault}
 use Rattle.dst_streams.specs.Causes.{Rose}
@@ -29,7 +30,7 @@ pub record IsAnswer (c : Command) (r : Result Numbers Fault) (file : List ℕ) (
   pub untouched : (fault : FileFault) → r ≡ Err (File fault) → new ≡ old
   pub frame_is : (k : ℕ) (fault : FrameFault) → r ≡ Err (Frame k fault) → (out : List ℕ) × OutcomeOf c file (frame_refused k fault out) × (new ≡ and_then old out)
   pub cut_short : (r ≡ Err Read) ⊎ (r ≡ Err Write) → (o : Answer) × OutcomeOf c file o × PartOf (Some c) file o.out old new
-  pub memory : r ≡ Err Memory → new ≡ old
+  pub memory : (refused : AllocError) → r ≡ Err (Memory refused) → new ≡ old
   pub no_report : r ≡ Err Report → ⊥
 
 -- what holds of every file that is told holds of this one
@@ -72,7 +73,7 @@ pub answer_ends : (c : Command) (r : Result Numbers Fault) (file : List ℕ) (ol
 answer_ends c (Ok s) file old new a = inr (inr (inr (done_ends c s file old new a)))
 answer_ends c (Err Read) file old new a = inl (refl, refl, a.cut_short (inl refl))
 answer_ends c (Err Write) file old new a = inr (inl (refl, refl, a.cut_short (inr refl)))
-answer_ends c (Err Memory) file old new a = inr (inr (inl (refl, refl, tt, a.memory refl)))
+answer_ends c (Err (Memory refused)) file old new a = inr (inr (inl (refl, refl, tt, a.memory refused refl)))
 answer_ends c (Err (File fault)) file old new a = inr (inr (inr (file_ends c fault file old new a)))
 answer_ends c (Err (Frame k fault)) file old new a = inr (inr (inr (frame_ends c k fault file old new a)))
 answer_ends c (Err Report) file old new a = absurd (a.no_report refl)
@@ -88,7 +89,7 @@ line_fits : (c : Command) (r : Result Numbers Fault) (file : List ℕ) (old new 
 line_fits c (Ok s) file old new o n reads bytes a h no_read no_write least fits = subst (λ lines. length (report lines) ≤ n) (same_lines c file 0 (line_of c (Ok s) ∷ []) old new o reads bytes h (done_ends c s file old new a)) fits
 line_fits c (Err Read) file old new o n reads bytes a h no_read no_write least fits = absurd (no_read refl)
 line_fits c (Err Write) file old new o n reads bytes a h no_read no_write least fits = absurd (no_write refl)
-line_fits c (Err Memory) file old new o n reads bytes a h no_read no_write least fits = least
+line_fits c (Err (Memory refused)) file old new o n reads bytes a h no_read no_write least fits = least
 line_fits c (Err (File fault)) file old new o n reads bytes a h no_read no_write least fits = subst (λ lines. length (report lines) ≤ n) (same_lines c file 5 (fault_line (File fault) ∷ []) old new o reads bytes h (file_ends c fault file old new a)) fits
 line_fits c (Err (Frame k fault)) file old new o n reads bytes a h no_read no_write least fits =
     subst (λ lines. length (report lines) ≤ n) (same_lines c file 6 (fault_line (Frame k fault) ∷ []) old new o reads bytes h (frame_ends c k fault file old new a)) fits
@@ -122,7 +123,7 @@ pub record HasCauses (c : Command) (r : Result Numbers Fault) (bytes : Option (L
   pub read : r ≡ Err Read → Rose source.before source.now
   pub write : r ≡ Err Write → Rose sink.before sink.now
   pub sure : r ≡ Err Write → (file : List ℕ) → bytes ≡ Some file → (o : Answer) → OutcomeOf c file o → (n : ℕ) → written.room ≡ Some n → length o.out ≤ n → ⊥
-  pub memory : r ≡ Err Memory → Same
+  pub memory : (refused : AllocError) → r ≡ Err (Memory refused) → Same
   pub untouched : (fault : FileFault) → r ≡ Err (File fault) → Same
   pub idle : WritesNowhere c → Same
   pub no_write : WritesNowhere c → r ≡ Err Write → ⊥
@@ -146,7 +147,7 @@ run_of_answer c r result bytes source sink counts given written told Same Settle
   sure_sink = λ file e o is n room fits three. h.sure (status_is_write r (status_told (status_of r) result 3 t.reported three (omega arith))) file e o is n room fits;
   sure_report = λ file e o is no_read no_write n room least fits seven.
       t.sure seven n room (line_fits c r file written.old written.new o n reads (are file e) (answer file e) is (λ q. no_read (h.read q)) (λ q. no_write (h.write q)) least fits);
-  memory = λ e. h.memory (status_is_memory r (status_told (status_of r) result 4 t.reported e (omega arith)));
+  memory = λ e. let f = status_is_memory r (status_told (status_of r) result 4 t.reported e (omega arith)) in h.memory f.0 f.1;
   file_refused = λ e. let f = status_is_file r (status_told (status_of r) result 5 t.reported e (omega arith)) in h.untouched f.0 f.1;
   idle = h.idle;
   no_write = λ w e. h.no_write w (status_is_write r (status_told (status_of r) result 3 t.reported e (omega arith)));

@@ -50,7 +50,7 @@ pub record TellsFault (r : Result Numbers Fault) (result : ℕ) (middle : Counts
 -- a fault that isn't the report's is reported
 abbrev IsTold : Fault → Type 0
 IsTold Read = ⊤
-IsTold Memory = ⊤
+IsTold (Memory refused) = ⊤
 IsTold (File fault) = ⊤
 IsTold (Frame k fault) = ⊤
 IsTold Write = ⊥
@@ -65,7 +65,7 @@ EndsListing c file result written told = (wanted : ℕ) × (lines : List Line) �
 fault_ends : (c : Command) (fault : Fault) (file : List ℕ) (written : Option (List ℕ)) (told mid : Option (List ℕ)) → WritesNowhere c → IsTold fault → IsListing c (Err fault) file told mid →
     EndsBy (OutcomeOf c file) (Some c) file ⊤ (status_of (Err fault)) (fault_line fault ∷ []) written written
 fault_ends c Read file written told mid w h l = inl (refl, refl, (l.some.0, l.some.1, nothing_of c file l.some.0.out written w))
-fault_ends c Memory file written told mid w h l = inr (inr (inl (refl, refl, tt, refl)))
+fault_ends c (Memory refused) file written told mid w h l = inr (inr (inl (refl, refl, tt, refl)))
 fault_ends c (File fault) file written told mid w h l =
     inr (inr (inr (file_refused fault, refusal_is c file fault (l.file_is fault refl), refl, refl, whole_of c [] written written (sym (and_then-nothing written)))))
 fault_ends c (Frame k fault) file written told mid w h l =
@@ -104,7 +104,7 @@ listing_ends c (Err Report) result file written source counts middle told mid w 
       inr (f.0, subst (λ w. IsCutShort told.old (report cut.0) w) (sym f.1 ∙ last) cut.2),
     )
 listing_ends c (Err Read) result file written source counts middle told mid w last l h t = told_ends c Read result file written source counts middle told mid w tt last l h t
-listing_ends c (Err Memory) result file written source counts middle told mid w last l h t = told_ends c Memory result file written source counts middle told mid w tt last l h t
+listing_ends c (Err (Memory refused)) result file written source counts middle told mid w last l h t = told_ends c (Memory refused) result file written source counts middle told mid w tt last l h t
 listing_ends c (Err (File fault)) result file written source counts middle told mid w last l h t = told_ends c (File fault) result file written source counts middle told mid w tt last l h t
 listing_ends c (Err (Frame k fault)) result file written source counts middle told mid w last l h t = told_ends c (Frame k fault) result file written source counts middle told mid w tt last l h t
 listing_ends c (Err Write) result file written source counts middle told mid w last l h t = absurd (h.no_write refl)
@@ -117,7 +117,7 @@ seven_has_cause : (r : Result Numbers Fault) (result : ℕ) (source counts middl
 seven_has_cause (Ok s) result source counts middle told mid last h t seven = let d = t.done s refl in absurd (omega (arith, d.0))
 seven_has_cause (Err Report) result source counts middle told mid last h t seven = subst (λ n. Rose counts.before n) (sym (t.failed refl).2 ∙ last) (h.reported refl)
 seven_has_cause (Err Read) result source counts middle told mid last h t seven = moved counts middle (h.untouched Read refl (λ e. absurd cc)).2 last (t.cause Read refl (λ e. absurd cc) seven)
-seven_has_cause (Err Memory) result source counts middle told mid last h t seven = moved counts middle (h.untouched Memory refl (λ e. absurd cc)).2 last (t.cause Memory refl (λ e. absurd cc) seven)
+seven_has_cause (Err (Memory refused)) result source counts middle told mid last h t seven = moved counts middle (h.untouched (Memory refused) refl (λ e. absurd cc)).2 last (t.cause (Memory refused) refl (λ e. absurd cc) seven)
 seven_has_cause (Err (File fault)) result source counts middle told mid last h t seven = moved counts middle (h.untouched (File fault) refl (λ e. absurd cc)).2 last (t.cause (File fault) refl (λ e. absurd cc) seven)
 seven_has_cause (Err (Frame k fault)) result source counts middle told mid last h t seven = moved counts middle (h.untouched (Frame k fault) refl (λ e. absurd cc)).2 last (t.cause (Frame k fault) refl (λ e. absurd cc) seven)
 seven_has_cause (Err Write) result source counts middle told mid last h t seven = absurd (h.no_write refl)
@@ -131,8 +131,8 @@ fault_fits : (c : Command) (fault : Fault) (result n : ℕ) (file : List ℕ) (w
     OutcomeOf c file o → IsListing c (Err fault) file told.old mid.old → Lists (Err fault) source counts middle told mid → TellsFault (Err fault) result middle mid →
     DidNotRise source.before source.now → told.room ≡ Some n → 7 ≤ n → length (report o.lines) ≤ n → result ≡ 7 → ⊥
 fault_fits c Read result n file written o source counts middle told mid reads bytes h is l s t no_read room least fits seven = no_read (s.read refl)
-fault_fits c Memory result n file written o source counts middle told mid reads bytes h is l s t no_read room least fits seven =
-    t.sure Memory refl (λ e. absurd cc) seven n ((s.untouched Memory refl (λ e. absurd cc)).1 ∙ room) least
+fault_fits c (Memory refused) result n file written o source counts middle told mid reads bytes h is l s t no_read room least fits seven =
+    t.sure (Memory refused) refl (λ e. absurd cc) seven n ((s.untouched (Memory refused) refl (λ e. absurd cc)).1 ∙ room) least
 fault_fits c (File fault) result n file written o source counts middle told mid reads bytes h is l s t no_read room least fits seven =
     let same = same_lines c file 5 (fault_line (File fault) ∷ []) written written o reads bytes is (file_refused fault, refusal_is c file fault (l.file_is fault refl), refl, refl, whole_of c [] written written (sym (and_then-nothing written))) in
     t.sure (File fault) refl (λ e. absurd cc) seven n ((s.untouched (File fault) refl (λ e. absurd cc)).1 ∙ room) (subst (λ lines. length (report lines) ≤ n) same fits)
@@ -149,8 +149,8 @@ listing_fits c (Ok s) result n bytes file written o source counts middle told mi
 listing_fits c (Err Report) result n bytes file written o source counts middle told mid reads are e is l h t sure no_read room least fits seven = sure refl file e o is n room fits
 listing_fits c (Err Read) result n bytes file written o source counts middle told mid reads are e is l h t sure no_read room least fits seven =
     fault_fits c Read result n file written o source counts middle told mid reads are tt is l h t no_read room least fits seven
-listing_fits c (Err Memory) result n bytes file written o source counts middle told mid reads are e is l h t sure no_read room least fits seven =
-    fault_fits c Memory result n file written o source counts middle told mid reads are tt is l h t no_read room least fits seven
+listing_fits c (Err (Memory refused)) result n bytes file written o source counts middle told mid reads are e is l h t sure no_read room least fits seven =
+    fault_fits c (Memory refused) result n file written o source counts middle told mid reads are tt is l h t no_read room least fits seven
 listing_fits c (Err (File fault)) result n bytes file written o source counts middle told mid reads are e is l h t sure no_read room least fits seven =
     fault_fits c (File fault) result n file written o source counts middle told mid reads are tt is l h t no_read room least fits seven
 listing_fits c (Err (Frame k fault)) result n bytes file written o source counts middle told mid reads are e is l h t sure no_read room least fits seven =
@@ -166,7 +166,7 @@ at_most r result (inr e) = omega arith
 at_most (Ok s) result (inl e) = omega arith
 at_most (Err Read) result (inl e) = omega arith
 at_most (Err Write) result (inl e) = omega arith
-at_most (Err Memory) result (inl e) = omega arith
+at_most (Err (Memory refused)) result (inl e) = omega arith
 at_most (Err Report) result (inl e) = omega arith
 at_most (Err (File fault)) result (inl e) = omega arith
 at_most (Err (Frame k fault)) result (inl e) = omega arith

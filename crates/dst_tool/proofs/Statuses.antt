@@ -1,5 +1,6 @@
 -- The answer that a status tells.
 use Rattle.std.proofs.Common.{◌≡◌, ℕ, ◌<◌, Result, Ok, Err, refl, arith}
+use Rattle.std.specs.declared.alloc.AllocError.{AllocError}
 use Rattle.dst_spec.specs.declared.faults.FrameFault.{FrameFault}
 use Rattle.dsdiff_spec.specs.declared.faults.FileFault.{FileFault}
 use Rattle.dst_tool.specs.declared.answers.Numbers.{Numbers}
@@ -11,7 +12,7 @@ pub status_is_done : (r : Result Numbers Fault) → status_of r ≡ 0 → (s : N
 status_is_done (Ok s) e = (s, refl)
 status_is_done (Err Read) e = absurd (omega arith)
 status_is_done (Err Write) e = absurd (omega arith)
-status_is_done (Err Memory) e = absurd (omega arith)
+status_is_done (Err (Memory refused)) e = absurd (omega arith)
 status_is_done (Err Report) e = absurd (omega arith)
 status_is_done (Err (File fault)) e = absurd (omega arith)
 status_is_done (Err (Frame k fault)) e = absurd (omega arith)
@@ -20,7 +21,7 @@ pub status_is_read : (r : Result Numbers Fault) → status_of r ≡ 2 → r ≡ 
 status_is_read (Err Read) e = refl
 status_is_read (Ok s) e = absurd (omega arith)
 status_is_read (Err Write) e = absurd (omega arith)
-status_is_read (Err Memory) e = absurd (omega arith)
+status_is_read (Err (Memory refused)) e = absurd (omega arith)
 status_is_read (Err Report) e = absurd (omega arith)
 status_is_read (Err (File fault)) e = absurd (omega arith)
 status_is_read (Err (Frame k fault)) e = absurd (omega arith)
@@ -29,13 +30,13 @@ pub status_is_write : (r : Result Numbers Fault) → status_of r ≡ 3 → r ≡
 status_is_write (Err Write) e = refl
 status_is_write (Ok s) e = absurd (omega arith)
 status_is_write (Err Read) e = absurd (omega arith)
-status_is_write (Err Memory) e = absurd (omega arith)
+status_is_write (Err (Memory refused)) e = absurd (omega arith)
 status_is_write (Err Report) e = absurd (omega arith)
 status_is_write (Err (File fault)) e = absurd (omega arith)
 status_is_write (Err (Frame k fault)) e = absurd (omega arith)
 
-pub status_is_memory : (r : Result Numbers Fault) → status_of r ≡ 4 → r ≡ Err Memory
-status_is_memory (Err Memory) e = refl
+pub status_is_memory : (r : Result Numbers Fault) → status_of r ≡ 4 → (refused : AllocError) × (r ≡ Err (Memory refused))
+status_is_memory (Err (Memory refused)) e = (refused, refl)
 status_is_memory (Ok s) e = absurd (omega arith)
 status_is_memory (Err Read) e = absurd (omega arith)
 status_is_memory (Err Write) e = absurd (omega arith)
@@ -48,7 +49,7 @@ status_is_file (Err (File fault)) e = (fault, refl)
 status_is_file (Ok s) e = absurd (omega arith)
 status_is_file (Err Read) e = absurd (omega arith)
 status_is_file (Err Write) e = absurd (omega arith)
-status_is_file (Err Memory) e = absurd (omega arith)
+status_is_file (Err (Memory refused)) e = absurd (omega arith)
 status_is_file (Err Report) e = absurd (omega arith)
 status_is_file (Err (Frame k fault)) e = absurd (omega arith)
 
@@ -57,7 +58,7 @@ status_is_frame (Err (Frame k fault)) e = (k, fault, refl)
 status_is_frame (Ok s) e = absurd (omega arith)
 status_is_frame (Err Read) e = absurd (omega arith)
 status_is_frame (Err Write) e = absurd (omega arith)
-status_is_frame (Err Memory) e = absurd (omega arith)
+status_is_frame (Err (Memory refused)) e = absurd (omega arith)
 status_is_frame (Err Report) e = absurd (omega arith)
 status_is_frame (Err (File fault)) e = absurd (omega arith)
 
@@ -65,7 +66,7 @@ pub status_is_not_words : (r : Result Numbers Fault) → status_of r ≡ 1 → �
 status_is_not_words (Ok s) e = absurd (omega arith)
 status_is_not_words (Err Read) e = absurd (omega arith)
 status_is_not_words (Err Write) e = absurd (omega arith)
-status_is_not_words (Err Memory) e = absurd (omega arith)
+status_is_not_words (Err (Memory refused)) e = absurd (omega arith)
 status_is_not_words (Err Report) e = absurd (omega arith)
 status_is_not_words (Err (File fault)) e = absurd (omega arith)
 status_is_not_words (Err (Frame k fault)) e = absurd (omega arith)
@@ -75,6 +76,6 @@ status_is_below (Err Report) h = absurd (h refl)
 status_is_below (Ok s) h = omega arith
 status_is_below (Err Read) h = omega arith
 status_is_below (Err Write) h = omega arith
-status_is_below (Err Memory) h = omega arith
+status_is_below (Err (Memory refused)) h = omega arith
 status_is_below (Err (File fault)) h = omega arith
 status_is_below (Err (Frame k fault)) h = omega arith

@@ -31,7 +31,7 @@ abbrev pub status_of : Result Numbers Fault → ℕ
 status_of (Ok s) = 0
 status_of (Err Read) = 2
 status_of (Err Write) = 3
-status_of (Err Memory) = 4
+status_of (Err (Memory refused)) = 4
 status_of (Err (File fault)) = 5
 status_of (Err (Frame k fault)) = 6
 status_of (Err Report) = 7
@@ -68,7 +68,7 @@ TellsOneLine c = ⊥
 abbrev pub fault_line : Fault → Line
 fault_line Read = read_fault_line
 fault_line Write = write_fault_line
-fault_line Memory = memory_line
+fault_line (Memory refused) = memory_line
 fault_line (File fault) = file_line fault
 fault_line (Frame k fault) = frame_fault_line k fault
 fault_line Report = []
@@ -84,7 +84,7 @@ answered f g (Err e) = Err (g e)
 
 abbrev pub of_source : OpenFault → Fault
 of_source opening.Read = Read
-of_source opening.Memory = Memory
+of_source (opening.Memory refused) = Memory refused
 of_source (opening.File fault) = File fault
 
 abbrev pub of_encode : EncodeFault → Fault
@@ -96,11 +96,11 @@ of_cut (cutting.Source fault) = of_source fault
 of_cut cutting.Write = Write
 
 abbrev pub of_make : MakeFault → Fault
-of_make (making.Memory fault) = Memory
+of_make (making.Memory refused) = Memory refused
 of_make making.Write = Write
 
 abbrev pub of_run : RunFault → Fault
-of_run running.Memory = Memory
+of_run (running.Memory refused) = Memory refused
 
 abbrev pub of_decode : DecodeFault → Fault
 of_decode (decoding.Source fault) = of_source fault

@@ -11,6 +11,7 @@ use dst_read::{
     CheckFault, Checked, DecodeFault, Decoded, FrameWritten, ListFault, Reported, ShowFault,
 };
 use dst_write::{Cut, CutFault, EncodeFault, Encoded};
+use std::alloc::AllocError;
 
 /// The numbers that the line of a command has which is done.
 #[derive(Clone, Copy)]
@@ -26,7 +27,7 @@ pub(crate) struct Numbers {
 pub(crate) enum Fault {
     Read,
     Write,
-    Memory,
+    Memory(AllocError),
     Report,
     File(FileFault),
     Frame { frame: u32, fault: FrameFault },
@@ -37,7 +38,7 @@ fn of_source(fault: OpenFault) -> Fault
 {
     match fault {
         OpenFault::Read => Fault::Read,
-        OpenFault::Memory => Fault::Memory,
+        OpenFault::Memory(refused) => Fault::Memory(refused),
         OpenFault::File(fault) => Fault::File(fault),
     }
 }
@@ -110,7 +111,7 @@ pub(crate) fn made(answer: Result<Made, MakeFault>) -> Result<Numbers, Fault>
             unread: 0,
             restored: 0,
         }),
-        Err(MakeFault::Memory(_)) => Err(Fault::Memory),
+        Err(MakeFault::Memory(refused)) => Err(Fault::Memory(refused)),
         Err(MakeFault::Write) => Err(Fault::Write),
     }
 }
@@ -126,7 +127,7 @@ pub(crate) fn ran(answer: Result<(Encoded, Decoded), RunFault>) -> Result<Number
             unread: 0,
             restored: decoded.bytes,
         }),
-        Err(RunFault::Memory) => Err(Fault::Memory),
+        Err(RunFault::Memory(refused)) => Err(Fault::Memory(refused)),
     }
 }
 

@@ -224,7 +224,7 @@ fn told(fault: Fault) -> (u8, lines::Line)
     match fault {
         Fault::Read => (2, lines::read_fault()),
         Fault::Write => (3, lines::write_fault()),
-        Fault::Memory => (4, lines::memory()),
+        Fault::Memory(_) => (4, lines::memory()),
         Fault::File(fault) => (5, lines::file_refused(fault)),
         Fault::Frame { frame, fault } => (6, lines::frame_refused(frame, fault)),
         Fault::Report => unreachable!(),

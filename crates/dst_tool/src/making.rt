@@ -34,12 +34,12 @@ const LEVEL: u32 = 2;
 #[derive(Clone, Copy, Debug, Drop, PartialEq, Eq)]
 pub enum RunFault {
     /// Memory was refused.
-    Memory,
+    Memory(AllocError),
 }
 
 impl From<AllocError> for RunFault {
-    fn from(_fault: AllocError) -> RunFault {
-        RunFault::Memory
+    fn from(refused: AllocError) -> RunFault {
+        RunFault::Memory(refused)
     }
 }
 
@@ -107,7 +107,7 @@ fn make_whole<K: Sink>(
 {
     match make_file(alloc, sink, start, frames, channels) {
         Ok(_) => Ok(()),
-        Err(MakeFault::Memory(_)) => Err(RunFault::Memory),
+        Err(MakeFault::Memory(refused)) => Err(RunFault::Memory(refused)),
         Err(MakeFault::Write) => unreachable!(),
     }
 }
@@ -133,7 +133,7 @@ fn code_whole<R: Threads + Sync, K: Sink, G: Gate>(
     };
     match encode_file(rt, alloc, &mut source, sink, &picker, WORKERS, gate) {
         Ok(encoded) => Ok(encoded),
-        Err(EncodeFault::Source(OpenFault::Memory)) => Err(RunFault::Memory),
+        Err(EncodeFault::Source(OpenFault::Memory(refused))) => Err(RunFault::Memory(refused)),
         Err(EncodeFault::Source(OpenFault::Read)) => unreachable!(),
         Err(EncodeFault::Source(OpenFault::File(_))) => unreachable!(),
         Err(EncodeFault::Write) => unreachable!(),
@@ -156,7 +156,7 @@ fn restore_whole<R: Threads + Sync, K: Sink, G: Gate>(
     let mut source = HonestSource::new(coded);
     match decode_file(rt, alloc, &mut source, sink, WORKERS, gate) {
         Ok(decoded) => Ok(decoded),
-        Err(DecodeFault::Source(OpenFault::Memory)) => Err(RunFault::Memory),
+        Err(DecodeFault::Source(OpenFault::Memory(refused))) => Err(RunFault::Memory(refused)),
         Err(DecodeFault::Source(OpenFault::Read)) => unreachable!(),
         Err(DecodeFault::Source(OpenFault::File(_))) => unreachable!(),
         Err(DecodeFault::Frame { .. }) => unreachable!(),

@@ -4,8 +4,8 @@ use crate::split;
 use dst_streams::{HonestSource, MemorySink, MemorySource};
 use dst_tool::dst_run;
 use example_files::{
-    EXAMPLE, PLAIN_PROP, SILENT, VERSION, chunk, odd_plain, one_frame, plain, two_frames,
-    with_bytes,
+    EXAMPLE, NOTHING_KEPT, PLAIN_CMPR, PLAIN_PROP, SILENT, VERSION, chunk, coded, joined,
+    odd_plain, one_frame, plain, two_frames, with_bytes,
 };
 use std::alloc::{AllocError, Global};
 use std::process::Abort;
@@ -38,6 +38,26 @@ fn a_file_is_refused_by_its_first_rule(rt: HostRuntime) -> Result<(), Fail> {
     let kept = chunk(alloc, b"FRM8", &[b"DSD ", VERSION, PLAIN_PROP, behind], 0)?;
     let line = "file refused: 26 CodedChunk 114\n";
     gives(&rt, alloc, &kept, 5, &[], line)?;
+    Ok(())
+}
+
+#[test]
+fn what_is_too_much_is_refused_by_name(rt: HostRuntime) -> Result<(), Fail> {
+    let alloc = rt.alloc();
+    // Two chunks that tell of a plain file, each lawful alone.
+    let kept = chunk(alloc, b"KEPT", &[NOTHING_KEPT, PLAIN_CMPR], 0)?;
+    let both = joined(alloc, &[b"DSTI\0\0\0\0\0\0\0\0", &kept, &kept])?;
+    let file = coded(alloc, 0, &[], &both)?;
+    gives(&rt, alloc, &file, 5, &[], "file refused: 21 KeptBad\n")?;
+    // A frame of one byte more than twice a sound and two.
+    let long = vec![in alloc; 0; 9411]?;
+    let file = one_frame(alloc, &[&long])?;
+    let line = "file refused: 17 FrameTooLong 0 9411\n";
+    gives(&rt, alloc, &file, 5, &[], line)?;
+    // A million frames are told where one stands.
+    let file = with_bytes(alloc, EXAMPLE, 134, b"\0\x0f\x42\x40")?;
+    let line = "file refused: 16 CountDiffers 1000000 1\n";
+    gives(&rt, alloc, &file, 5, &[], line)?;
     Ok(())
 }
 

@@ -1,5 +1,6 @@
 -- Each command by what it answered.
 use Rattle.std.proofs.Common.{◌≡◌, ◌≢◌, ◌⊎◌, inl, inr, ℕ, ◌≤◌, Bool, true, List, [], ◌∷◌, length, Some, Result, Ok, Err, IfOk, OnOk, refl, ap, sym, subst, ◌∙◌}
+use Rattle.std.specs.declared.alloc.AllocError.{AllocError}
 use Rattle.dst_streams.specs.Told.{and_then}
 use Rattle.dsdiff_spec.specs.Words as asked
 use Rattle.dsdiff_spec.specs.Rules.{accepted}
@@ -69,7 +70,7 @@ returns-in-Check g c =
       untouched = λ fault h. refl;
       frame_is = λ k fault h. ([], e.frame k fault (back (Frame k fault) h) file told, nothing_added written);
       cut_short = λ h. ((one file told).0, (one file told).1, nothing_cut written (one file told).0.out);
-      memory = λ h. refl;
+      memory = λ refused h. refl;
       no_report = λ h. check_reports of_checked d (sym is ∙ h);
     })
     (λ w. absurd w)
@@ -77,7 +78,7 @@ returns-in-Check g c =
       read = λ h. e.read (back Read h);
       write = λ h. absurd (check_writes of_checked d (sym is ∙ h));
       sure = λ h. absurd (check_writes of_checked d (sym is ∙ h));
-      memory = λ h. refl;
+      memory = λ refused h. refl;
       untouched = λ fault h. refl;
       idle = λ w. refl;
       no_write = λ w h. check_writes of_checked d (sym is ∙ h);
@@ -105,41 +106,41 @@ returns-in-Make g c =
     let frames = c.in-Make.frames in
     let f = c.in-Make.channels in
     let asks = asks_make start frames f in
-    let other : (fault : Fault) → (fault ≢ Write) → (fault ≢ Memory) → r ≡ Err fault → ⊥ = λ fault p q h. made_no_other of_made d fault (p, q) (sym is ∙ h) in
+    let other : (fault : Fault) → (fault ≢ Write) → ((refused : AllocError) → fault ≢ Memory refused) → r ≡ Err fault → ⊥ = λ fault p q h. made_no_other of_made d fault (p, q) (sym is ∙ h) in
     let no_write : r ≡ Err Write → d ≡ Err making.Write = λ h. made_write of_made d (sym is ∙ h) in
     let one : (file : List ℕ) → bytes ≡ Some file → One (OutcomeOf asks file) = λ file told. command_has_one_outcome asks file tt (g.met.S.Source.told_are_bytes c.args.source.now file told) in
     let answer : (file : List ℕ) → IsAnswer asks r file written new = λ file. record {
       finished = subst (λ r. IfOk r (λ s. (out : List ℕ) × OutcomeOf asks file (done out (done_line asks s ∷ [])) × (new ≡ and_then written out))) (sym is)
           (if_answered of_made of_make d _ (made_whole d start frames f file written new e.written e.frames));
-      file_is = λ fault h. absurd (other (File fault) (λ q. absurd cc) (λ q. absurd cc) h);
-      untouched = λ fault h. absurd (other (File fault) (λ q. absurd cc) (λ q. absurd cc) h);
-      frame_is = λ k fault h. absurd (other (Frame k fault) (λ q. absurd cc) (λ q. absurd cc) h);
-      cut_short = sink_failed (other Read (λ q. absurd cc) (λ q. absurd cc))
+      file_is = λ fault h. absurd (other (File fault) (λ q. absurd cc) (λ x q. absurd cc) h);
+      untouched = λ fault h. absurd (other (File fault) (λ q. absurd cc) (λ x q. absurd cc) h);
+      frame_is = λ k fault h. absurd (other (Frame k fault) (λ q. absurd cc) (λ x q. absurd cc) h);
+      cut_short = sink_failed (other Read (λ q. absurd cc) (λ x q. absurd cc))
           (λ h. (done (made_file start frames f) (made_line frames ∷ []), made_outcome start frames f file, e.cut_short (no_write h)));
-      memory = λ h. made_memory of_made d _ (λ fault q. ap g.K.Sink.written (e.memory fault q)) (sym is ∙ h);
-      no_report = λ h. other Report (λ q. absurd cc) (λ q. absurd cc) h;
+      memory = λ refused h. made_memory of_made d _ (λ fault q. ap g.K.Sink.written (e.memory fault q)) refused (sym is ∙ h);
+      no_report = λ h. other Report (λ q. absurd cc) (λ x q. absurd cc) h;
     } in
     same_run same (run_of_answer asks r c.tell-in-Make.result bytes _ _ _ _ _ _ _ _ _ tt (λ file told. g.met.S.Source.told_are_bytes c.args.source.now file told)
     (λ file told. answer file)
     (λ w. answer [])
     (record {
-      read = λ h. absurd (other Read (λ q. absurd cc) (λ q. absurd cc) h);
+      read = λ h. absurd (other Read (λ q. absurd cc) (λ x q. absurd cc) h);
       write = λ h. e.write (no_write h);
       sure = λ h file told o outcome n room fits. e.sure (no_write h) n room (subst (λ w. length w ≤ n) (made_out start frames f file o outcome (one file told)) fits);
-      memory = λ h. made_memory of_made d _ (λ fault q. e.memory fault q) (sym is ∙ h);
-      untouched = λ fault h. absurd (other (File fault) (λ q. absurd cc) (λ q. absurd cc) h);
+      memory = λ refused h. made_memory of_made d _ (λ fault q. e.memory fault q) refused (sym is ∙ h);
+      untouched = λ fault h. absurd (other (File fault) (λ q. absurd cc) (λ x q. absurd cc) h);
       idle = λ w. absurd w;
       no_write = λ w. absurd w;
       unread = λ w. refl;
       no_file = λ w. (
-        other Read (λ q. absurd cc) (λ q. absurd cc),
-        λ fault h. other (File fault) (λ q. absurd cc) (λ q. absurd cc) h,
-        λ k fault h. other (Frame k fault) (λ q. absurd cc) (λ q. absurd cc) h,
+        other Read (λ q. absurd cc) (λ x q. absurd cc),
+        λ fault h. other (File fault) (λ q. absurd cc) (λ x q. absurd cc) h,
+        λ k fault h. other (Frame k fault) (λ q. absurd cc) (λ x q. absurd cc) h,
       );
       settled = λ w s h. if_done of_made of_make d s (sym is ∙ h) (when_ok d _ e.settled);
       by_index = λ k h. absurd (making_is_no_frame start frames _ _ k h);
       any_source = λ k h. absurd (making_is_no_frame start frames _ _ k h);
-      no_report = λ h. other Report (λ q. absurd cc) (λ q. absurd cc) h;
+      no_report = λ h. other Report (λ q. absurd cc) (λ x q. absurd cc) h;
     })
     (record { reported = t.reported; whole = t.whole; cut_short = t.cut_short; cause = t.cause; sure = t.sure }))
   where
@@ -161,38 +162,38 @@ returns-in-MakeRun g c =
     let frames = c.in-MakeRun.frames in
     let f = c.in-MakeRun.channels in
     let asks = asks_run start frames f in
-    let other : (fault : Fault) → (fault ≢ Memory) → r ≡ Err fault → ⊥ = λ fault q h. ran_no_other of_ran d fault q (sym is ∙ h) in
+    let other : (fault : Fault) → ((refused : AllocError) → fault ≢ Memory refused) → r ≡ Err fault → ⊥ = λ fault q h. ran_no_other of_ran d fault q (sym is ∙ h) in
     let answer : (file : List ℕ) → IsAnswer asks r file written written = λ file. record {
       finished = finished_alone asks r written file (subst (λ r. IfOk r (λ s. OutcomeOf asks file (done [] (done_line asks s ∷ [])))) (sym is)
           (if_answered of_ran of_run d _ (run_done d start frames f file e.shape e.frames e.line)));
-      file_is = λ fault h. absurd (other (File fault) (λ q. absurd cc) h);
+      file_is = λ fault h. absurd (other (File fault) (λ x q. absurd cc) h);
       untouched = λ fault h. refl;
-      frame_is = λ k fault h. absurd (other (Frame k fault) (λ q. absurd cc) h);
-      cut_short = sink_failed (other Read (λ q. absurd cc)) (λ h. absurd (other Write (λ q. absurd cc) h));
-      memory = λ h. refl;
-      no_report = λ h. other Report (λ q. absurd cc) h;
+      frame_is = λ k fault h. absurd (other (Frame k fault) (λ x q. absurd cc) h);
+      cut_short = sink_failed (other Read (λ x q. absurd cc)) (λ h. absurd (other Write (λ x q. absurd cc) h));
+      memory = λ refused h. refl;
+      no_report = λ h. other Report (λ x q. absurd cc) h;
     } in
     same_run same (run_of_answer asks r c.tell-in-MakeRun.result bytes _ _ _ _ _ _ _ _ _ tt (λ file told. g.met.S.Source.told_are_bytes c.args.source.now file told)
     (λ file told. answer file)
     (λ w. answer [])
     (record {
-      read = λ h. absurd (other Read (λ q. absurd cc) h);
-      write = λ h. absurd (other Write (λ q. absurd cc) h);
-      sure = λ h. absurd (other Write (λ q. absurd cc) h);
-      memory = λ h. refl;
+      read = λ h. absurd (other Read (λ x q. absurd cc) h);
+      write = λ h. absurd (other Write (λ x q. absurd cc) h);
+      sure = λ h. absurd (other Write (λ x q. absurd cc) h);
+      memory = λ refused h. refl;
       untouched = λ fault h. refl;
       idle = λ w. refl;
-      no_write = λ w h. other Write (λ q. absurd cc) h;
+      no_write = λ w h. other Write (λ x q. absurd cc) h;
       unread = λ w. refl;
       no_file = λ w. (
-        other Read (λ q. absurd cc),
-        λ fault h. other (File fault) (λ q. absurd cc) h,
-        λ k fault h. other (Frame k fault) (λ q. absurd cc) h,
+        other Read (λ x q. absurd cc),
+        λ fault h. other (File fault) (λ x q. absurd cc) h,
+        λ k fault h. other (Frame k fault) (λ x q. absurd cc) h,
       );
       settled = λ w. absurd w;
       by_index = λ k h. absurd (running_is_no_frame start frames _ _ k h);
       any_source = λ k h. absurd (running_is_no_frame start frames _ _ k h);
-      no_report = λ h. other Report (λ q. absurd cc) h;
+      no_report = λ h. other Report (λ x q. absurd cc) h;
     })
     (record { reported = t.reported; whole = t.whole; cut_short = t.cut_short; cause = t.cause; sure = t.sure }))
 
@@ -239,7 +240,7 @@ returns-in-Show g c =
   where
     other_report : (fault : Fault) → (fault ≢ Report) → c.shown.result ≡ Err fault → to_show fault ≡ showing.Report → ⊥
     other_report Read other h same = absurd cc
-    other_report Memory other h same = absurd cc
+    other_report (Memory refused) other h same = absurd cc
     other_report (File fault) other h same = absurd cc
     other_report (Frame k fault) other h same = absurd cc
     other_report Report other h same = other refl
@@ -287,7 +288,7 @@ returns-in-ShowFrame g c =
   where
     other_report : (fault : Fault) → (fault ≢ Report) → c.shown-in-ShowFrame.result ≡ Err fault → to_show fault ≡ showing.Report → ⊥
     other_report Read other h same = absurd cc
-    other_report Memory other h same = absurd cc
+    other_report (Memory refused) other h same = absurd cc
     other_report (File fault) other h same = absurd cc
     other_report (Frame k fault) other h same = absurd cc
     other_report Report other h same = other refl
@@ -335,7 +336,7 @@ returns-in-Index g c =
   where
     other_report : (fault : Fault) → (fault ≢ Report) → c.listed.result ≡ Err fault → to_list fault ≡ listing.Report → ⊥
     other_report Read other h same = absurd cc
-    other_report Memory other h same = absurd cc
+    other_report (Memory refused) other h same = absurd cc
     other_report (File fault) other h same = absurd cc
     other_report (Frame k fault) other h same = list_refuses of_reported c.index_file-answer.result k fault (sym c.listed.ensures ∙ h)
     other_report Report other h same = other refl

@@ -84,7 +84,7 @@ returns-in-Encode g c =
       frame_is = λ k fault h. absurd (encode_refuses of_encoded d k fault (sym is ∙ h));
       cut_short = λ h. part_of_encoding level picker file written new picker_is (λ fault refused. ap g.K.Sink.written (e.refused file told level fault refused))
           (λ nothing. e.unfinished (either (back Read) (back Write) h) file told nothing);
-      memory = λ h. ap g.K.Sink.written (e.memory (back Memory h));
+      memory = λ refused h. ap g.K.Sink.written (e.memory refused (back (Memory refused) h));
       no_report = λ h. encode_reports of_encoded d (sym is ∙ h);
     })
     (λ w. absurd w)
@@ -94,7 +94,7 @@ returns-in-Encode g c =
       sure = λ h file told o outcome n room fits.
           let out = accepted_out level file o (e.write_accepted (back Write h) file told level) outcome (one file told) ∙ ap (λ n. coded_at n file (accepted file)) (sym picker_is) in
           e.sure (back Write h) file told n room (subst (λ w. length w ≤ n) out fits);
-      memory = λ h. e.memory (back Memory h);
+      memory = λ refused h. e.memory refused (back (Memory refused) h);
       untouched = λ fault h. e.untouched fault (back (File fault) h);
       idle = λ w. absurd w;
       no_write = λ w. absurd w;
@@ -127,7 +127,7 @@ returns-in-Decode g c =
       untouched = λ fault h. ap g.K.Sink.written (e.untouched fault (back (File fault) h));
       frame_is = λ k fault h. e.frame k fault (back (Frame k fault) h) file told;
       cut_short = λ h. e.cut_short (either (back Read) (back Write) h) file told;
-      memory = λ h. ap g.K.Sink.written (e.memory (back Memory h));
+      memory = λ refused h. ap g.K.Sink.written (e.memory refused (back (Memory refused) h));
       no_report = λ h. decode_reports of_decoded d (sym is ∙ h);
     })
     (λ w. absurd w)
@@ -135,7 +135,7 @@ returns-in-Decode g c =
       read = λ h. e.read (back Read h);
       write = λ h. e.write (back Write h);
       sure = λ h. e.sure (back Write h);
-      memory = λ h. e.memory (back Memory h);
+      memory = λ refused h. e.memory refused (back (Memory refused) h);
       untouched = λ fault h. e.untouched fault (back (File fault) h);
       idle = λ w. absurd w;
       no_write = λ w. absurd w;
@@ -174,7 +174,7 @@ returns-in-EncodeDsf g c =
       frame_is = λ k fault h. absurd (encode_refuses of_encoded d k fault (sym is ∙ h));
       cut_short = λ h. part_of_dsf level picker file written new picker_is (λ fault refused. ap g.K.Sink.written (e.refused file told level fault refused))
           (λ nothing. e.unfinished (either (back Read) (back Write) h) file told nothing);
-      memory = λ h. ap g.K.Sink.written (e.memory (back Memory h));
+      memory = λ refused h. ap g.K.Sink.written (e.memory refused (back (Memory refused) h));
       no_report = λ h. encode_reports of_encoded d (sym is ∙ h);
     })
     (λ w. absurd w)
@@ -184,7 +184,7 @@ returns-in-EncodeDsf g c =
       sure = λ h file told o outcome n room fits.
           let out = dsf_out level file o (e.write_accepted (back Write h) file told level) outcome (one file told) ∙ ap (λ n. dsf_at n file) (sym picker_is) in
           e.sure (back Write h) file told n room (subst (λ w. length w ≤ n) out fits);
-      memory = λ h. e.memory (back Memory h);
+      memory = λ refused h. e.memory refused (back (Memory refused) h);
       untouched = λ fault h. e.untouched fault (back (File fault) h);
       idle = λ w. absurd w;
       no_write = λ w. absurd w;
@@ -217,7 +217,7 @@ returns-in-DecodeDsf g c =
       untouched = λ fault h. ap g.K.Sink.written (e.untouched fault (back (File fault) h));
       frame_is = λ k fault h. e.frame k fault (back (Frame k fault) h) file told;
       cut_short = λ h. e.cut_short (either (back Read) (back Write) h) file told;
-      memory = λ h. ap g.K.Sink.written (e.memory (back Memory h));
+      memory = λ refused h. ap g.K.Sink.written (e.memory refused (back (Memory refused) h));
       no_report = λ h. decode_reports of_decoded d (sym is ∙ h);
     })
     (λ w. absurd w)
@@ -225,7 +225,7 @@ returns-in-DecodeDsf g c =
       read = λ h. e.read (back Read h);
       write = λ h. e.write (back Write h);
       sure = λ h. e.sure (back Write h);
-      memory = λ h. e.memory (back Memory h);
+      memory = λ refused h. e.memory refused (back (Memory refused) h);
       untouched = λ fault h. e.untouched fault (back (File fault) h);
       idle = λ w. absurd w;
       no_write = λ w. absurd w;
@@ -258,7 +258,7 @@ returns-in-Cut g c =
       untouched = λ fault h. ap g.K.Sink.written (e.untouched fault (back (File fault) h));
       frame_is = λ k fault h. absurd (cut_refuses of_cut_out d k fault (sym is ∙ h));
       cut_short = λ h. e.cut_short (either (back Read) (back Write) h) file told;
-      memory = λ h. ap g.K.Sink.written (e.memory (back Memory h));
+      memory = λ refused h. ap g.K.Sink.written (e.memory refused (back (Memory refused) h));
       no_report = λ h. cut_reports of_cut_out d (sym is ∙ h);
     })
     (λ w. absurd w)
@@ -266,7 +266,7 @@ returns-in-Cut g c =
       read = λ h. e.read (back Read h);
       write = λ h. e.write (back Write h);
       sure = λ h. e.sure (back Write h);
-      memory = λ h. e.memory (back Memory h);
+      memory = λ refused h. e.memory refused (back (Memory refused) h);
       untouched = λ fault h. e.untouched fault (back (File fault) h);
       idle = λ w. absurd w;
       no_write = λ w. absurd w;
@@ -300,7 +300,7 @@ returns-in-Frame g c =
       untouched = λ fault h. other _ (back (File fault) h) (λ w. absurd cc);
       frame_is = λ k fault h. ([], e.frame k fault (back (Frame k fault) h) file told, other _ (back (Frame k fault) h) (λ w. absurd cc) ∙ nothing_added written);
       cut_short = cut_or_nothing asks r file written _ (command_has_one_outcome asks file tt (g.met.S.Source.told_are_bytes c.args.source.now file told)) (λ h. other _ (back Read h) (λ w. absurd cc)) (λ h. e.cut_short (back Write h) file told);
-      memory = λ h. other _ (back Memory h) (λ w. absurd cc);
+      memory = λ refused h. other _ (back (Memory refused) h) (λ w. absurd cc);
       no_report = λ h. decode_reports of_written d (sym is ∙ h);
     })
     (λ w. absurd w)
@@ -308,7 +308,7 @@ returns-in-Frame g c =
       read = λ h. e.read (back Read h);
       write = λ h. e.write (back Write h);
       sure = λ h. e.sure (back Write h);
-      memory = λ h. e.untouched _ (back Memory h) (λ w. absurd cc);
+      memory = λ refused h. e.untouched _ (back (Memory refused) h) (λ w. absurd cc);
       untouched = λ fault h. e.untouched _ (back (File fault) h) (λ w. absurd cc);
       idle = λ w. absurd w;
       no_write = λ w. absurd w;
@@ -345,7 +345,7 @@ returns-in-Range g c =
       untouched = λ fault h. ap g.K.Sink.written (e.untouched fault (back (File fault) h));
       frame_is = λ k fault h. e.frame k fault (back (Frame k fault) h) file told;
       cut_short = λ h. e.cut_short (either (back Read) (back Write) h) file told;
-      memory = λ h. ap g.K.Sink.written (e.memory (back Memory h));
+      memory = λ refused h. ap g.K.Sink.written (e.memory refused (back (Memory refused) h));
       no_report = λ h. decode_reports of_ranged d (sym is ∙ h);
     })
     (λ w. absurd w)
@@ -353,7 +353,7 @@ returns-in-Range g c =
       read = λ h. e.read (back Read h);
       write = λ h. e.write (back Write h);
       sure = λ h. e.sure (back Write h);
-      memory = λ h. e.memory (back Memory h);
+      memory = λ refused h. e.memory refused (back (Memory refused) h);
       untouched = λ fault h. e.untouched fault (back (File fault) h);
       idle = λ w. e.no_call w;
       no_write = λ w h. e.no_write w (back Write h);
