@@ -15,15 +15,24 @@
 //! end well, and on a terminal how far a longer run is.
 #![tactic(auto)]
 
+ghost use Rattle.std.specs.Prelude.{◌≡◌, ◌⊎◌, false, map, Some, None};
+ghost use Rattle.std.specs.String.{string_bytes};
+ghost use Rattle.words_spec.specs.Rows.{command_of};
+ghost use Rattle.pipe_tool.specs.Words.{is_pipe};
+ghost use Rattle.dst_cli.specs.Words.{asked_of};
+
+mod asking;
+mod files;
 mod help;
 mod progress;
 mod reasons;
+mod running;
 
-use dst_streams::{FileSink, FileSource, PipeFlow, Sink, TextSink};
-use dst_tool::dst_run;
-use pipe_tool::dst_pipe;
-use progress::{Watched, sound_of};
+use asking::{Asked, what_is_asked, word_at};
+use dst_streams::{Sink, TextSink};
+use files::MachineFiles;
 use reasons::{Behind, command_of, explain};
+use running::{run_named, run_pipe};
 use std::env;
 use std::io::{ErrorKind, IsTerminal};
 use std::process::ExitCode;
@@ -67,7 +76,10 @@ fn status_of<R: Runtime + AllocGlobal + Threads + Sync>(
     rt: &R,
     words: &[String],
     is_watched: bool,
-) -> u8 {
+) -> u8
+    ensures { asked_of (map string_bytes words.now) ≡ None → command_of (map string_bytes words.now) ≡ None → is_pipe (map string_bytes words.now) ≡ false →
+        (result ≡ 1) ⊎ (result ≡ 7) }
+{
     let mut report = TextSink::new(rt);
     if let Some(text) = own_text(words) {
         return match report.append(text.as_bytes()) {
@@ -75,62 +87,51 @@ fn status_of<R: Runtime + AllocGlobal + Threads + Sync>(
             Err(_) => REPORT,
         };
     }
+    let files = MachineFiles { rt, is_watched };
     if word_at(words, 0) == "pipe" {
-        return status_of_pipe(rt, words, &mut report);
+        return status_of_pipe(rt, words, &files, &mut report);
     }
-    let (input, output) = (word_at(words, 1), word_at(words, 2));
-    let sound = if is_watched {
-        Some(sound_of(rt, rt.alloc(), input))
-    } else {
-        None
-    };
-    let mut source = Watched::new(rt, FileSource::new(rt, input), sound);
-    let mut sink = FileSink::new(rt, output);
-    let status = dst_run(rt, rt.alloc(), words, &mut source, &mut sink, &mut report);
-    source.wipe();
+    let ran = run_named(rt, rt.alloc(), words, &files, &mut report);
+    ran.input.wipe();
     let behind = Behind {
-        input,
-        output,
-        read: source.source.reason(),
-        write: sink.reason(),
-        held: sink.held(),
+        input: word_at(words, 1),
+        output: word_at(words, 2),
+        read: ran.input.source.reason(),
+        write: ran.output.reason(),
+        held: ran.output.held(),
     };
-    explain(rt, status, words, &behind);
-    status
+    explain(rt, ran.status, words, &behind);
+    ran.status
 }
 
 // Decodes standard input to the file that the words name, and answers the status.
-fn status_of_pipe<R: Runtime + AllocGlobal, K: Sink>(
-    rt: &R,
-    words: &[String],
+fn status_of_pipe<'r, R: Runtime + AllocGlobal, K: Sink>(
+    rt: &'r R,
+    words: &'r [String],
+    files: &MachineFiles<'r, R>,
     report: &mut K,
-) -> u8 {
-    let output = word_at(words, 1);
-    let mut flow = PipeFlow::new(rt);
-    let mut sink = FileSink::new(rt, output);
-    let status = dst_pipe(rt.alloc(), words, &mut flow, &mut sink, report);
+) -> u8
+    ensures { is_pipe (map string_bytes words.now) ≡ false → (result ≡ 1) ⊎ (result ≡ 7) }
+{
+    let ran = run_pipe(rt.alloc(), words, files, report);
     let behind = Behind {
         input: "standard input",
-        output,
-        read: flow.reason(),
-        write: sink.reason(),
-        held: sink.held(),
+        output: word_at(words, 1),
+        read: ran.input.reason(),
+        write: ran.output.reason(),
+        held: ran.output.held(),
     };
-    explain(rt, status, words, &behind);
-    status
-}
-
-// A word, or an empty one where there is none.
-fn word_at(words: &[String], place: usize) -> &str {
-    words.get(place).map_or("", |word| word.as_str())
+    explain(rt, ran.status, words, &behind);
+    ran.status
 }
 
 // The text that words ask for which are no command.
-fn own_text(words: &[String]) -> Option<&'static str> {
-    match words {
-        [word] if word.as_str() == "--help" => Some(help::HELP),
-        [word] if word.as_str() == "--version" => Some(help::VERSION),
-        [name, word] if word.as_str() == "--help" => Some(command_of(name.as_str())?.text),
-        _ => None,
+fn own_text(words: &[String]) -> Option<&'static str>
+    ensures { asked_of (map string_bytes words.now) ≡ None → result ≡ None }
+{
+    match what_is_asked(words)? {
+        Asked::Help => Some(help::HELP),
+        Asked::Version => Some(help::VERSION),
+        Asked::HelpOf => Some(command_of(word_at(words, 0))?.text),
     }
 }

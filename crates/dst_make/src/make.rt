@@ -13,6 +13,7 @@ use dst_num::Channels;
 use dst_streams::{Failed, Sink};
 use sound_maker::SoundMaker;
 use std::alloc::{AllocError, Global};
+use thiserror::Error;
 
 /// A plain file of made sound was written: how many frames it has.
 #[derive(Clone, Copy, Debug, PartialEq, Eq)]
@@ -21,11 +22,13 @@ pub struct Made {
 }
 
 /// Why no file of made sound was written.
-#[derive(Clone, Copy, Debug, Drop, PartialEq, Eq)]
+#[derive(Clone, Copy, Debug, Drop, PartialEq, Eq, Error)]
 pub enum MakeFault {
     /// Memory was refused.
+    #[error("memory")]
     Memory(AllocError),
     /// The sink failed.
+    #[error("write fault")]
     Write,
 }
 

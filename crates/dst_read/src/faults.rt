@@ -1,6 +1,7 @@
 // What commands that read a file answer.
 use dsdiff_chunks::OpenFault;
 use dst_spec::FrameFault;
+use thiserror::Error;
 
 /// A file was decoded: how many frames it has, and the bytes of its sound.
 #[derive(Clone, Copy, Debug, PartialEq, Eq)]
@@ -29,41 +30,51 @@ pub struct Reported {
 }
 
 /// Why sound wasn't written.
-#[derive(Clone, Copy, Debug, Drop, PartialEq, Eq)]
+#[derive(Clone, Copy, Debug, Drop, PartialEq, Eq, Error)]
 pub enum DecodeFault {
     /// The source failed, memory was refused, or the file breaks a rule of the command.
+    #[error("{0}")]
     Source(OpenFault),
     /// The sink failed.
+    #[error("write fault")]
     Write,
     /// A frame offends.
+    #[error("frame {frame} refused: {fault}")]
     Frame { frame: u32, fault: FrameFault },
 }
 
 /// Why a file isn't sound.
-#[derive(Clone, Copy, Debug, Drop, PartialEq, Eq)]
+#[derive(Clone, Copy, Debug, Drop, PartialEq, Eq, Error)]
 pub enum CheckFault {
     /// The source failed, memory was refused, or the file breaks a rule.
+    #[error("{0}")]
     Source(OpenFault),
     /// A frame offends.
+    #[error("frame {frame} refused: {fault}")]
     Frame { frame: u32, fault: FrameFault },
 }
 
 /// Why a file or a frame wasn't shown.
-#[derive(Clone, Copy, Debug, Drop, PartialEq, Eq)]
+#[derive(Clone, Copy, Debug, Drop, PartialEq, Eq, Error)]
 pub enum ShowFault {
     /// The source failed, memory was refused, or the file breaks a rule of the command.
+    #[error("{0}")]
     Source(OpenFault),
     /// The report failed.
+    #[error("report fault")]
     Report,
     /// A frame offends.
+    #[error("frame {frame} refused: {fault}")]
     Frame { frame: u32, fault: FrameFault },
 }
 
 /// Why the frames of a file weren't listed.
-#[derive(Clone, Copy, Debug, Drop, PartialEq, Eq)]
+#[derive(Clone, Copy, Debug, Drop, PartialEq, Eq, Error)]
 pub enum ListFault {
     /// The source failed, memory was refused, or the file breaks a rule of the command.
+    #[error("{0}")]
     Source(OpenFault),
     /// The report failed.
+    #[error("report fault")]
     Report,
 }

@@ -46,7 +46,8 @@ abbrev pub IsPartly : ℕ → List ℕ → Option (List ℕ) → Option (List �
 IsPartly level file old new = (o : Answer) × OutcomeOf (encode level) file o × PartOf (Some (encode level)) file o.out old new
 
 -- the outcome of a file that is accepted is its coded file
-pub accepted_out : (level : ℕ) (file : List ℕ) (o : Answer) → refusal (encode level) file ≡ None → OutcomeOf (encode level) file o → One (OutcomeOf (encode level) file) →
+pub accepted_out : (level : ℕ) (file : List ℕ) (o : Answer) → refusal (encode level) file ≡ None → OutcomeOf (encode level) file o →
+    One (OutcomeOf (encode level) file) →
     o.out ≡ coded_at level file (accepted file)
 accepted_out level file o accepts is one =
     let coded_is = coded_outcome level file (accepted file).frames (stored_at level file (accepted file)) accepts refl refl in
@@ -61,7 +62,8 @@ holds_nothing_yet place old new same nothing = subst (HoldsUnfinished place []) 
 
 pub part_of_encoding : (level picker : ℕ) (file : List ℕ) (old new : Option (List ℕ)) → picker ≡ level →
     ((fault : FileFault) → refusal (encode level) file ≡ Some fault → new ≡ old) →
-    (HoldsNothing old → HoldsUnfinished (sound_size_place file (accepted file)) (coded (level_picks picker) file (accepted file)) new) → IsPartly level file old new
+    (HoldsNothing old → HoldsUnfinished (sound_size_place file (accepted file)) (coded (level_picks picker) file (accepted file)) new) →
+    IsPartly level file old new
 part_of_encoding level picker file old new is refused unfinished = go (refusal (encode level) file) refl
   where
     go : (q : Option FileFault) → refusal (encode level) file ≡ q → IsPartly level file old new

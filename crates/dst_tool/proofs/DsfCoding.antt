@@ -37,7 +37,8 @@ pub dsf_whole : (d : Result Encoded EncodeFault) (level picker : ℕ) (file : Li
     IfOk d (λ e. OfTold bytes (λ file. HoldsNothing old → new ≡ and_then old (coded (level_picks picker) (dsdiff file) (accepted (dsdiff file))))) →
     IfOk d (λ e. OfTold bytes (λ file. e.frames ≡ (accepted (dsdiff file)).frames)) →
     IfOk d (λ e. OfTold bytes (λ file. e.bytes ≡ stored_bytes (level_picks picker) (dsdiff file) (accepted (dsdiff file)))) →
-    IfOk d (λ e. (out : List ℕ) × OutcomeOf (encode_dsf level) file (done out (coded_line e.frames e.bytes ∷ [])) × WholeOf (Some (encode_dsf level)) out old new)
+    IfOk d (λ e. (out : List ℕ) × OutcomeOf (encode_dsf level) file (done out (coded_line e.frames e.bytes ∷ []))
+    × WholeOf (Some (encode_dsf level)) out old new)
 dsf_whole (Err fault) level picker file bytes old new is told a w f b = tt {0}
 dsf_whole (Ok e) level picker file bytes old new is told a w f b =
     let stored : e.bytes ≡ dsf_stored_at level file = b file told ∙ ap (λ n. dsf_stored_at n file) is in (

@@ -38,7 +38,8 @@ if_done f h (Err x) s e is = absurd cc
 same_fault : (a b : Fault) → ◌≡◌ {A = Result Numbers Fault} (Err a) (Err b) → a ≡ b
 same_fault a b e = cc
 
-pub back_from : {A E : Type 0} (f : A → Numbers) (h : E → Fault) (back : Fault → E) → ((e : E) → back (h e) ≡ e) → (r : Result A E) (fault : Fault) → answered f h r ≡ Err fault → r ≡ Err (back fault)
+pub back_from : {A E : Type 0} (f : A → Numbers) (h : E → Fault) (back : Fault → E) → ((e : E) → back (h e) ≡ e) → (r : Result A E) (fault : Fault) →
+    answered f h r ≡ Err fault → r ≡ Err (back fault)
 back_from f h back is (Ok a) fault e = absurd cc
 back_from f h back is (Err x) fault e = ap Err (sym (is x) ∙ ap back (same_fault (h x) fault e))
 
@@ -214,6 +215,7 @@ made_no_other f (Err (making.Memory x)) fault h e = h.1 x (sym (same_fault (Memo
 made_no_other f (Err making.Write) fault h e = h.0 (sym (same_fault Write fault e))
 
 -- a run in memory fails by want of memory alone
-pub ran_no_other : {A : Type 0} (f : A → Numbers) (r : Result A RunFault) (fault : Fault) → ((refused : AllocError) → fault ≢ Memory refused) → answered f of_run r ≡ Err fault → ⊥
+pub ran_no_other : {A : Type 0} (f : A → Numbers) (r : Result A RunFault) (fault : Fault) → ((refused : AllocError) → fault ≢ Memory refused) →
+    answered f of_run r ≡ Err fault → ⊥
 ran_no_other f (Ok a) fault h e = absurd cc
 ran_no_other f (Err (running.Memory refused)) fault h e = h refused (sym (same_fault (Memory refused) fault e))

@@ -80,7 +80,8 @@ module _ (start frames : ℕ) (f : Shape) (few : frames ≤ 1000) (shape : IsSha
     coded_fits bytes = made_room f.channels m frames s by_shape few long (level_picks 2) bytes (level_picks_law 2)
 
     pub file_comes_back : AreBytes (made_file start frames f) →
-        ComesBack 2 (made_file start frames f) (accepted (made_file start frames f)) (coded_at 2 (made_file start frames f) (accepted (made_file start frames f)))
+        ComesBack 2 (made_file start frames f) (accepted (made_file start frames f))
+        (coded_at 2 (made_file start frames f) (accepted (made_file start frames f)))
     file_comes_back bytes = headline file 2 (bytes, file_accepted 1)
 
     pub coded_frames : AreBytes (made_file start frames f) →

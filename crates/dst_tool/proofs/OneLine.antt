@@ -1,5 +1,6 @@
 -- A command that reports one line: what it answered, and what the run leaves.
-use Rattle.std.proofs.Common.{◌≡◌, ◌⊎◌, inl, inr, ℕ, ◌+◌, ◌*◌, ◌<◌, ◌≤◌, true, List, [], ◌∷◌, length, Option, Some, Result, Ok, Err, refl, ap, sym, subst, ◌∙◌, arith, IfOk}
+use Rattle.std.proofs.Common.{◌≡◌, ◌⊎◌, inl, inr, ℕ, ◌+◌, ◌*◌, ◌<◌, ◌≤◌, true, List, [], ◌∷◌, length, Option, Some, Result, Ok, Err, refl, ap, sym}
+use Rattle.std.proofs.Common.{subst, ◌∙◌, arith, IfOk}
 use Rattle.std.specs.Prelude.{⊤}
 use Rattle.std.specs.declared.alloc.AllocError.{AllocError}
 use Rattle.dst_spec.specs.Bits.{AreBytes}
@@ -20,21 +21,25 @@ use Rattle.dst_tool.specs.declared.answers.Fault.{Fault}
 use Rattle.dst_tool.specs.declared.answers.Fault.TheVariants.{Read, Write, Memory, Report, File, Frame}
 use Rattle.dst_tool.specs.Answers.{status_of, done_line, fault_line, line_of}
 use Rattle.dst_commands.specs.Commands.{OutcomeOf}
-use Rattle.dst_tool.specs.Runs.{WholeOf, PartOf, EndsAsOne, EndsBy, Reports, WritesNowhere, ReadsNothing, WritesFile, most_given, longest_sound, Counts, Held, IsRun}
-use Rattle.dst_tool.proofs.Statuses.{status_is_done, status_is_read, status_is_write, status_is_memory, status_is_file, status_is_frame, status_is_not_words, status_is_below}
+use Rattle.dst_tool.specs.Runs.{WholeOf, PartOf, EndsAsOne, EndsBy, Reports, WritesNowhere, ReadsNothing, WritesFile, most_given, longest_sound}
+use Rattle.dst_tool.specs.Runs.{Counts, Held, IsRun}
+use Rattle.dst_tool.proofs.Statuses.{status_is_done, status_is_read, status_is_write, status_is_memory, status_is_file, status_is_frame}
+use Rattle.dst_tool.proofs.Statuses.{status_is_not_words, status_is_below}
 use Rattle.dst_commands.proofs.Writing.{and_then-nothing}
 
 pub record IsAnswer (c : Command) (r : Result Numbers Fault) (file : List ℕ) (old new : Option (List ℕ)) : Type 0 where
   pub finished : IfOk r (λ s. (out : List ℕ) × OutcomeOf c file (done out (done_line c s ∷ [])) × WholeOf (Some c) out old new)
   pub file_is : (fault : FileFault) → r ≡ Err (File fault) → refusal c file ≡ Some fault
   pub untouched : (fault : FileFault) → r ≡ Err (File fault) → new ≡ old
-  pub frame_is : (k : ℕ) (fault : FrameFault) → r ≡ Err (Frame k fault) → (out : List ℕ) × OutcomeOf c file (frame_refused k fault out) × (new ≡ and_then old out)
+  pub frame_is : (k : ℕ) (fault : FrameFault) → r ≡ Err (Frame k fault) → (out : List ℕ) × OutcomeOf c file (frame_refused k fault out)
+      × (new ≡ and_then old out)
   pub cut_short : (r ≡ Err Read) ⊎ (r ≡ Err Write) → (o : Answer) × OutcomeOf c file o × PartOf (Some c) file o.out old new
   pub memory : (refused : AllocError) → r ≡ Err (Memory refused) → new ≡ old
   pub no_report : r ≡ Err Report → ⊥
 
 -- what holds of every file that is told holds of this one
-pub at_file : {A E : Type 0} (r : Result A E) (P : A → List ℕ → Type 0) (bytes : Option (List ℕ)) (file : List ℕ) → bytes ≡ Some file → IfOk r (λ s. (xs : List ℕ) → bytes ≡ Some xs → P s xs) → IfOk r (λ s. P s file)
+pub at_file : {A E : Type 0} (r : Result A E) (P : A → List ℕ → Type 0) (bytes : Option (List ℕ)) (file : List ℕ) → bytes ≡ Some file →
+    IfOk r (λ s. (xs : List ℕ) → bytes ≡ Some xs → P s xs) → IfOk r (λ s. P s file)
 at_file (Ok s) P bytes file told h = h file told
 at_file (Err fault) P bytes file told h = tt {0}
 
@@ -58,18 +63,29 @@ whole_of (range pairs) out old new e = e
 pub refusal_is : (c : Command) (file : List ℕ) (fault : FileFault) → refusal c file ≡ Some fault → OutcomeOf c file (file_refused fault)
 refusal_is c file fault e = subst (λ q. OfCommand c file q (file_refused fault)) (sym e) refl
 
-done_ends : (c : Command) (s : Numbers) (file : List ℕ) (old new : Option (List ℕ)) → IsAnswer c (Ok s) file old new → EndsAsOne (OutcomeOf c file) (Some c) 0 (line_of c (Ok s) ∷ []) old new
+done_ends : (c : Command) (s : Numbers) (file : List ℕ) (old new : Option (List ℕ)) → IsAnswer c (Ok s) file old new →
+    EndsAsOne (OutcomeOf c file) (Some c) 0 (line_of c (Ok s) ∷ []) old new
 done_ends c s file old new a = (done a.finished.0 (done_line c s ∷ []), a.finished.1, refl, refl, a.finished.2)
 
-file_ends : (c : Command) (fault : FileFault) (file : List ℕ) (old new : Option (List ℕ)) → IsAnswer c (Err (File fault)) file old new → EndsAsOne (OutcomeOf c file) (Some c) 5 (fault_line (File fault) ∷ []) old new
-file_ends c fault file old new a = (file_refused fault, refusal_is c file fault (a.file_is fault refl), refl, refl, whole_of c [] old new (a.untouched fault refl ∙ sym (and_then-nothing old)))
+file_ends : (c : Command) (fault : FileFault) (file : List ℕ) (old new : Option (List ℕ)) → IsAnswer c (Err (File fault)) file old new →
+    EndsAsOne (OutcomeOf c file) (Some c) 5 (fault_line (File fault) ∷ []) old new
+file_ends c fault file old new a = (
+  file_refused fault,
+  refusal_is c file fault (a.file_is fault refl),
+  refl,
+  refl,
+  whole_of c [] old new
+      (a.untouched fault refl ∙ sym (and_then-nothing old)),
+)
 
-frame_ends : (c : Command) (k : ℕ) (fault : FrameFault) (file : List ℕ) (old new : Option (List ℕ)) → IsAnswer c (Err (Frame k fault)) file old new → EndsAsOne (OutcomeOf c file) (Some c) 6 (fault_line (Frame k fault) ∷ []) old new
+frame_ends : (c : Command) (k : ℕ) (fault : FrameFault) (file : List ℕ) (old new : Option (List ℕ)) → IsAnswer c (Err (Frame k fault)) file old new →
+    EndsAsOne (OutcomeOf c file) (Some c) 6 (fault_line (Frame k fault) ∷ []) old new
 frame_ends c k fault file old new a =
     let f = a.frame_is k fault refl in
     (frame_refused k fault f.0, f.1, refl, refl, whole_of c f.0 old new f.2)
 
-pub answer_ends : (c : Command) (r : Result Numbers Fault) (file : List ℕ) (old new : Option (List ℕ)) → IsAnswer c r file old new → EndsBy (OutcomeOf c file) (Some c) file ⊤ (status_of r) (line_of c r ∷ []) old new
+pub answer_ends : (c : Command) (r : Result Numbers Fault) (file : List ℕ) (old new : Option (List ℕ)) → IsAnswer c r file old new →
+    EndsBy (OutcomeOf c file) (Some c) file ⊤ (status_of r) (line_of c r ∷ []) old new
 answer_ends c (Ok s) file old new a = inr (inr (inr (done_ends c s file old new a)))
 answer_ends c (Err Read) file old new a = inl (refl, refl, a.cut_short (inl refl))
 answer_ends c (Err Write) file old new a = inr (inl (refl, refl, a.cut_short (inr refl)))
@@ -79,24 +95,31 @@ answer_ends c (Err (Frame k fault)) file old new a = inr (inr (inr (frame_ends c
 answer_ends c (Err Report) file old new a = absurd (a.no_report refl)
 
 -- ---- a report that is sure to take the outcome's lines takes the line
-pub same_lines : (c : Command) (file : List ℕ) (status : ℕ) (lines : List Line) (old new : Option (List ℕ)) (o : Answer) → HasOutcome c → AreBytes file → OutcomeOf c file o → EndsAsOne (OutcomeOf c file) (Some c) status lines old new → o.lines ≡ lines
+pub same_lines : (c : Command) (file : List ℕ) (status : ℕ) (lines : List Line) (old new : Option (List ℕ)) (o : Answer) → HasOutcome c →
+    AreBytes file → OutcomeOf c file o → EndsAsOne (OutcomeOf c file) (Some c) status lines old new → o.lines ≡ lines
 same_lines c file status lines old new o reads bytes h (p, is, st, same, w) =
     let one = command_has_one_outcome c file reads bytes in
     ap (λ (a : Answer). a.lines) (one.2 o h ∙ sym (one.2 p is)) ∙ same
 
-line_fits : (c : Command) (r : Result Numbers Fault) (file : List ℕ) (old new : Option (List ℕ)) (o : Answer) (n : ℕ) → HasOutcome c → AreBytes file → IsAnswer c r file old new → OutcomeOf c file o →
+line_fits : (c : Command) (r : Result Numbers Fault) (file : List ℕ) (old new : Option (List ℕ)) (o : Answer) (n : ℕ) → HasOutcome c → AreBytes file →
+    IsAnswer c r file old new → OutcomeOf c file o →
     (r ≡ Err Read → ⊥) → (r ≡ Err Write → ⊥) → 7 ≤ n → length (report o.lines) ≤ n → length (report (line_of c r ∷ [])) ≤ n
-line_fits c (Ok s) file old new o n reads bytes a h no_read no_write least fits = subst (λ lines. length (report lines) ≤ n) (same_lines c file 0 (line_of c (Ok s) ∷ []) old new o reads bytes h (done_ends c s file old new a)) fits
+line_fits c (Ok s) file old new o n reads bytes a h no_read no_write least fits =
+    subst (λ lines. length (report lines) ≤ n) (same_lines c file 0 (line_of c (Ok s) ∷ []) old new o reads bytes h (done_ends c s file old new a)) fits
 line_fits c (Err Read) file old new o n reads bytes a h no_read no_write least fits = absurd (no_read refl)
 line_fits c (Err Write) file old new o n reads bytes a h no_read no_write least fits = absurd (no_write refl)
 line_fits c (Err (Memory refused)) file old new o n reads bytes a h no_read no_write least fits = least
-line_fits c (Err (File fault)) file old new o n reads bytes a h no_read no_write least fits = subst (λ lines. length (report lines) ≤ n) (same_lines c file 5 (fault_line (File fault) ∷ []) old new o reads bytes h (file_ends c fault file old new a)) fits
+line_fits c (Err (File fault)) file old new o n reads bytes a h no_read no_write least fits =
+    subst (λ lines. length (report lines) ≤ n)
+    (same_lines c file 5 (fault_line (File fault) ∷ []) old new o reads bytes h (file_ends c fault file old new a)) fits
 line_fits c (Err (Frame k fault)) file old new o n reads bytes a h no_read no_write least fits =
-    subst (λ lines. length (report lines) ≤ n) (same_lines c file 6 (fault_line (Frame k fault) ∷ []) old new o reads bytes h (frame_ends c k fault file old new a)) fits
+    subst (λ lines. length (report lines) ≤ n)
+    (same_lines c file 6 (fault_line (Frame k fault) ∷ []) old new o reads bytes h (frame_ends c k fault file old new a)) fits
 line_fits c (Err Report) file old new o n reads bytes a h no_read no_write least fits = absurd (a.no_report refl)
 
 -- ---- the line is reported, or the report failed
-pub reports_line : (status result : ℕ) (line : Line) (old new : Option (List ℕ)) → (result ≡ status) ⊎ (result ≡ 7) → (result ≡ status → new ≡ and_then old (report (line ∷ []))) → (result ≡ 7 → IsCutShort old (report (line ∷ [])) new) →
+pub reports_line : (status result : ℕ) (line : Line) (old new : Option (List ℕ)) → (result ≡ status) ⊎ (result ≡ 7) →
+    (result ≡ status → new ≡ and_then old (report (line ∷ []))) → (result ≡ 7 → IsCutShort old (report (line ∷ [])) new) →
     Reports status (line ∷ []) result old new
 reports_line status result line old new (inl e) whole short = inl (e, whole e)
 reports_line status result line old new (inr e) whole short = inr (e, short e)
@@ -119,7 +142,8 @@ abbrev pub IsNoFileFault : Result Numbers Fault → Type 0
 IsNoFileFault r =
     (r ≡ Err Read → ⊥) × ((fault : FileFault) → r ≡ Err (File fault) → ⊥) × ((k : ℕ) (fault : FrameFault) → r ≡ Err (Frame k fault) → ⊥)
 
-pub record HasCauses (c : Command) (r : Result Numbers Fault) (bytes : Option (List ℕ)) (source sink given : Counts) (written : Held) (Same Settled Unread : Type 0) : Type 0 where
+pub record HasCauses (c : Command) (r : Result Numbers Fault) (bytes : Option (List ℕ)) (source sink given : Counts) (written : Held)
+    (Same Settled Unread : Type 0) : Type 0 where
   pub read : r ≡ Err Read → Rose source.before source.now
   pub write : r ≡ Err Write → Rose sink.before sink.now
   pub sure : r ≡ Err Write → (file : List ℕ) → bytes ≡ Some file → (o : Answer) → OutcomeOf c file o → (n : ℕ) → written.room ≡ Some n → length o.out ≤ n → ⊥
@@ -134,19 +158,35 @@ pub record HasCauses (c : Command) (r : Result Numbers Fault) (bytes : Option (L
   pub any_source : (k : ℕ) → c ≡ frame k true → given.now ≤ given.before + most_given longest_sound
   pub no_report : r ≡ Err Report → ⊥
 
-pub run_of_answer : (c : Command) (r : Result Numbers Fault) (result : ℕ) (bytes : Option (List ℕ)) (source sink counts given : Counts) (written told : Held) (Same Settled Unread : Type 0) → HasOutcome c →
+pub run_of_answer : (c : Command) (r : Result Numbers Fault) (result : ℕ) (bytes : Option (List ℕ)) (source sink counts given : Counts)
+    (written told : Held) (Same Settled Unread : Type 0) → HasOutcome c →
     ((file : List ℕ) → bytes ≡ Some file → AreBytes file) → ((file : List ℕ) → bytes ≡ Some file → IsAnswer c r file written.old written.new) →
     (ReadsNothing c → IsAnswer c r [] written.old written.new) →
-    HasCauses c r bytes source sink given written Same Settled Unread → TellsLine (status_of r) (line_of c r) result counts told → IsRun c result bytes source sink counts given written told Same Settled Unread
+    HasCauses c r bytes source sink given written Same Settled Unread → TellsLine (status_of r) (line_of c r) result counts told →
+    IsRun c result bytes source sink counts given written told Same Settled Unread
 run_of_answer c r result bytes source sink counts given written told Same Settled Unread reads are answer made h t = record {
-  ends = λ file e. (status_of r, line_of c r ∷ [], answer_ends c r file written.old written.new (answer file e), reports_line (status_of r) result (line_of c r) told.old told.new t.reported t.whole t.cut_short);
-  made = λ w. (status_of r, line_of c r ∷ [], answer_ends c r [] written.old written.new (made w), reports_line (status_of r) result (line_of c r) told.old told.new t.reported t.whole t.cut_short);
+  ends = λ file e. (
+    status_of r,
+    line_of c r ∷ [],
+    answer_ends c r file written.old written.new (answer file e),
+    reports_line (status_of r) result
+        (line_of c r) told.old told.new t.reported t.whole t.cut_short,
+  );
+  made = λ w. (
+    status_of r,
+    line_of c r ∷ [],
+    answer_ends c r [] written.old written.new (made w),
+    reports_line (status_of r) result (line_of c r)
+        told.old told.new t.reported t.whole t.cut_short,
+  );
   read = λ e. h.read (status_is_read r (status_told (status_of r) result 2 t.reported e (omega arith)));
   write = λ e. h.write (status_is_write r (status_told (status_of r) result 3 t.reported e (omega arith)));
   reported = t.cause;
-  sure_sink = λ file e o is n room fits three. h.sure (status_is_write r (status_told (status_of r) result 3 t.reported three (omega arith))) file e o is n room fits;
+  sure_sink = λ file e o is n room fits three. h.sure (status_is_write r (status_told (status_of r) result 3 t.reported three (omega arith))) file e o
+      is n room fits;
   sure_report = λ file e o is no_read no_write n room least fits seven.
-      t.sure seven n room (line_fits c r file written.old written.new o n reads (are file e) (answer file e) is (λ q. no_read (h.read q)) (λ q. no_write (h.write q)) least fits);
+      t.sure seven n room (line_fits c r file written.old written.new o n reads (are file e) (answer file e) is (λ q. no_read (h.read q))
+      (λ q. no_write (h.write q)) least fits);
   memory = λ e. let f = status_is_memory r (status_told (status_of r) result 4 t.reported e (omega arith)) in h.memory f.0 f.1;
   file_refused = λ e. let f = status_is_file r (status_told (status_of r) result 5 t.reported e (omega arith)) in h.untouched f.0 f.1;
   idle = h.idle;
@@ -169,8 +209,11 @@ run_of_answer c r result bytes source sink counts given written told Same Settle
     most (inr e) = omega arith
 
 -- a run of one command is a run of the same one
-pub same_run : {a c : Command} {result : ℕ} {bytes : Option (List ℕ)} {source sink counts given : Counts} {written told : Held} {Same Settled Unread : Type 0} → a ≡ c → IsRun c result bytes source sink counts given written told Same Settled Unread → IsRun a result bytes source sink counts given written told Same Settled Unread
-same_run {a} {c} {result} {bytes} {source} {sink} {counts} {given} {written} {told} {Same} {Settled} {Unread} e h = subst (λ c. IsRun c result bytes source sink counts given written told Same Settled Unread) (sym e) h
+pub same_run : {a c : Command} {result : ℕ} {bytes : Option (List ℕ)} {source sink counts given : Counts} {written told : Held}
+    {Same Settled Unread : Type 0} → a ≡ c → IsRun c result bytes source sink counts given written told Same Settled Unread →
+    IsRun a result bytes source sink counts given written told Same Settled Unread
+same_run {a} {c} {result} {bytes} {source} {sink} {counts} {given} {written} {told} {Same} {Settled} {Unread} e h =
+    subst (λ c. IsRun c result bytes source sink counts given written told Same Settled Unread) (sym e) h
 
 pub encoding_is_no_frame : (level k : ℕ) → encode level ≡ frame k true → ⊥
 encoding_is_no_frame level k e = absurd cc
@@ -216,7 +259,9 @@ pub nothing_cut : (old : Option (List ℕ)) (bytes : List ℕ) → IsCutShort ol
 nothing_cut old bytes = record { kept = 0; within = omega arith; written = nothing_added old }
 
 -- a finished command that writes nothing
-pub finished_alone : (c : Command) (r : Result Numbers Fault) (old : Option (List ℕ)) (file : List ℕ) → IfOk r (λ s. OutcomeOf c file (done [] (done_line c s ∷ []))) → IfOk r (λ s. (out : List ℕ) × OutcomeOf c file (done out (done_line c s ∷ [])) × (old ≡ and_then old out))
+pub finished_alone : (c : Command) (r : Result Numbers Fault) (old : Option (List ℕ)) (file : List ℕ) →
+    IfOk r (λ s. OutcomeOf c file (done [] (done_line c s ∷ []))) →
+    IfOk r (λ s. (out : List ℕ) × OutcomeOf c file (done out (done_line c s ∷ [])) × (old ≡ and_then old out))
 finished_alone c (Ok s) old file h = ([], h, nothing_added old)
 finished_alone c (Err fault) old file h = tt {0}
 
@@ -258,9 +303,11 @@ not_both_kinds decode_dsf w f = w
 not_both_kinds (range pairs) w f = omega arith
 
 -- where the source failed nothing is written; where the sink did, a prefix
-pub cut_or_nothing : (c : Command) (r : Result Numbers Fault) (file : List ℕ) (old new : Option (List ℕ)) → One (OutcomeOf c file) → (r ≡ Err Read → new ≡ old) → (r ≡ Err Write → (o : Answer) × OutcomeOf c file o × IsCutShort old o.out new) →
+pub cut_or_nothing : (c : Command) (r : Result Numbers Fault) (file : List ℕ) (old new : Option (List ℕ)) → One (OutcomeOf c file) →
+    (r ≡ Err Read → new ≡ old) → (r ≡ Err Write → (o : Answer) × OutcomeOf c file o × IsCutShort old o.out new) →
     (r ≡ Err Read) ⊎ (r ≡ Err Write) → (o : Answer) × OutcomeOf c file o × IsCutShort old o.out new
-cut_or_nothing c r file old new one nothing short (inl e) = (one.0, one.1, subst (λ w. IsCutShort old one.0.out w) (sym (nothing e)) (nothing_cut old one.0.out))
+cut_or_nothing c r file old new one nothing short (inl e) =
+    (one.0, one.1, subst (λ w. IsCutShort old one.0.out w) (sym (nothing e)) (nothing_cut old one.0.out))
 cut_or_nothing c r file old new one nothing short (inr e) = short e
 
 -- ---- bytes of the source that one frame takes

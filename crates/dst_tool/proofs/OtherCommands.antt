@@ -2,7 +2,8 @@
 use Rattle.std.proofs.Common.{◌≡◌, ℕ, refl}
 use Rattle.dst_spec.specs.Sample.{Shape}
 use Rattle.dst_words.specs.declared.words.Command.{Command}
-use Rattle.dst_words.specs.declared.words.Command.TheVariants.{Encode, Decode, Cut, Frame, Check, Show, ShowFrame, Index, Make, MakeRun, EncodeDsf, DecodeDsf, Range}
+use Rattle.dst_words.specs.declared.words.Command.TheVariants.{Encode, Decode, Cut, Frame, Check, Show, ShowFrame, Index, Make, MakeRun, EncodeDsf}
+use Rattle.dst_words.specs.declared.words.Command.TheVariants.{DecodeDsf, Range}
 use Rattle.dst_words.specs.Commands.{command_seen}
 use Rattle.dst_tool.specs.Runs.{ReadsAndWrites}
 

@@ -1,5 +1,6 @@
 -- A command that reports its lines itself: what it answered, and what the run leaves.
-use Rattle.std.proofs.Common.{◌≡◌, ◌≢◌, ◌⊎◌, inl, inr, ℕ, ◌≤◌, true, List, [], ◌∷◌, length, Option, Some, Result, Ok, Err, refl, ap, sym, subst, ◌∙◌, arith, IfOk}
+use Rattle.std.proofs.Common.{◌≡◌, ◌≢◌, ◌⊎◌, inl, inr, ℕ, ◌≤◌, true, List, [], ◌∷◌, length, Option, Some, Result, Ok, Err, refl, ap, sym, subst, ◌∙◌}
+use Rattle.std.proofs.Common.{arith, IfOk}
 use Rattle.std.specs.Prelude.{⊤}
 use Rattle.dst_spec.specs.Bits.{AreBytes}
 use Rattle.dst_spec.specs.declared.faults.FrameFault.{FrameFault}
@@ -60,21 +61,32 @@ not_report : (fault : Fault) → IsTold fault → fault ≢ Report
 not_report fault h e = subst IsTold e h
 
 abbrev EndsListing : Command → List ℕ → ℕ → Option (List ℕ) → Held → Type 0
-EndsListing c file result written told = (wanted : ℕ) × (lines : List Line) × EndsBy (OutcomeOf c file) (Some c) file ⊤ wanted lines written written × Reports wanted lines result told.old told.new
+EndsListing c file result written told = (wanted : ℕ) × (lines : List Line) × EndsBy (OutcomeOf c file) (Some c) file ⊤ wanted lines written written
+    × Reports wanted lines result told.old told.new
 
-fault_ends : (c : Command) (fault : Fault) (file : List ℕ) (written : Option (List ℕ)) (told mid : Option (List ℕ)) → WritesNowhere c → IsTold fault → IsListing c (Err fault) file told mid →
+fault_ends : (c : Command) (fault : Fault) (file : List ℕ) (written : Option (List ℕ)) (told mid : Option (List ℕ)) → WritesNowhere c → IsTold fault →
+    IsListing c (Err fault) file told mid →
     EndsBy (OutcomeOf c file) (Some c) file ⊤ (status_of (Err fault)) (fault_line fault ∷ []) written written
 fault_ends c Read file written told mid w h l = inl (refl, refl, (l.some.0, l.some.1, nothing_of c file l.some.0.out written w))
 fault_ends c (Memory refused) file written told mid w h l = inr (inr (inl (refl, refl, tt, refl)))
 fault_ends c (File fault) file written told mid w h l =
-    inr (inr (inr (file_refused fault, refusal_is c file fault (l.file_is fault refl), refl, refl, whole_of c [] written written (sym (and_then-nothing written)))))
+    inr (inr (inr (
+      file_refused fault,
+      refusal_is c file fault (l.file_is fault refl),
+      refl,
+      refl,
+      whole_of c [] written written
+          (sym (and_then-nothing written)),
+    )))
 fault_ends c (Frame k fault) file written told mid w h l =
     inr (inr (inr (frame_refused k fault [], l.frame_is k fault refl, refl, refl, whole_of c [] written written (sym (and_then-nothing written)))))
 fault_ends c Write file written told mid w h l = absurd h
 fault_ends c Report file written told mid w h l = absurd h
 
-told_ends : (c : Command) (fault : Fault) (result : ℕ) (file : List ℕ) (written : Option (List ℕ)) (source counts middle : Counts) (told mid : Held) → WritesNowhere c → IsTold fault → mid.new ≡ told.new →
-    IsListing c (Err fault) file told.old mid.old → Lists (Err fault) source counts middle told mid → TellsFault (Err fault) result middle mid → EndsListing c file result written told
+told_ends : (c : Command) (fault : Fault) (result : ℕ) (file : List ℕ) (written : Option (List ℕ)) (source counts middle : Counts) (told mid : Held) →
+    WritesNowhere c → IsTold fault → mid.new ≡ told.new →
+    IsListing c (Err fault) file told.old mid.old → Lists (Err fault) source counts middle told mid → TellsFault (Err fault) result middle mid →
+    EndsListing c file result written told
 told_ends c fault result file written source counts middle told mid w h last l s t =
     let other = not_report fault h in
     let same = (s.untouched fault refl other).0 in (
@@ -83,10 +95,12 @@ told_ends c fault result file written source counts middle told mid w h last l s
       fault_ends c fault file written told.old mid.old w h l,
       reports_line (status_of (Err fault)) result (fault_line fault) told.old told.new t.reported
           (λ e. sym last ∙ t.whole fault refl other e ∙ ap (λ w. and_then w (report (fault_line fault ∷ []))) same)
-          (λ e. subst (λ w. IsCutShort told.old (report (fault_line fault ∷ [])) w) last (subst (λ w. IsCutShort w (report (fault_line fault ∷ [])) mid.new) same (t.cut_short fault refl other e))),
+          (λ e. subst (λ w. IsCutShort told.old (report (fault_line fault ∷ [])) w) last
+          (subst (λ w. IsCutShort w (report (fault_line fault ∷ [])) mid.new) same (t.cut_short fault refl other e))),
     )
 
-listing_ends : (c : Command) (r : Result Numbers Fault) (result : ℕ) (file : List ℕ) (written : Option (List ℕ)) (source counts middle : Counts) (told mid : Held) → WritesNowhere c → mid.new ≡ told.new →
+listing_ends : (c : Command) (r : Result Numbers Fault) (result : ℕ) (file : List ℕ) (written : Option (List ℕ)) (source counts middle : Counts)
+    (told mid : Held) → WritesNowhere c → mid.new ≡ told.new →
     IsListing c r file told.old mid.old → Lists r source counts middle told mid → TellsFault r result middle mid → EndsListing c file result written told
 listing_ends c (Ok s) result file written source counts middle told mid w last l h t =
     let d = t.done s refl in (
@@ -103,23 +117,33 @@ listing_ends c (Err Report) result file written source counts middle told mid w 
       inr (inr (inr (done [] cut.0, cut.1, refl, refl, whole_of c [] written written (sym (and_then-nothing written))))),
       inr (f.0, subst (λ w. IsCutShort told.old (report cut.0) w) (sym f.1 ∙ last) cut.2),
     )
-listing_ends c (Err Read) result file written source counts middle told mid w last l h t = told_ends c Read result file written source counts middle told mid w tt last l h t
-listing_ends c (Err (Memory refused)) result file written source counts middle told mid w last l h t = told_ends c (Memory refused) result file written source counts middle told mid w tt last l h t
-listing_ends c (Err (File fault)) result file written source counts middle told mid w last l h t = told_ends c (File fault) result file written source counts middle told mid w tt last l h t
-listing_ends c (Err (Frame k fault)) result file written source counts middle told mid w last l h t = told_ends c (Frame k fault) result file written source counts middle told mid w tt last l h t
+listing_ends c (Err Read) result file written source counts middle told mid w last l h t =
+    told_ends c Read result file written source counts middle told mid w tt last l h t
+listing_ends c (Err (Memory refused)) result file written source counts middle told mid w last l h t =
+    told_ends c (Memory refused) result file written source counts middle told mid w tt last l h t
+listing_ends c (Err (File fault)) result file written source counts middle told mid w last l h t =
+    told_ends c (File fault) result file written source counts middle told mid w tt last l h t
+listing_ends c (Err (Frame k fault)) result file written source counts middle told mid w last l h t =
+    told_ends c (Frame k fault) result file written source counts middle told mid w tt last l h t
 listing_ends c (Err Write) result file written source counts middle told mid w last l h t = absurd (h.no_write refl)
 
 -- ---- causes
 moved : (counts middle : Counts) → middle.before ≡ counts.before → middle.now ≡ counts.now → Rose middle.before middle.now → Rose counts.before counts.now
 moved counts middle a b rose = subst (λ m. Rose counts.before m) b (subst (λ m. Rose m middle.now) a rose)
 
-seven_has_cause : (r : Result Numbers Fault) (result : ℕ) (source counts middle : Counts) (told mid : Held) → middle.now ≡ counts.now → Lists r source counts middle told mid → TellsFault r result middle mid → result ≡ 7 → Rose counts.before counts.now
+seven_has_cause : (r : Result Numbers Fault) (result : ℕ) (source counts middle : Counts) (told mid : Held) → middle.now ≡ counts.now →
+    Lists r source counts middle told mid → TellsFault r result middle mid → result ≡ 7 → Rose counts.before counts.now
 seven_has_cause (Ok s) result source counts middle told mid last h t seven = let d = t.done s refl in absurd (omega (arith, d.0))
-seven_has_cause (Err Report) result source counts middle told mid last h t seven = subst (λ n. Rose counts.before n) (sym (t.failed refl).2 ∙ last) (h.reported refl)
-seven_has_cause (Err Read) result source counts middle told mid last h t seven = moved counts middle (h.untouched Read refl (λ e. absurd cc)).2 last (t.cause Read refl (λ e. absurd cc) seven)
-seven_has_cause (Err (Memory refused)) result source counts middle told mid last h t seven = moved counts middle (h.untouched (Memory refused) refl (λ e. absurd cc)).2 last (t.cause (Memory refused) refl (λ e. absurd cc) seven)
-seven_has_cause (Err (File fault)) result source counts middle told mid last h t seven = moved counts middle (h.untouched (File fault) refl (λ e. absurd cc)).2 last (t.cause (File fault) refl (λ e. absurd cc) seven)
-seven_has_cause (Err (Frame k fault)) result source counts middle told mid last h t seven = moved counts middle (h.untouched (Frame k fault) refl (λ e. absurd cc)).2 last (t.cause (Frame k fault) refl (λ e. absurd cc) seven)
+seven_has_cause (Err Report) result source counts middle told mid last h t seven =
+    subst (λ n. Rose counts.before n) (sym (t.failed refl).2 ∙ last) (h.reported refl)
+seven_has_cause (Err Read) result source counts middle told mid last h t seven =
+    moved counts middle (h.untouched Read refl (λ e. absurd cc)).2 last (t.cause Read refl (λ e. absurd cc) seven)
+seven_has_cause (Err (Memory refused)) result source counts middle told mid last h t seven =
+    moved counts middle (h.untouched (Memory refused) refl (λ e. absurd cc)).2 last (t.cause (Memory refused) refl (λ e. absurd cc) seven)
+seven_has_cause (Err (File fault)) result source counts middle told mid last h t seven =
+    moved counts middle (h.untouched (File fault) refl (λ e. absurd cc)).2 last (t.cause (File fault) refl (λ e. absurd cc) seven)
+seven_has_cause (Err (Frame k fault)) result source counts middle told mid last h t seven =
+    moved counts middle (h.untouched (Frame k fault) refl (λ e. absurd cc)).2 last (t.cause (Frame k fault) refl (λ e. absurd cc) seven)
 seven_has_cause (Err Write) result source counts middle told mid last h t seven = absurd (h.no_write refl)
 
 -- ---- a report that is sure to take the outcome's lines takes the line of a fault
@@ -127,26 +151,35 @@ abbrev IsSure : Result Numbers Fault → Command → Option (List ℕ) → Held 
 IsSure r c bytes told =
     r ≡ Err Report → (file : List ℕ) → bytes ≡ Some file → (o : Answer) → OutcomeOf c file o → (n : ℕ) → told.room ≡ Some n → length (report o.lines) ≤ n → ⊥
 
-fault_fits : (c : Command) (fault : Fault) (result n : ℕ) (file : List ℕ) (written : Option (List ℕ)) (o : Answer) (source counts middle : Counts) (told mid : Held) → HasOutcome c → AreBytes file → IsTold fault →
-    OutcomeOf c file o → IsListing c (Err fault) file told.old mid.old → Lists (Err fault) source counts middle told mid → TellsFault (Err fault) result middle mid →
+fault_fits : (c : Command) (fault : Fault) (result n : ℕ) (file : List ℕ) (written : Option (List ℕ)) (o : Answer) (source counts middle : Counts)
+    (told mid : Held) → HasOutcome c → AreBytes file → IsTold fault →
+    OutcomeOf c file o → IsListing c (Err fault) file told.old mid.old → Lists (Err fault) source counts middle told mid →
+    TellsFault (Err fault) result middle mid →
     DidNotRise source.before source.now → told.room ≡ Some n → 7 ≤ n → length (report o.lines) ≤ n → result ≡ 7 → ⊥
 fault_fits c Read result n file written o source counts middle told mid reads bytes h is l s t no_read room least fits seven = no_read (s.read refl)
 fault_fits c (Memory refused) result n file written o source counts middle told mid reads bytes h is l s t no_read room least fits seven =
     t.sure (Memory refused) refl (λ e. absurd cc) seven n ((s.untouched (Memory refused) refl (λ e. absurd cc)).1 ∙ room) least
 fault_fits c (File fault) result n file written o source counts middle told mid reads bytes h is l s t no_read room least fits seven =
-    let same = same_lines c file 5 (fault_line (File fault) ∷ []) written written o reads bytes is (file_refused fault, refusal_is c file fault (l.file_is fault refl), refl, refl, whole_of c [] written written (sym (and_then-nothing written))) in
-    t.sure (File fault) refl (λ e. absurd cc) seven n ((s.untouched (File fault) refl (λ e. absurd cc)).1 ∙ room) (subst (λ lines. length (report lines) ≤ n) same fits)
+    let same = same_lines c file 5 (fault_line (File fault) ∷ []) written written o reads bytes is
+    (file_refused fault, refusal_is c file fault (l.file_is fault refl), refl, refl, whole_of c [] written written (sym (and_then-nothing written))) in
+    t.sure (File fault) refl (λ e. absurd cc) seven n ((s.untouched (File fault) refl (λ e. absurd cc)).1 ∙ room)
+    (subst (λ lines. length (report lines) ≤ n) same fits)
 fault_fits c (Frame k fault) result n file written o source counts middle told mid reads bytes h is l s t no_read room least fits seven =
-    let same = same_lines c file 6 (fault_line (Frame k fault) ∷ []) written written o reads bytes is (frame_refused k fault [], l.frame_is k fault refl, refl, refl, whole_of c [] written written (sym (and_then-nothing written))) in
-    t.sure (Frame k fault) refl (λ e. absurd cc) seven n ((s.untouched (Frame k fault) refl (λ e. absurd cc)).1 ∙ room) (subst (λ lines. length (report lines) ≤ n) same fits)
+    let same = same_lines c file 6 (fault_line (Frame k fault) ∷ []) written written o reads bytes is
+    (frame_refused k fault [], l.frame_is k fault refl, refl, refl, whole_of c [] written written (sym (and_then-nothing written))) in
+    t.sure (Frame k fault) refl (λ e. absurd cc) seven n ((s.untouched (Frame k fault) refl (λ e. absurd cc)).1 ∙ room)
+    (subst (λ lines. length (report lines) ≤ n) same fits)
 fault_fits c Write result n file written o source counts middle told mid reads bytes h is l s t no_read room least fits seven = absurd h
 fault_fits c Report result n file written o source counts middle told mid reads bytes h is l s t no_read room least fits seven = absurd h
 
-listing_fits : (c : Command) (r : Result Numbers Fault) (result n : ℕ) (bytes : Option (List ℕ)) (file : List ℕ) (written : Option (List ℕ)) (o : Answer) (source counts middle : Counts) (told mid : Held) → HasOutcome c → AreBytes file → bytes ≡ Some file →
+listing_fits : (c : Command) (r : Result Numbers Fault) (result n : ℕ) (bytes : Option (List ℕ)) (file : List ℕ) (written : Option (List ℕ))
+    (o : Answer) (source counts middle : Counts) (told mid : Held) → HasOutcome c → AreBytes file → bytes ≡ Some file →
     OutcomeOf c file o → IsListing c r file told.old mid.old → Lists r source counts middle told mid → TellsFault r result middle mid → IsSure r c bytes told →
     DidNotRise source.before source.now → told.room ≡ Some n → 7 ≤ n → length (report o.lines) ≤ n → result ≡ 7 → ⊥
-listing_fits c (Ok s) result n bytes file written o source counts middle told mid reads are e is l h t sure no_read room least fits seven = let d = t.done s refl in omega (arith, d.0)
-listing_fits c (Err Report) result n bytes file written o source counts middle told mid reads are e is l h t sure no_read room least fits seven = sure refl file e o is n room fits
+listing_fits c (Ok s) result n bytes file written o source counts middle told mid reads are e is l h t sure no_read room least fits seven = let d =
+    t.done s refl in omega (arith, d.0)
+listing_fits c (Err Report) result n bytes file written o source counts middle told mid reads are e is l h t sure no_read room least fits seven =
+    sure refl file e o is n room fits
 listing_fits c (Err Read) result n bytes file written o source counts middle told mid reads are e is l h t sure no_read room least fits seven =
     fault_fits c Read result n file written o source counts middle told mid reads are tt is l h t no_read room least fits seven
 listing_fits c (Err (Memory refused)) result n bytes file written o source counts middle told mid reads are e is l h t sure no_read room least fits seven =
@@ -171,29 +204,33 @@ at_most (Err Report) result (inl e) = omega arith
 at_most (Err (File fault)) result (inl e) = omega arith
 at_most (Err (Frame k fault)) result (inl e) = omega arith
 
-pub run_of_listing : (c : Command) (r : Result Numbers Fault) (result : ℕ) (bytes : Option (List ℕ)) (source sink counts middle given : Counts) (written told mid : Held) (Same Settled Unread : Type 0) → HasOutcome c → WritesNowhere c → (ReadsNothing c → ⊥) → ((k : ℕ) → c ≡ frame k true → ⊥) →
+pub run_of_listing : (c : Command) (r : Result Numbers Fault) (result : ℕ) (bytes : Option (List ℕ)) (source sink counts middle given : Counts)
+    (written told mid : Held) (Same Settled Unread : Type 0) → HasOutcome c → WritesNowhere c → (ReadsNothing c → ⊥) → ((k : ℕ) → c ≡ frame k true → ⊥) →
     ((file : List ℕ) → bytes ≡ Some file → AreBytes file) → written.old ≡ written.new → Same → mid.new ≡ told.new → middle.now ≡ counts.now →
-    ((file : List ℕ) → bytes ≡ Some file → IsListing c r file told.old mid.old) → Lists r source counts middle told mid → TellsFault r result middle mid → IsSure r c bytes told →
+    ((file : List ℕ) → bytes ≡ Some file → IsListing c r file told.old mid.old) → Lists r source counts middle told mid →
+    TellsFault r result middle mid → IsSure r c bytes told →
     IsRun c result bytes source sink counts given written told Same Settled Unread
-run_of_listing c r result bytes source sink counts middle given written told mid Same Settled Unread reads nowhere reading not_by_index are still same last_told last_count listing h t sure = record {
-  ends = λ file e.
-      let ends = listing_ends c r result file written.old source counts middle told mid nowhere last_told (listing file e) h t in
-      (ends.0, ends.1, subst (λ w. EndsBy (OutcomeOf c file) (Some c) file ⊤ ends.0 ends.1 written.old w) still ends.2, ends.3);
-  read = λ e. h.read (status_of_two r result t.reported e);
-  write = λ e. absurd (h.no_write (status_is_write r (status_told (status_of r) result 3 t.reported e (omega arith))));
-  reported = seven_has_cause r result source counts middle told mid last_count h t;
-  sure_sink = λ file e o is n room fits three. h.no_write (status_is_write r (status_told (status_of r) result 3 t.reported three (omega arith)));
-  sure_report = λ file e o is no_read no_write n room least fits seven. listing_fits c r result n bytes file written.old o source counts middle told mid reads (are file e) e is (listing file e) h t sure no_read room least fits seven;
-  memory = λ e. same;
-  file_refused = λ e. same;
-  idle = λ w. same;
-  no_write = λ w e. h.no_write (status_is_write r (status_told (status_of r) result 3 t.reported e (omega arith)));
-  unread = λ w. absurd (reading w);
-  made = λ w. absurd (reading w);
-  no_file = λ w. absurd (reading w);
-  settled = λ w e. absurd (not_both_kinds c nowhere w);
-  by_index = λ k e. absurd (not_by_index k e);
-  any_source = λ k e. absurd (not_by_index k e);
-  least_status = λ e. status_is_not_words r (status_told (status_of r) result 1 t.reported e (omega arith));
-  most_status = at_most r result t.reported;
-}
+run_of_listing c r result bytes source sink counts middle given written told mid Same Settled Unread reads nowhere reading not_by_index are still same
+    last_told last_count listing h t sure = record {
+      ends = λ file e.
+          let ends = listing_ends c r result file written.old source counts middle told mid nowhere last_told (listing file e) h t in
+          (ends.0, ends.1, subst (λ w. EndsBy (OutcomeOf c file) (Some c) file ⊤ ends.0 ends.1 written.old w) still ends.2, ends.3);
+      read = λ e. h.read (status_of_two r result t.reported e);
+      write = λ e. absurd (h.no_write (status_is_write r (status_told (status_of r) result 3 t.reported e (omega arith))));
+      reported = seven_has_cause r result source counts middle told mid last_count h t;
+      sure_sink = λ file e o is n room fits three. h.no_write (status_is_write r (status_told (status_of r) result 3 t.reported three (omega arith)));
+      sure_report = λ file e o is no_read no_write n room least fits seven. listing_fits c r result n bytes file written.old o source counts middle told
+          mid reads (are file e) e is (listing file e) h t sure no_read room least fits seven;
+      memory = λ e. same;
+      file_refused = λ e. same;
+      idle = λ w. same;
+      no_write = λ w e. h.no_write (status_is_write r (status_told (status_of r) result 3 t.reported e (omega arith)));
+      unread = λ w. absurd (reading w);
+      made = λ w. absurd (reading w);
+      no_file = λ w. absurd (reading w);
+      settled = λ w e. absurd (not_both_kinds c nowhere w);
+      by_index = λ k e. absurd (not_by_index k e);
+      any_source = λ k e. absurd (not_by_index k e);
+      least_status = λ e. status_is_not_words r (status_told (status_of r) result 1 t.reported e (omega arith));
+      most_status = at_most r result t.reported;
+    }

@@ -37,31 +37,42 @@ some_command words c e f = neither (sym e ∙ f)
     neither h = absurd cc
 
 -- ---- how it ends
-pub as_one : (words : List Word) (c : Command) (file : List ℕ) (status : ℕ) (lines : List Line) (old new : Option (List ℕ)) → command_of words ≡ Some c → EndsAsOne (OutcomeOf c file) (Some c) status lines old new →
+pub as_one : (words : List Word) (c : Command) (file : List ℕ) (status : ℕ) (lines : List Line) (old new : Option (List ℕ)) →
+    command_of words ≡ Some c → EndsAsOne (OutcomeOf c file) (Some c) status lines old new →
     EndsAs words file status lines old new
 as_one words c file status lines old new e (o, is, s, l, w) = (o, of_words words c file o e is, s, l, subst (λ r. WholeOf r o.out old new) (sym e) w)
 
-pub ends_of_words : (words : List Word) (c : Command) (file : List ℕ) (status : ℕ) (lines : List Line) (old new : Option (List ℕ)) → command_of words ≡ Some c → EndsBy (OutcomeOf c file) (Some c) file ⊤ status lines old new →
+pub ends_of_words : (words : List Word) (c : Command) (file : List ℕ) (status : ℕ) (lines : List Line) (old new : Option (List ℕ)) →
+    command_of words ≡ Some c → EndsBy (OutcomeOf c file) (Some c) file ⊤ status lines old new →
     Ends words file status lines old new
-ends_of_words words c file status lines old new e (inl (s, l, (o, is, piece))) = inl (s, l, (o, of_words words c file o e is, subst (λ r. PartOf r file o.out old new) (sym e) piece))
-ends_of_words words c file status lines old new e (inr (inl (s, l, (o, is, piece)))) = inr (inl (s, l, (o, of_words words c file o e is, subst (λ r. PartOf r file o.out old new) (sym e) piece)))
+ends_of_words words c file status lines old new e (inl (s, l, (o, is, piece))) =
+    inl (s, l, (o, of_words words c file o e is, subst (λ r. PartOf r file o.out old new) (sym e) piece))
+ends_of_words words c file status lines old new e (inr (inl (s, l, (o, is, piece)))) =
+    inr (inl (s, l, (o, of_words words c file o e is, subst (λ r. PartOf r file o.out old new) (sym e) piece)))
 ends_of_words words c file status lines old new e (inr (inr (inl (s, l, free, w)))) = inr (inr (inl (s, l, some_command words c e, w)))
 ends_of_words words c file status lines old new e (inr (inr (inr h))) = inr (inr (inr (as_one words c file status lines old new e h)))
 
 -- ---- where no device failed
 abbrev pub Headline : List Word → List ℕ → ℕ → Option (List ℕ) → Option (List ℕ) → Option (List ℕ) → Option (List ℕ) → Type 0
-Headline words file result old new told_old told_new = (result ≡ 4) ⊎ ((lines : List Line) × EndsAs words file result lines old new × (told_new ≡ and_then told_old (report lines)))
+Headline words file result old new told_old told_new = (result ≡ 4)
+    ⊎ ((lines : List Line) × EndsAs words file result lines old new × (told_new ≡ and_then told_old (report lines)))
 
-pub run_headline : (words : List Word) (c : Command) (file : List ℕ) (result : ℕ) (bytes : Option (List ℕ)) (source sink counts given : Counts) (written told : Held) (Same Settled Unread : Type 0) → command_of words ≡ Some c → IsRun c result bytes source sink counts given written told Same Settled Unread → bytes ≡ Some file →
-    DidNotRise source.before source.now → DidNotRise sink.before sink.now → DidNotRise counts.before counts.now → Headline words file result written.old written.new told.old told.new
-run_headline words c file result bytes source sink counts given written told Same Settled Unread e r is no_read no_write no_report = go (r.ends file is).0 (r.ends file is).1 (r.ends file is).2 (r.ends file is).3
+pub run_headline : (words : List Word) (c : Command) (file : List ℕ) (result : ℕ) (bytes : Option (List ℕ)) (source sink counts given : Counts)
+    (written told : Held) (Same Settled Unread : Type 0) → command_of words ≡ Some c →
+    IsRun c result bytes source sink counts given written told Same Settled Unread → bytes ≡ Some file →
+    DidNotRise source.before source.now → DidNotRise sink.before sink.now → DidNotRise counts.before counts.now →
+    Headline words file result written.old written.new told.old told.new
+run_headline words c file result bytes source sink counts given written told Same Settled Unread e r is no_read no_write no_report =
+    go (r.ends file is).0 (r.ends file is).1 (r.ends file is).2 (r.ends file is).3
   where
-    go : (status : ℕ) (lines : List Line) → EndsBy (OutcomeOf c file) (Some c) file ⊤ status lines written.old written.new → Reports status lines result told.old told.new → Headline words file result written.old written.new told.old told.new
+    go : (status : ℕ) (lines : List Line) → EndsBy (OutcomeOf c file) (Some c) file ⊤ status lines written.old written.new →
+        Reports status lines result told.old told.new → Headline words file result written.old written.new told.old told.new
     go status lines ends (inr (seven, piece)) = absurd (no_report (r.reported seven))
     go status lines (inl (s, l, short)) (inl (same, w)) = absurd (no_read (r.read (same ∙ s)))
     go status lines (inr (inl (s, l, short))) (inl (same, w)) = absurd (no_write (r.write (same ∙ s)))
     go status lines (inr (inr (inl (s, l, free, still)))) (inl (same, w)) = inl (same ∙ s)
-    go status lines (inr (inr (inr h))) (inl (same, w)) = inr (lines, subst (λ n. EndsAs words file n lines written.old written.new) (sym same) (as_one words c file status lines written.old written.new e h), w)
+    go status lines (inr (inr (inr h))) (inl (same, w)) =
+        inr (lines, subst (λ n. EndsAs words file n lines written.old written.new) (sym same) (as_one words c file status lines written.old written.new e h), w)
 
 -- a command that is done has status 0
 done_is_0 : (c : Command) (file : List ℕ) (form : Form) (o : Answer) → Does c file form o → o.status ≡ 0
@@ -80,7 +91,8 @@ done_is_0 (encode_dsf level) file form o e = ap (λ (a : Answer). a.status) e
 done_is_0 decode_dsf file form o (out, to_dsf, e) = ap (λ (a : Answer). a.status) e
 done_is_0 (range pairs) file form o (sound, means, e) = ap (λ (a : Answer). a.status) e
 
-pub run_completes : (words : List Word) (c : Command) (file : List ℕ) (result : ℕ) (old new told_old told_new : Option (List ℕ)) → command_of words ≡ Some c → NoFrameIsRefused words file → Headline words file result old new told_old told_new → (result ≡ 0) ⊎ (result ≡ 4)
+pub run_completes : (words : List Word) (c : Command) (file : List ℕ) (result : ℕ) (old new told_old told_new : Option (List ℕ)) →
+    command_of words ≡ Some c → NoFrameIsRefused words file → Headline words file result old new told_old told_new → (result ≡ 0) ⊎ (result ≡ 4)
 run_completes words c file result old new told_old told_new e none (inl four) = inr four
 run_completes words c file result old new told_old told_new e (d, is, accepts, none) (inr (lines, (o, outcome, status, same, w), told)) =
     inl (sym status ∙ go (subst (λ q. OfCommand d file q o) accepts (of_command words d file o is outcome)))
@@ -90,16 +102,22 @@ run_completes words c file result old new told_old told_new e (d, is, accepts, n
     go (inr h) = done_is_0 d file (accepted file) o h.1
 
 -- ---- refused files and frames
-refused_file : (c : Command) (file : List ℕ) (o : Answer) (r : Option FileFault) → refusal c file ≡ r → OfCommand c file r o → o.status ≡ 5 → (fault : FileFault) × (refusal c file ≡ Some fault) × (o.lines ≡ file_line fault ∷ [])
+refused_file : (c : Command) (file : List ℕ) (o : Answer) (r : Option FileFault) → refusal c file ≡ r → OfCommand c file r o → o.status ≡ 5 →
+    (fault : FileFault) × (refusal c file ≡ Some fault) × (o.lines ≡ file_line fault ∷ [])
 refused_file c file o (Some fault) e h five = (fault, e, ap (λ (a : Answer). a.lines) h)
 refused_file c file o None e (inl s) five = let six = ap (λ (a : Answer). a.status) s.answer in absurd (omega arith)
 refused_file c file o None e (inr h) five = let zero_status = done_is_0 c file (accepted file) o h.1 in absurd (omega arith)
 
-pub run_refused : (words : List Word) (c : Command) (file : List ℕ) (result : ℕ) (bytes : Option (List ℕ)) (source sink counts given : Counts) (written told : Held) (Same Settled Unread : Type 0) → command_of words ≡ Some c → IsRun c result bytes source sink counts given written told Same Settled Unread → bytes ≡ Some file → result ≡ 5 →
+pub run_refused : (words : List Word) (c : Command) (file : List ℕ) (result : ℕ) (bytes : Option (List ℕ)) (source sink counts given : Counts)
+    (written told : Held) (Same Settled Unread : Type 0) → command_of words ≡ Some c →
+    IsRun c result bytes source sink counts given written told Same Settled Unread → bytes ≡ Some file → result ≡ 5 →
     (fault : FileFault) × IsRefused words file fault × (told.new ≡ and_then told.old (report (file_line fault ∷ [])))
-run_refused words c file result bytes source sink counts given written told Same Settled Unread e r is five = go (r.ends file is).0 (r.ends file is).1 (r.ends file is).2 (r.ends file is).3
+run_refused words c file result bytes source sink counts given written told Same Settled Unread e r is five =
+    go (r.ends file is).0 (r.ends file is).1 (r.ends file is).2 (r.ends file is).3
   where
-    go : (status : ℕ) (lines : List Line) → EndsBy (OutcomeOf c file) (Some c) file ⊤ status lines written.old written.new → Reports status lines result told.old told.new → (fault : FileFault) × IsRefused words file fault × (told.new ≡ and_then told.old (report (file_line fault ∷ [])))
+    go : (status : ℕ) (lines : List Line) → EndsBy (OutcomeOf c file) (Some c) file ⊤ status lines written.old written.new →
+        Reports status lines result told.old told.new → (fault : FileFault) × IsRefused words file fault
+        × (told.new ≡ and_then told.old (report (file_line fault ∷ [])))
     go status lines ends (inr (seven, piece)) = absurd (omega arith)
     go status lines (inl (s, l, short)) (inl (same, w)) = absurd (omega arith)
     go status lines (inr (inl (s, l, short))) (inl (same, w)) = absurd (omega arith)
@@ -108,7 +126,8 @@ run_refused words c file result bytes source sink counts given written told Same
         let f = refused_file c file o (refusal c file) refl outcome (s ∙ sym same ∙ five) in
         (f.0, (c, e, f.1), w ∙ ap (λ ls. and_then told.old (report ls)) (sym l ∙ f.2))
 
-refused_frame : (c : Command) (file : List ℕ) (o : Answer) (r : Option FileFault) → OfCommand c file r o → o.status ≡ 6 → (k : ℕ) × (fault : FrameFault) × (out : List ℕ) × (o ≡ frame_refused k fault out)
+refused_frame : (c : Command) (file : List ℕ) (o : Answer) (r : Option FileFault) → OfCommand c file r o → o.status ≡ 6 → (k : ℕ)
+    × (fault : FrameFault) × (out : List ℕ) × (o ≡ frame_refused k fault out)
 refused_frame c file o (Some fault) h six = let five = ap (λ (a : Answer). a.status) h in absurd (omega arith)
 refused_frame c file o None (inl s) six = (s.stop.0, s.fault, s.out, s.answer)
 refused_frame c file o None (inr h) six = let zero_status = done_is_0 c file (accepted file) o h.1 in absurd (omega arith)
@@ -122,7 +141,8 @@ whole_of_refused : (c : Command) (file : List ℕ) (o : Answer) (r : Option File
     WholeOf (Some c) o.out old new → new ≡ and_then old o.out
 whole_of_refused (encode level) file o (Some fault) old new h six w = let five = ap (λ (a : Answer). a.status) h in absurd (omega arith)
 whole_of_refused (encode level) file o None old new (inl s) six w = absurd (not_nothing s.before s.behind s.stop s.is_run)
-whole_of_refused (encode level) file o None old new (inr h) six w = let zero_status = done_is_0 (encode level) file (accepted file) o h.1 in absurd (omega arith)
+whole_of_refused (encode level) file o None old new (inr h) six w = let zero_status =
+    done_is_0 (encode level) file (accepted file) o h.1 in absurd (omega arith)
 whole_of_refused decode file o r old new h six w = w
 whole_of_refused (cut first last) file o r old new h six w = w
 whole_of_refused (frame k by_index) file o r old new h six w = w
@@ -141,13 +161,18 @@ whole_of_refused (range pairs) file o r old new h six w = w
 
 abbrev FrameIsTold : List Word → List ℕ → Held → Held → Type 0
 FrameIsTold words file written told =
-    (k : ℕ) × (fault : FrameFault) × (out : List ℕ) × Outcome words file (frame_refused k fault out) × (written.new ≡ and_then written.old out) × (told.new ≡ and_then told.old (report (frame_fault_line k fault ∷ [])))
+    (k : ℕ) × (fault : FrameFault) × (out : List ℕ) × Outcome words file (frame_refused k fault out) × (written.new ≡ and_then written.old out)
+    × (told.new ≡ and_then told.old (report (frame_fault_line k fault ∷ [])))
 
-pub run_refused_frame : (words : List Word) (c : Command) (file : List ℕ) (result : ℕ) (bytes : Option (List ℕ)) (source sink counts given : Counts) (written told : Held) (Same Settled Unread : Type 0) → command_of words ≡ Some c → IsRun c result bytes source sink counts given written told Same Settled Unread → bytes ≡ Some file → result ≡ 6 →
+pub run_refused_frame : (words : List Word) (c : Command) (file : List ℕ) (result : ℕ) (bytes : Option (List ℕ)) (source sink counts given : Counts)
+    (written told : Held) (Same Settled Unread : Type 0) → command_of words ≡ Some c →
+    IsRun c result bytes source sink counts given written told Same Settled Unread → bytes ≡ Some file → result ≡ 6 →
     FrameIsTold words file written told
-run_refused_frame words c file result bytes source sink counts given written told Same Settled Unread e r is six = go (r.ends file is).0 (r.ends file is).1 (r.ends file is).2 (r.ends file is).3
+run_refused_frame words c file result bytes source sink counts given written told Same Settled Unread e r is six =
+    go (r.ends file is).0 (r.ends file is).1 (r.ends file is).2 (r.ends file is).3
   where
-    go : (status : ℕ) (lines : List Line) → EndsBy (OutcomeOf c file) (Some c) file ⊤ status lines written.old written.new → Reports status lines result told.old told.new → FrameIsTold words file written told
+    go : (status : ℕ) (lines : List Line) → EndsBy (OutcomeOf c file) (Some c) file ⊤ status lines written.old written.new →
+        Reports status lines result told.old told.new → FrameIsTold words file written told
     go status lines ends (inr (seven, piece)) = absurd (omega arith)
     go status lines (inl (s, l, short)) (inl (same, w)) = absurd (omega arith)
     go status lines (inr (inl (s, l, short))) (inl (same, w)) = absurd (omega arith)
@@ -158,28 +183,42 @@ run_refused_frame words c file result bytes source sink counts given written tol
           f.1,
           f.2,
           of_words words c file (frame_refused f.0 f.1 f.2) e (subst (OutcomeOf c file) f.3 outcome),
-          whole_of_refused c file o (refusal c file) written.old written.new outcome (s ∙ sym same ∙ six) still ∙ ap (λ (a : Answer). and_then written.old a.out) f.3,
+          whole_of_refused c file o (refusal c file) written.old written.new outcome (s ∙ sym same ∙ six) still
+              ∙ ap (λ (a : Answer). and_then written.old a.out) f.3,
           w ∙ ap (λ ls. and_then told.old (report ls)) (sym l ∙ ap (λ (a : Answer). a.lines) f.3),
         )
 
 -- ---- words that aren't understood
 pub no_command : (words : List Word) (file : List ℕ) (old : Option (List ℕ)) → command_of words ≡ None → EndsAs words file 1 (words_line ∷ []) old old
-no_command words file old e =
-    (not_understood, subst (λ r. OfWords r file not_understood) (sym e) refl, refl, refl, subst (λ r. WholeOf r [] old old) (sym e) (sym (and_then-nothing old)))
+no_command words file old e = (
+  not_understood,
+  subst (λ r. OfWords r file not_understood) (sym e) refl,
+  refl,
+  refl,
+  subst (λ r. WholeOf r [] old old) (sym e)
+      (sym (and_then-nothing old)),
+)
 
 pub only_words_line : (words : List Word) (file : List ℕ) (o : Answer) → command_of words ≡ None → Outcome words file o → o.lines ≡ words_line ∷ []
 only_words_line words file o e h =
     let is : o ≡ not_understood = subst (λ r. OfWords r file o) e h in
     ap (λ (a : Answer). a.lines) is
 
-pub none_headline : (words : List Word) (file : List ℕ) (result : ℕ) (bytes : List ℕ) (old told_old told_new : Option (List ℕ)) → command_of words ≡ None → bytes ≡ report (words_line ∷ []) →
+pub none_headline : (words : List Word) (file : List ℕ) (result : ℕ) (bytes : List ℕ) (old told_old told_new : Option (List ℕ)) →
+    command_of words ≡ None → bytes ≡ report (words_line ∷ []) →
     (result ≡ 1) ⊎ (result ≡ 7) → (result ≡ 1 → told_new ≡ and_then told_old bytes) → (result ≡ 7 → ⊥) → Headline words file result old old told_old told_new
 none_headline words file result bytes old told_old told_new e b (inl is) whole fine =
-    inr (words_line ∷ [], subst (λ status. EndsAs words file status (words_line ∷ []) old old) (sym is) (no_command words file old e), whole is ∙ ap (and_then told_old) b)
+    inr (
+      words_line ∷ [],
+      subst (λ status. EndsAs words file status (words_line ∷ []) old old) (sym is) (no_command words file old e),
+      whole is
+          ∙ ap (and_then told_old) b,
+    )
 none_headline words file result bytes old told_old told_new e b (inr is) whole fine = absurd (fine is)
 
 -- the line is reported, or the report failed
 pub reported : (status result : ℕ) (line : Line) (bytes : List ℕ) (old new : Option (List ℕ)) → bytes ≡ report (line ∷ []) →
-    (result ≡ status) ⊎ (result ≡ 7) → (result ≡ status → new ≡ and_then old bytes) → (result ≡ 7 → IsCutShort old bytes new) → Reports status (line ∷ []) result old new
+    (result ≡ status) ⊎ (result ≡ 7) → (result ≡ status → new ≡ and_then old bytes) → (result ≡ 7 → IsCutShort old bytes new) →
+    Reports status (line ∷ []) result old new
 reported status result line bytes old new b (inl e) whole short = inl (e, whole e ∙ ap (and_then old) b)
 reported status result line bytes old new b (inr e) whole short = inr (e, subst (λ w. IsCutShort old w new) b (short e))

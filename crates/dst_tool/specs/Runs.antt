@@ -134,14 +134,17 @@ pub record Held : Type 0 where
 
 -- What one command leaves over a source that may tell its bytes: `Same` says that the sink is what it was, `Settled` that all it holds is
 -- where it keeps it for good, and `Unread` that the source is what it was.
-pub record IsRun (c : Command) (status : ℕ) (bytes : Option (List ℕ)) (source sink report_counts given : Counts) (written told : Held) (Same Settled Unread : Type 0) : Type 0 where
+pub record IsRun (c : Command) (status : ℕ) (bytes : Option (List ℕ)) (source sink report_counts given : Counts) (written told : Held)
+    (Same Settled Unread : Type 0) : Type 0 where
   pub ends : (file : List ℕ) → bytes ≡ Some file →
-      (wanted : ℕ) × (lines : List Line) × EndsBy (OutcomeOf c file) (Some c) file ⊤ wanted lines written.old written.new × Reports wanted lines status told.old told.new
+      (wanted : ℕ) × (lines : List Line) × EndsBy (OutcomeOf c file) (Some c) file ⊤ wanted lines written.old written.new
+      × Reports wanted lines status told.old told.new
   pub read : status ≡ 2 → Rose source.before source.now
   pub write : status ≡ 3 → Rose sink.before sink.now
   pub reported : status ≡ 7 → Rose report_counts.before report_counts.now
   pub sure_sink : (file : List ℕ) → bytes ≡ Some file → (o : Answer) → OutcomeOf c file o → (n : ℕ) → written.room ≡ Some n → length o.out ≤ n → status ≡ 3 → ⊥
-  pub sure_report : (file : List ℕ) → bytes ≡ Some file → (o : Answer) → OutcomeOf c file o → DidNotRise source.before source.now → DidNotRise sink.before sink.now →
+  pub sure_report : (file : List ℕ) → bytes ≡ Some file → (o : Answer) → OutcomeOf c file o → DidNotRise source.before source.now →
+      DidNotRise sink.before sink.now →
       (n : ℕ) → told.room ≡ Some n → 7 ≤ n → length (report o.lines) ≤ n → status ≡ 7 → ⊥
   pub memory : status ≡ 4 → Same
   pub file_refused : status ≡ 5 → Same
@@ -149,7 +152,8 @@ pub record IsRun (c : Command) (status : ℕ) (bytes : Option (List ℕ)) (sourc
   pub no_write : WritesNowhere c → status ≢ 3
   pub unread : ReadsNothing c → Unread
   pub made : ReadsNothing c →
-      (wanted : ℕ) × (lines : List Line) × EndsBy (OutcomeOf c []) (Some c) [] ⊤ wanted lines written.old written.new × Reports wanted lines status told.old told.new
+      (wanted : ℕ) × (lines : List Line) × EndsBy (OutcomeOf c []) (Some c) [] ⊤ wanted lines written.old written.new
+      × Reports wanted lines status told.old told.new
   pub no_file : ReadsNothing c → (status ≢ 2) × (status ≢ 5) × (status ≢ 6)
   pub settled : WritesFile c → status ≡ 0 → Settled
   pub by_index : (k : ℕ) → c ≡ frame k true → (file : List ℕ) → bytes ≡ Some file → given.now ≤ given.before + most_given (sound_bytes_of (accepted file))

@@ -23,6 +23,7 @@ use filter_analyser::LevelPicker;
 use frame_crew::Gate;
 use std::alloc::{AllocError, Global};
 use std::thread::Threads;
+use thiserror::Error;
 
 // How many workers a run has.
 const WORKERS: u32 = 4;
@@ -31,9 +32,10 @@ const WORKERS: u32 = 4;
 const LEVEL: u32 = 2;
 
 /// Why made sound wasn't coded and decoded in memory.
-#[derive(Clone, Copy, Debug, Drop, PartialEq, Eq)]
+#[derive(Clone, Copy, Debug, Drop, PartialEq, Eq, Error)]
 pub enum RunFault {
     /// Memory was refused.
+    #[error("memory")]
     Memory(AllocError),
 }
 

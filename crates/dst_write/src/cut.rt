@@ -20,6 +20,7 @@ use dsdiff_chunks::{CopyFault, OpenFault};
 use dst_commands::open_file;
 use dst_streams::{Sink, Source};
 use std::alloc::Global;
+use thiserror::Error;
 
 /// Bytes that are copied at a time.
 const BUFFER: usize = 65_536;
@@ -31,11 +32,13 @@ pub struct Cut {
 }
 
 /// Why frames weren't cut out.
-#[derive(Clone, Copy, Debug, Drop, PartialEq, Eq)]
+#[derive(Clone, Copy, Debug, Drop, PartialEq, Eq, Error)]
 pub enum CutFault {
     /// The source failed, memory was refused, or the file breaks a rule of the command.
+    #[error("{0}")]
     Source(OpenFault),
     /// The sink failed.
+    #[error("write fault")]
     Write,
 }
 

@@ -27,6 +27,7 @@ use frame_index::{Entry, Index};
 use lru::LruCache;
 use std::alloc::{AllocError, Global};
 use std::marker::Model;
+use thiserror::Error;
 
 /// How many frames a read decoded.
 #[derive(Clone, Copy, Debug, PartialEq, Eq)]
@@ -35,11 +36,13 @@ pub struct Reading {
 }
 
 /// Why a part wasn't read.
-#[derive(Clone, Copy, Debug, Drop, PartialEq, Eq)]
+#[derive(Clone, Copy, Debug, Drop, PartialEq, Eq, Error)]
 pub enum RangeFault {
     /// The source failed.
+    #[error("read fault")]
     Read,
     /// The first frame of the part that isn't kept and is refused.
+    #[error("frame {frame} refused: {fault}")]
     Frame { frame: u32, fault: FrameFault },
 }
 

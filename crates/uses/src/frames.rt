@@ -9,11 +9,14 @@ use dst_frames::{Scratch, decode_frame};
 use dst_num::{Channels, FrameFault};
 use frame_header::{FrameView, view_frame};
 use std::alloc::{AllocError, Global};
+use thiserror::Error;
 
 /// Why a frame's sound isn't there: memory was refused, or the frame is.
-#[derive(Clone, Copy, Debug, Drop, PartialEq, Eq)]
+#[derive(Clone, Copy, Debug, Drop, PartialEq, Eq, Error)]
 pub enum PlayFault {
+    #[error("memory")]
     Memory(AllocError),
+    #[error("frame refused: {0}")]
     Frame(FrameFault),
 }
 

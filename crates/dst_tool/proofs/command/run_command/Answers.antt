@@ -13,7 +13,10 @@ use Rattle.dst_tool.specs.declared.answers.Numbers.{Numbers}
 use Rattle.dst_tool.specs.declared.answers.Fault.{Fault}
 use Rattle.dst_tool.specs.declared.answers.Fault.TheVariants.{Read, Write, Memory, Report, File, Frame}
 use Rattle.dst_commands.specs.Commands.{OutcomeOf}
-use Rattle.dst_tool.proofs.OneLine.{IsAnswer, few_given, most_for_any, TellsLine, run_of_answer, at_file, same_run, nothing_added, nothing_cut, finished_alone, cut_or_nothing, encoding_is_no_frame, decoding_is_no_frame, encoding_dsf_is_no_frame, decoding_dsf_is_no_frame, cutting_is_no_frame, making_is_no_frame, running_is_no_frame, checking_is_no_frame, showing_is_no_frame, showing_one_is_no_frame, listing_is_no_frame}
+use Rattle.dst_tool.proofs.OneLine.{IsAnswer, few_given, most_for_any, TellsLine, run_of_answer, at_file, same_run, nothing_added, nothing_cut}
+use Rattle.dst_tool.proofs.OneLine.{finished_alone, cut_or_nothing, encoding_is_no_frame, decoding_is_no_frame, encoding_dsf_is_no_frame}
+use Rattle.dst_tool.proofs.OneLine.{decoding_dsf_is_no_frame, cutting_is_no_frame, making_is_no_frame, running_is_no_frame, checking_is_no_frame}
+use Rattle.dst_tool.proofs.OneLine.{showing_is_no_frame, showing_one_is_no_frame, listing_is_no_frame}
 use Rattle.dst_read.specs.declared.faults.DecodeFault.{DecodeFault}
 use Rattle.dst_read.specs.declared.faults.DecodeFault.TheVariants as decoding
 use Rattle.dst_make.specs.declared.make.MakeFault.TheVariants as making
@@ -21,7 +24,9 @@ use Rattle.dst_read.specs.declared.faults.ShowFault.TheVariants as showing
 use Rattle.dst_read.specs.declared.faults.ListFault.TheVariants as listing
 use Rattle.dst_tool.specs.Runs.{WholeOf}
 use Rattle.dst_tool.specs.Answers.{answered, done_line, line_of, status_of, of_check, of_cut, of_decode, of_encode, of_list, of_make, of_run, of_show}
-use Rattle.dst_tool.proofs.Inverting.{back_from, encode_again, encode_refuses, encode_reports, to_encode, if_done, check_again, check_reports, check_writes, decode_again, decode_reports, if_answered, list_again, list_refuses, list_writes, show_again, show_writes, to_check, to_cut, to_decode, to_list, to_show}
+use Rattle.dst_tool.proofs.Inverting.{back_from, encode_again, encode_refuses, encode_reports, to_encode, if_done, check_again, check_reports}
+use Rattle.dst_tool.proofs.Inverting.{check_writes, decode_again, decode_reports, if_answered, list_again, list_refuses, list_writes, show_again}
+use Rattle.dst_tool.proofs.Inverting.{show_writes, to_check, to_cut, to_decode, to_list, to_show}
 use Rattle.dst_tool.proofs.Inverting.{cut_again, cut_refuses, cut_reports, made_memory, made_no_other, made_write, ran_no_other}
 use Rattle.dst_write.specs.declared.faults.Encoded.{Encoded}
 use Rattle.dst_make.specs.Making.{made_file}
@@ -61,11 +66,13 @@ returns-in-Check g c =
     let written = g.K.Sink.written c.args.sink.now in
     let same = ap command_seen c.in-Check.is in
     let asks = asked.check in
-    let one : (file : List ℕ) → bytes ≡ Some file → One (OutcomeOf asks file) = λ file told. command_has_one_outcome asks file tt (g.met.S.Source.told_are_bytes c.args.source.now file told) in
+    let one : (file : List ℕ) → bytes ≡ Some file → One (OutcomeOf asks file) =
+    λ file told. command_has_one_outcome asks file tt (g.met.S.Source.told_are_bytes c.args.source.now file told) in
     same_run same (run_of_answer asks r c.tell.result bytes _ _ _ _ _ _ _ _ _ tt (λ file told. g.met.S.Source.told_are_bytes c.args.source.now file told)
     (λ file told. record {
       finished = finished_alone asks r written file (subst (λ r. IfOk r (λ s. OutcomeOf asks file (done [] (done_line asks s ∷ [])))) (sym is)
-          (if_answered of_checked of_check d _ (at_file d (λ s file. OutcomeOf asks file (done [] (check_line s.frames s.unread ∷ []))) bytes file told e.sound)));
+          (if_answered of_checked of_check d _ (at_file d (λ s file. OutcomeOf asks file (done [] (check_line s.frames s.unread ∷ []))) bytes file
+          told e.sound)));
       file_is = λ fault h. e.file fault (back (File fault) h) file told;
       untouched = λ fault h. refl;
       frame_is = λ k fault h. ([], e.frame k fault (back (Frame k fault) h) file told, nothing_added written);
@@ -89,7 +96,10 @@ returns-in-Check g c =
       any_source = λ k h. absurd (checking_is_no_frame k h);
       no_report = λ h. check_reports of_checked d (sym is ∙ h);
     })
-    (subst (λ q. TellsLine (status_of r) (line_of q r) c.tell.result (record { before = g.R.Sink.faults c.args.report.now; now = g.R.Sink.faults c.tell.new.report }) (record { old = g.R.Sink.written c.args.report.now; new = g.R.Sink.written c.tell.new.report; room = g.R.Sink.room c.args.report.now })) same (record { reported = t.reported; whole = t.whole; cut_short = t.cut_short; cause = t.cause; sure = t.sure })))
+    (subst (λ q. TellsLine (status_of r) (line_of q r) c.tell.result
+    (record { before = g.R.Sink.faults c.args.report.now; now = g.R.Sink.faults c.tell.new.report })
+    (record { old = g.R.Sink.written c.args.report.now; new = g.R.Sink.written c.tell.new.report; room = g.R.Sink.room c.args.report.now }))
+    same (record { reported = t.reported; whole = t.whole; cut_short = t.cut_short; cause = t.cause; sure = t.sure })))
 
 pub returns-in-Make : goal.returns-in-Make
 returns-in-Make g c =
@@ -106,9 +116,11 @@ returns-in-Make g c =
     let frames = c.in-Make.frames in
     let f = c.in-Make.channels in
     let asks = asks_make start frames f in
-    let other : (fault : Fault) → (fault ≢ Write) → ((refused : AllocError) → fault ≢ Memory refused) → r ≡ Err fault → ⊥ = λ fault p q h. made_no_other of_made d fault (p, q) (sym is ∙ h) in
+    let other : (fault : Fault) → (fault ≢ Write) → ((refused : AllocError) → fault ≢ Memory refused) → r ≡ Err fault → ⊥ =
+    λ fault p q h. made_no_other of_made d fault (p, q) (sym is ∙ h) in
     let no_write : r ≡ Err Write → d ≡ Err making.Write = λ h. made_write of_made d (sym is ∙ h) in
-    let one : (file : List ℕ) → bytes ≡ Some file → One (OutcomeOf asks file) = λ file told. command_has_one_outcome asks file tt (g.met.S.Source.told_are_bytes c.args.source.now file told) in
+    let one : (file : List ℕ) → bytes ≡ Some file → One (OutcomeOf asks file) =
+    λ file told. command_has_one_outcome asks file tt (g.met.S.Source.told_are_bytes c.args.source.now file told) in
     let answer : (file : List ℕ) → IsAnswer asks r file written new = λ file. record {
       finished = subst (λ r. IfOk r (λ s. (out : List ℕ) × OutcomeOf asks file (done out (done_line asks s ∷ [])) × (new ≡ and_then written out))) (sym is)
           (if_answered of_made of_make d _ (made_whole d start frames f file written new e.written e.frames));
@@ -120,13 +132,15 @@ returns-in-Make g c =
       memory = λ refused h. made_memory of_made d _ (λ fault q. ap g.K.Sink.written (e.memory fault q)) refused (sym is ∙ h);
       no_report = λ h. other Report (λ q. absurd cc) (λ x q. absurd cc) h;
     } in
-    same_run same (run_of_answer asks r c.tell-in-Make.result bytes _ _ _ _ _ _ _ _ _ tt (λ file told. g.met.S.Source.told_are_bytes c.args.source.now file told)
+    same_run same (run_of_answer asks r c.tell-in-Make.result bytes _ _ _ _ _ _ _ _ _ tt
+    (λ file told. g.met.S.Source.told_are_bytes c.args.source.now file told)
     (λ file told. answer file)
     (λ w. answer [])
     (record {
       read = λ h. absurd (other Read (λ q. absurd cc) (λ x q. absurd cc) h);
       write = λ h. e.write (no_write h);
-      sure = λ h file told o outcome n room fits. e.sure (no_write h) n room (subst (λ w. length w ≤ n) (made_out start frames f file o outcome (one file told)) fits);
+      sure = λ h file told o outcome n room fits. e.sure (no_write h) n room
+          (subst (λ w. length w ≤ n) (made_out start frames f file o outcome (one file told)) fits);
       memory = λ refused h. made_memory of_made d _ (λ fault q. e.memory fault q) refused (sym is ∙ h);
       untouched = λ fault h. absurd (other (File fault) (λ q. absurd cc) (λ x q. absurd cc) h);
       idle = λ w. absurd w;
@@ -162,7 +176,8 @@ returns-in-MakeRun g c =
     let frames = c.in-MakeRun.frames in
     let f = c.in-MakeRun.channels in
     let asks = asks_run start frames f in
-    let other : (fault : Fault) → ((refused : AllocError) → fault ≢ Memory refused) → r ≡ Err fault → ⊥ = λ fault q h. ran_no_other of_ran d fault q (sym is ∙ h) in
+    let other : (fault : Fault) → ((refused : AllocError) → fault ≢ Memory refused) → r ≡ Err fault → ⊥ =
+    λ fault q h. ran_no_other of_ran d fault q (sym is ∙ h) in
     let answer : (file : List ℕ) → IsAnswer asks r file written written = λ file. record {
       finished = finished_alone asks r written file (subst (λ r. IfOk r (λ s. OutcomeOf asks file (done [] (done_line asks s ∷ [])))) (sym is)
           (if_answered of_ran of_run d _ (run_done d start frames f file e.shape e.frames e.line)));
@@ -173,7 +188,8 @@ returns-in-MakeRun g c =
       memory = λ refused h. refl;
       no_report = λ h. other Report (λ x q. absurd cc) h;
     } in
-    same_run same (run_of_answer asks r c.tell-in-MakeRun.result bytes _ _ _ _ _ _ _ _ _ tt (λ file told. g.met.S.Source.told_are_bytes c.args.source.now file told)
+    same_run same (run_of_answer asks r c.tell-in-MakeRun.result bytes _ _ _ _ _ _ _ _ _ tt
+    (λ file told. g.met.S.Source.told_are_bytes c.args.source.now file told)
     (λ file told. answer file)
     (λ w. answer [])
     (record {
@@ -210,12 +226,21 @@ returns-in-Show g c =
     let written = g.K.Sink.written c.args.sink.now in
     let same = ap command_seen c.in-Show.is in
     let asks = asked.show in
-    same_run same (run_of_listing asks r c.tell_fault.result bytes _ _ _ (record { before = g.R.Sink.faults c.show_file-answer.new.report; now = g.R.Sink.faults c.tell_fault.new.report }) _ _ _
-    (record { old = g.R.Sink.written c.show_file-answer.new.report; new = g.R.Sink.written c.tell_fault.new.report; room = g.R.Sink.room c.show_file-answer.new.report }) _ _ _ tt tt (λ w. w) (λ k h. showing_is_no_frame k h)
+    same_run same (run_of_listing asks r c.tell_fault.result bytes _ _ _
+    (record { before = g.R.Sink.faults c.show_file-answer.new.report; now = g.R.Sink.faults c.tell_fault.new.report }) _ _ _
+    (record {
+      old = g.R.Sink.written c.show_file-answer.new.report;
+      new = g.R.Sink.written c.tell_fault.new.report;
+      room =
+          g.R.Sink.room c.show_file-answer.new.report;
+    }) _ _ _ tt tt (λ w. w) (λ k h. showing_is_no_frame k h)
     (λ file told. g.met.S.Source.told_are_bytes c.args.source.now file told) refl refl refl refl
     (λ file told. record {
-      lines = subst (λ r. IfOk r (λ s. (lines : List Line) × OutcomeOf asks file (done [] lines) × (g.R.Sink.written c.show_file-answer.new.report ≡ and_then (g.R.Sink.written c.args.report.now) (report lines)))) (sym is)
-          (if_answered of_reported of_show d _ (at_file d (λ s file. (lines : List Line) × OutcomeOf asks file (done [] lines) × (g.R.Sink.written c.show_file-answer.new.report ≡ and_then (g.R.Sink.written c.args.report.now) (report lines))) bytes file told e.lines));
+      lines = subst (λ r. IfOk r (λ s. (lines : List Line) × OutcomeOf asks file (done [] lines)
+          × (g.R.Sink.written c.show_file-answer.new.report ≡ and_then (g.R.Sink.written c.args.report.now) (report lines)))) (sym is)
+          (if_answered of_reported of_show d _ (at_file d
+          (λ s file. (lines : List Line) × OutcomeOf asks file (done [] lines)
+          × (g.R.Sink.written c.show_file-answer.new.report ≡ and_then (g.R.Sink.written c.args.report.now) (report lines))) bytes file told e.lines));
       file_is = λ fault h. e.file fault (back (File fault) h) file told;
       frame_is = λ k fault h. e.frame k fault (back (Frame k fault) h) file told;
       some = let one = command_has_one_outcome asks file tt (g.met.S.Source.told_are_bytes c.args.source.now file told) in (one.0, one.1);
@@ -225,7 +250,9 @@ returns-in-Show g c =
       read = λ h. e.read (back Read h);
       no_write = λ h. show_writes of_reported d (sym is ∙ h);
       reported = λ h. e.reported (back Report h);
-      untouched = λ fault h other. let still = e.untouched (to_show fault) (back fault h) (λ same. other_report fault other h same) in (ap g.R.Sink.written still, ap g.R.Sink.room still, ap g.R.Sink.faults still);
+      untouched = λ fault h other. let still =
+          e.untouched (to_show fault) (back fault h)
+          (λ same. other_report fault other h same) in (ap g.R.Sink.written still, ap g.R.Sink.room still, ap g.R.Sink.faults still);
     })
     (record {
       reported = t.reported;
@@ -258,12 +285,22 @@ returns-in-ShowFrame g c =
     let written = g.K.Sink.written c.args.sink.now in
     let same = ap command_seen c.in-ShowFrame.is in
     let asks = asked.show_frame c.in-ShowFrame.frame in
-    same_run same (run_of_listing asks r c.tell_fault-in-ShowFrame.result bytes _ _ _ (record { before = g.R.Sink.faults c.show_file-answer-in-ShowFrame.new.report; now = g.R.Sink.faults c.tell_fault-in-ShowFrame.new.report }) _ _ _
-    (record { old = g.R.Sink.written c.show_file-answer-in-ShowFrame.new.report; new = g.R.Sink.written c.tell_fault-in-ShowFrame.new.report; room = g.R.Sink.room c.show_file-answer-in-ShowFrame.new.report }) _ _ _ tt tt (λ w. w) (λ k h. showing_one_is_no_frame c.in-ShowFrame.frame k h)
+    same_run same (run_of_listing asks r c.tell_fault-in-ShowFrame.result bytes _ _ _
+    (record { before = g.R.Sink.faults c.show_file-answer-in-ShowFrame.new.report; now = g.R.Sink.faults c.tell_fault-in-ShowFrame.new.report }) _ _ _
+    (record {
+      old = g.R.Sink.written c.show_file-answer-in-ShowFrame.new.report;
+      new = g.R.Sink.written c.tell_fault-in-ShowFrame.new.report;
+      room =
+          g.R.Sink.room c.show_file-answer-in-ShowFrame.new.report;
+    }) _ _ _ tt tt (λ w. w) (λ k h. showing_one_is_no_frame c.in-ShowFrame.frame k h)
     (λ file told. g.met.S.Source.told_are_bytes c.args.source.now file told) refl refl refl refl
     (λ file told. record {
-      lines = subst (λ r. IfOk r (λ s. (lines : List Line) × OutcomeOf asks file (done [] lines) × (g.R.Sink.written c.show_file-answer-in-ShowFrame.new.report ≡ and_then (g.R.Sink.written c.args.report.now) (report lines)))) (sym is)
-          (if_answered of_reported of_show d _ (at_file d (λ s file. (lines : List Line) × OutcomeOf asks file (done [] lines) × (g.R.Sink.written c.show_file-answer-in-ShowFrame.new.report ≡ and_then (g.R.Sink.written c.args.report.now) (report lines))) bytes file told e.lines));
+      lines = subst (λ r. IfOk r (λ s. (lines : List Line) × OutcomeOf asks file (done [] lines)
+          × (g.R.Sink.written c.show_file-answer-in-ShowFrame.new.report ≡ and_then (g.R.Sink.written c.args.report.now) (report lines)))) (sym is)
+          (if_answered of_reported of_show d _ (at_file d
+          (λ s file. (lines : List Line) × OutcomeOf asks file (done [] lines)
+          × (g.R.Sink.written c.show_file-answer-in-ShowFrame.new.report ≡ and_then (g.R.Sink.written c.args.report.now) (report lines)))
+          bytes file told e.lines));
       file_is = λ fault h. e.file fault (back (File fault) h) file told;
       frame_is = λ k fault h. e.frame k fault (back (Frame k fault) h) file told;
       some = let one = command_has_one_outcome asks file tt (g.met.S.Source.told_are_bytes c.args.source.now file told) in (one.0, one.1);
@@ -273,7 +310,9 @@ returns-in-ShowFrame g c =
       read = λ h. e.read (back Read h);
       no_write = λ h. show_writes of_reported d (sym is ∙ h);
       reported = λ h. e.reported (back Report h);
-      untouched = λ fault h other. let still = e.untouched (to_show fault) (back fault h) (λ same. other_report fault other h same) in (ap g.R.Sink.written still, ap g.R.Sink.room still, ap g.R.Sink.faults still);
+      untouched = λ fault h other. let still =
+          e.untouched (to_show fault) (back fault h)
+          (λ same. other_report fault other h same) in (ap g.R.Sink.written still, ap g.R.Sink.room still, ap g.R.Sink.faults still);
     })
     (record {
       reported = t.reported;
@@ -306,12 +345,21 @@ returns-in-Index g c =
     let written = g.K.Sink.written c.args.sink.now in
     let same = ap command_seen c.in-Index.is in
     let asks = asked.index in
-    same_run same (run_of_listing asks r c.tell_fault-in-Index.result bytes _ _ _ (record { before = g.R.Sink.faults c.index_file-answer.new.report; now = g.R.Sink.faults c.tell_fault-in-Index.new.report }) _ _ _
-    (record { old = g.R.Sink.written c.index_file-answer.new.report; new = g.R.Sink.written c.tell_fault-in-Index.new.report; room = g.R.Sink.room c.index_file-answer.new.report }) _ _ _ tt tt (λ w. w) (λ k h. listing_is_no_frame k h)
+    same_run same (run_of_listing asks r c.tell_fault-in-Index.result bytes _ _ _
+    (record { before = g.R.Sink.faults c.index_file-answer.new.report; now = g.R.Sink.faults c.tell_fault-in-Index.new.report }) _ _ _
+    (record {
+      old = g.R.Sink.written c.index_file-answer.new.report;
+      new = g.R.Sink.written c.tell_fault-in-Index.new.report;
+      room =
+          g.R.Sink.room c.index_file-answer.new.report;
+    }) _ _ _ tt tt (λ w. w) (λ k h. listing_is_no_frame k h)
     (λ file told. g.met.S.Source.told_are_bytes c.args.source.now file told) refl refl refl refl
     (λ file told. record {
-      lines = subst (λ r. IfOk r (λ s. (lines : List Line) × OutcomeOf asks file (done [] lines) × (g.R.Sink.written c.index_file-answer.new.report ≡ and_then (g.R.Sink.written c.args.report.now) (report lines)))) (sym is)
-          (if_answered of_reported of_list d _ (at_file d (λ s file. (lines : List Line) × OutcomeOf asks file (done [] lines) × (g.R.Sink.written c.index_file-answer.new.report ≡ and_then (g.R.Sink.written c.args.report.now) (report lines))) bytes file told e.lines));
+      lines = subst (λ r. IfOk r (λ s. (lines : List Line) × OutcomeOf asks file (done [] lines)
+          × (g.R.Sink.written c.index_file-answer.new.report ≡ and_then (g.R.Sink.written c.args.report.now) (report lines)))) (sym is)
+          (if_answered of_reported of_list d _ (at_file d
+          (λ s file. (lines : List Line) × OutcomeOf asks file (done [] lines)
+          × (g.R.Sink.written c.index_file-answer.new.report ≡ and_then (g.R.Sink.written c.args.report.now) (report lines))) bytes file told e.lines));
       file_is = λ fault h. e.file fault (back (File fault) h) file told;
       frame_is = λ k fault h. absurd (list_refuses of_reported d k fault (sym is ∙ h));
       some = let one = command_has_one_outcome asks file tt (g.met.S.Source.told_are_bytes c.args.source.now file told) in (one.0, one.1);
@@ -321,7 +369,9 @@ returns-in-Index g c =
       read = λ h. e.read (back Read h);
       no_write = λ h. list_writes of_reported d (sym is ∙ h);
       reported = λ h. e.reported (back Report h);
-      untouched = λ fault h other. let still = e.untouched (to_list fault) (back fault h) (λ same. other_report fault other h same) in (ap g.R.Sink.written still, ap g.R.Sink.room still, ap g.R.Sink.faults still);
+      untouched = λ fault h other. let still =
+          e.untouched (to_list fault) (back fault h)
+          (λ same. other_report fault other h same) in (ap g.R.Sink.written still, ap g.R.Sink.room still, ap g.R.Sink.faults still);
     })
     (record {
       reported = t.reported;

@@ -1,5 +1,6 @@
 -- Each command that reads a file and may write one, by what it answered.
-use Rattle.std.proofs.Common.{◌≡◌, ◌≢◌, ◌⊎◌, inl, inr, ℕ, ◌<◌, ◌≤◌, Bool, true, List, [], ◌∷◌, length, Some, Result, Ok, Err, IfOk, OnOk, refl, ap, sym, subst, ◌∙◌}
+use Rattle.std.proofs.Common.{◌≡◌, ◌≢◌, ◌⊎◌, inl, inr, ℕ, ◌<◌, ◌≤◌, Bool, true, List, [], ◌∷◌, length, Some, Result, Ok, Err, IfOk, OnOk, refl, ap}
+use Rattle.std.proofs.Common.{sym, subst, ◌∙◌}
 use Rattle.dst_streams.specs.Told.{and_then}
 use Rattle.dsdiff_spec.specs.Words as asked
 use Rattle.dsdiff_spec.specs.Rules.{accepted}
@@ -12,7 +13,10 @@ use Rattle.dst_tool.specs.declared.answers.Numbers.{Numbers}
 use Rattle.dst_tool.specs.declared.answers.Fault.{Fault}
 use Rattle.dst_tool.specs.declared.answers.Fault.TheVariants.{Read, Write, Memory, Report, File, Frame}
 use Rattle.dst_commands.specs.Commands.{OutcomeOf}
-use Rattle.dst_tool.proofs.OneLine.{IsAnswer, few_given, most_for_any, TellsLine, run_of_answer, at_file, same_run, nothing_added, nothing_cut, finished_alone, cut_or_nothing, encoding_is_no_frame, decoding_is_no_frame, encoding_dsf_is_no_frame, decoding_dsf_is_no_frame, cutting_is_no_frame, making_is_no_frame, running_is_no_frame, ranging_is_no_frame, checking_is_no_frame, showing_is_no_frame, showing_one_is_no_frame, listing_is_no_frame}
+use Rattle.dst_tool.proofs.OneLine.{IsAnswer, few_given, most_for_any, TellsLine, run_of_answer, at_file, same_run, nothing_added, nothing_cut}
+use Rattle.dst_tool.proofs.OneLine.{finished_alone, cut_or_nothing, encoding_is_no_frame, decoding_is_no_frame, encoding_dsf_is_no_frame}
+use Rattle.dst_tool.proofs.OneLine.{decoding_dsf_is_no_frame, cutting_is_no_frame, making_is_no_frame, running_is_no_frame, ranging_is_no_frame}
+use Rattle.dst_tool.proofs.OneLine.{checking_is_no_frame, showing_is_no_frame, showing_one_is_no_frame, listing_is_no_frame}
 use Rattle.dst_read.specs.declared.faults.DecodeFault.{DecodeFault}
 use Rattle.dst_read.specs.declared.faults.DecodeFault.TheVariants as decoding
 use Rattle.dst_make.specs.declared.make.MakeFault.TheVariants as making
@@ -20,7 +24,9 @@ use Rattle.dst_read.specs.declared.faults.ShowFault.TheVariants as showing
 use Rattle.dst_read.specs.declared.faults.ListFault.TheVariants as listing
 use Rattle.dst_tool.specs.Runs.{WholeOf}
 use Rattle.dst_tool.specs.Answers.{answered, done_line, line_of, status_of, of_check, of_cut, of_decode, of_encode, of_list, of_make, of_run, of_show}
-use Rattle.dst_tool.proofs.Inverting.{back_from, encode_again, encode_refuses, encode_reports, to_encode, if_done, check_again, check_reports, check_writes, decode_again, decode_reports, if_answered, list_again, list_refuses, list_writes, show_again, show_writes, to_check, to_cut, to_decode, to_list, to_show}
+use Rattle.dst_tool.proofs.Inverting.{back_from, encode_again, encode_refuses, encode_reports, to_encode, if_done, check_again, check_reports}
+use Rattle.dst_tool.proofs.Inverting.{check_writes, decode_again, decode_reports, if_answered, list_again, list_refuses, list_writes, show_again}
+use Rattle.dst_tool.proofs.Inverting.{show_writes, to_check, to_cut, to_decode, to_list, to_show}
 use Rattle.dst_tool.proofs.Inverting.{cut_again, cut_refuses, cut_reports, made_memory, made_no_other, made_write, ran_no_other}
 use Rattle.dst_write.specs.declared.faults.Encoded.{Encoded}
 use Rattle.dst_make.specs.Making.{made_file}
@@ -74,10 +80,12 @@ returns-in-Encode g c =
     let new = g.K.Sink.written c.encode_file-answer.new.sink in
     let picker = c.picker_of-picker.result in
     let picker_is : picker ≡ level = c.picker_of-picker.ensures in
-    let one : (file : List ℕ) → bytes ≡ Some file → One (OutcomeOf asks file) = λ file told. command_has_one_outcome asks file tt (g.met.S.Source.told_are_bytes c.args.source.now file told) in
+    let one : (file : List ℕ) → bytes ≡ Some file → One (OutcomeOf asks file) =
+    λ file told. command_has_one_outcome asks file tt (g.met.S.Source.told_are_bytes c.args.source.now file told) in
     same_run same (run_of_answer asks r c.tell.result bytes _ _ _ _ _ _ _ _ _ tt (λ file told. g.met.S.Source.told_are_bytes c.args.source.now file told)
     (λ file told. record {
-      finished = subst (λ r. IfOk r (λ s. (out : List ℕ) × OutcomeOf asks file (done out (done_line asks s ∷ [])) × WholeOf (Some asks) out written new)) (sym is)
+      finished = subst (λ r. IfOk r (λ s. (out : List ℕ) × OutcomeOf asks file (done out (done_line asks s ∷ []))
+          × WholeOf (Some asks) out written new)) (sym is)
           (if_answered of_encoded of_encode d _ (encoded_whole d level picker file bytes written new picker_is told e.accepted e.encoded e.frames e.stored));
       file_is = λ fault h. e.file fault (back (File fault) h) file told level;
       untouched = λ fault h. ap g.K.Sink.written (e.untouched fault (back (File fault) h));
@@ -92,7 +100,8 @@ returns-in-Encode g c =
       read = λ h. e.read (back Read h);
       write = λ h. e.write (back Write h);
       sure = λ h file told o outcome n room fits.
-          let out = accepted_out level file o (e.write_accepted (back Write h) file told level) outcome (one file told) ∙ ap (λ n. coded_at n file (accepted file)) (sym picker_is) in
+          let out = accepted_out level file o (e.write_accepted (back Write h) file told level) outcome (one file told)
+          ∙ ap (λ n. coded_at n file (accepted file)) (sym picker_is) in
           e.sure (back Write h) file told n room (subst (λ w. length w ≤ n) out fits);
       memory = λ refused h. e.memory refused (back (Memory refused) h);
       untouched = λ fault h. e.untouched fault (back (File fault) h);
@@ -119,10 +128,14 @@ returns-in-Decode g c =
     let written = g.K.Sink.written c.args.sink.now in
     let same = ap command_seen c.in-Decode.is in
     let asks = asked.decode in
-    same_run same (run_of_answer asks r c.tell-in-Decode.result bytes _ _ _ _ _ _ _ _ _ tt (λ file told. g.met.S.Source.told_are_bytes c.args.source.now file told)
+    same_run same (run_of_answer asks r c.tell-in-Decode.result bytes _ _ _ _ _ _ _ _ _ tt
+    (λ file told. g.met.S.Source.told_are_bytes c.args.source.now file told)
     (λ file told. record {
-      finished = subst (λ r. IfOk r (λ s. (out : List ℕ) × OutcomeOf asks file (done out (done_line asks s ∷ [])) × (g.K.Sink.written c.decode_file-answer.new.sink ≡ and_then written out))) (sym is)
-          (if_answered of_decoded of_decode d _ (at_file d (λ s file. (out : List ℕ) × OutcomeOf asks file (done out (done_line asks (of_decoded s) ∷ [])) × (g.K.Sink.written c.decode_file-answer.new.sink ≡ and_then written out)) bytes file told e.decoded));
+      finished = subst (λ r. IfOk r (λ s. (out : List ℕ) × OutcomeOf asks file (done out (done_line asks s ∷ []))
+          × (g.K.Sink.written c.decode_file-answer.new.sink ≡ and_then written out))) (sym is)
+          (if_answered of_decoded of_decode d _ (at_file d
+          (λ s file. (out : List ℕ) × OutcomeOf asks file (done out (done_line asks (of_decoded s) ∷ []))
+          × (g.K.Sink.written c.decode_file-answer.new.sink ≡ and_then written out)) bytes file told e.decoded));
       file_is = λ fault h. e.file fault (back (File fault) h) file told;
       untouched = λ fault h. ap g.K.Sink.written (e.untouched fault (back (File fault) h));
       frame_is = λ k fault h. e.frame k fault (back (Frame k fault) h) file told;
@@ -146,7 +159,15 @@ returns-in-Decode g c =
       any_source = λ k h. absurd (decoding_is_no_frame k h);
       no_report = λ h. decode_reports of_decoded d (sym is ∙ h);
     })
-    (subst (λ q. TellsLine (status_of r) (line_of q r) c.tell-in-Decode.result (record { before = g.R.Sink.faults c.args.report.now; now = g.R.Sink.faults c.tell-in-Decode.new.report }) (record { old = g.R.Sink.written c.args.report.now; new = g.R.Sink.written c.tell-in-Decode.new.report; room = g.R.Sink.room c.args.report.now })) same (record { reported = t.reported; whole = t.whole; cut_short = t.cut_short; cause = t.cause; sure = t.sure })))
+    (subst (λ q. TellsLine (status_of r) (line_of q r) c.tell-in-Decode.result
+    (record { before = g.R.Sink.faults c.args.report.now; now = g.R.Sink.faults c.tell-in-Decode.new.report })
+    (record {
+      old = g.R.Sink.written c.args.report.now;
+      new = g.R.Sink.written c.tell-in-Decode.new.report;
+      room =
+          g.R.Sink.room c.args.report.now;
+    })) same
+    (record { reported = t.reported; whole = t.whole; cut_short = t.cut_short; cause = t.cause; sure = t.sure })))
 
 pub returns-in-EncodeDsf : goal.returns-in-EncodeDsf
 returns-in-EncodeDsf g c =
@@ -164,10 +185,13 @@ returns-in-EncodeDsf g c =
     let new = g.K.Sink.written c.encode_dsf-answer.new.sink in
     let picker = c.picker_of-picker-in-EncodeDsf.result in
     let picker_is : picker ≡ level = c.picker_of-picker-in-EncodeDsf.ensures in
-    let one : (file : List ℕ) → bytes ≡ Some file → One (OutcomeOf asks file) = λ file told. command_has_one_outcome asks file tt (g.met.S.Source.told_are_bytes c.args.source.now file told) in
-    same_run same (run_of_answer asks r c.tell-in-EncodeDsf.result bytes _ _ _ _ _ _ _ _ _ tt (λ file told. g.met.S.Source.told_are_bytes c.args.source.now file told)
+    let one : (file : List ℕ) → bytes ≡ Some file → One (OutcomeOf asks file) =
+    λ file told. command_has_one_outcome asks file tt (g.met.S.Source.told_are_bytes c.args.source.now file told) in
+    same_run same (run_of_answer asks r c.tell-in-EncodeDsf.result bytes _ _ _ _ _ _ _ _ _ tt
+    (λ file told. g.met.S.Source.told_are_bytes c.args.source.now file told)
     (λ file told. record {
-      finished = subst (λ r. IfOk r (λ s. (out : List ℕ) × OutcomeOf asks file (done out (done_line asks s ∷ [])) × WholeOf (Some asks) out written new)) (sym is)
+      finished = subst (λ r. IfOk r (λ s. (out : List ℕ) × OutcomeOf asks file (done out (done_line asks s ∷ []))
+          × WholeOf (Some asks) out written new)) (sym is)
           (if_answered of_encoded of_encode d _ (dsf_whole d level picker file bytes written new picker_is told e.accepted e.encoded e.frames e.stored));
       file_is = λ fault h. e.file fault (back (File fault) h) file told level;
       untouched = λ fault h. ap g.K.Sink.written (e.untouched fault (back (File fault) h));
@@ -209,10 +233,14 @@ returns-in-DecodeDsf g c =
     let written = g.K.Sink.written c.args.sink.now in
     let same = ap command_seen c.in-DecodeDsf.is in
     let asks = asked.decode_dsf in
-    same_run same (run_of_answer asks r c.tell-in-DecodeDsf.result bytes _ _ _ _ _ _ _ _ _ tt (λ file told. g.met.S.Source.told_are_bytes c.args.source.now file told)
+    same_run same (run_of_answer asks r c.tell-in-DecodeDsf.result bytes _ _ _ _ _ _ _ _ _ tt
+    (λ file told. g.met.S.Source.told_are_bytes c.args.source.now file told)
     (λ file told. record {
-      finished = subst (λ r. IfOk r (λ s. (out : List ℕ) × OutcomeOf asks file (done out (done_line asks s ∷ [])) × (g.K.Sink.written c.decode_dsf-answer.new.sink ≡ and_then written out))) (sym is)
-          (if_answered of_decoded of_decode d _ (at_file d (λ s file. (out : List ℕ) × OutcomeOf asks file (done out (done_line asks (of_decoded s) ∷ [])) × (g.K.Sink.written c.decode_dsf-answer.new.sink ≡ and_then written out)) bytes file told e.decoded));
+      finished = subst (λ r. IfOk r (λ s. (out : List ℕ) × OutcomeOf asks file (done out (done_line asks s ∷ []))
+          × (g.K.Sink.written c.decode_dsf-answer.new.sink ≡ and_then written out))) (sym is)
+          (if_answered of_decoded of_decode d _ (at_file d
+          (λ s file. (out : List ℕ) × OutcomeOf asks file (done out (done_line asks (of_decoded s) ∷ []))
+          × (g.K.Sink.written c.decode_dsf-answer.new.sink ≡ and_then written out)) bytes file told e.decoded));
       file_is = λ fault h. e.file fault (back (File fault) h) file told;
       untouched = λ fault h. ap g.K.Sink.written (e.untouched fault (back (File fault) h));
       frame_is = λ k fault h. e.frame k fault (back (Frame k fault) h) file told;
@@ -236,7 +264,15 @@ returns-in-DecodeDsf g c =
       any_source = λ k h. absurd (decoding_dsf_is_no_frame k h);
       no_report = λ h. decode_reports of_decoded d (sym is ∙ h);
     })
-    (subst (λ q. TellsLine (status_of r) (line_of q r) c.tell-in-DecodeDsf.result (record { before = g.R.Sink.faults c.args.report.now; now = g.R.Sink.faults c.tell-in-DecodeDsf.new.report }) (record { old = g.R.Sink.written c.args.report.now; new = g.R.Sink.written c.tell-in-DecodeDsf.new.report; room = g.R.Sink.room c.args.report.now })) same (record { reported = t.reported; whole = t.whole; cut_short = t.cut_short; cause = t.cause; sure = t.sure })))
+    (subst (λ q. TellsLine (status_of r) (line_of q r) c.tell-in-DecodeDsf.result
+    (record { before = g.R.Sink.faults c.args.report.now; now = g.R.Sink.faults c.tell-in-DecodeDsf.new.report })
+    (record {
+      old = g.R.Sink.written c.args.report.now;
+      new = g.R.Sink.written c.tell-in-DecodeDsf.new.report;
+      room =
+          g.R.Sink.room c.args.report.now;
+    })) same
+    (record { reported = t.reported; whole = t.whole; cut_short = t.cut_short; cause = t.cause; sure = t.sure })))
 
 pub returns-in-Cut : goal.returns-in-Cut
 returns-in-Cut g c =
@@ -252,8 +288,11 @@ returns-in-Cut g c =
     let asks = asked.cut c.in-Cut.first c.in-Cut.last in
     same_run same (run_of_answer asks r c.tell-in-Cut.result bytes _ _ _ _ _ _ _ _ _ tt (λ file told. g.met.S.Source.told_are_bytes c.args.source.now file told)
     (λ file told. record {
-      finished = subst (λ r. IfOk r (λ s. (out : List ℕ) × OutcomeOf asks file (done out (done_line asks s ∷ [])) × (g.K.Sink.written c.cut_file-answer.new.sink ≡ and_then written out))) (sym is)
-          (if_answered of_cut_out of_cut d _ (at_file d (λ s file. (out : List ℕ) × OutcomeOf asks file (done out (done_line asks (of_cut_out s) ∷ [])) × (g.K.Sink.written c.cut_file-answer.new.sink ≡ and_then written out)) bytes file told e.cut));
+      finished = subst (λ r. IfOk r (λ s. (out : List ℕ) × OutcomeOf asks file (done out (done_line asks s ∷ []))
+          × (g.K.Sink.written c.cut_file-answer.new.sink ≡ and_then written out))) (sym is)
+          (if_answered of_cut_out of_cut d _ (at_file d
+          (λ s file. (out : List ℕ) × OutcomeOf asks file (done out (done_line asks (of_cut_out s) ∷ []))
+          × (g.K.Sink.written c.cut_file-answer.new.sink ≡ and_then written out)) bytes file told e.cut));
       file_is = λ fault h. e.file fault (back (File fault) h) file told;
       untouched = λ fault h. ap g.K.Sink.written (e.untouched fault (back (File fault) h));
       frame_is = λ k fault h. absurd (cut_refuses of_cut_out d k fault (sym is ∙ h));
@@ -291,15 +330,27 @@ returns-in-Frame g c =
     let written = g.K.Sink.written c.args.sink.now in
     let same = ap command_seen c.in-Frame.is in
     let asks = asked.frame c.in-Frame.frame c.in-Frame.by_index in
-    let other : (f : DecodeFault) → d ≡ Err f → (f ≢ decoding.Write) → g.K.Sink.written c.frame_out-answer.new.sink ≡ written = λ f h other. ap g.K.Sink.written (e.untouched f h other) in
-    same_run same (run_of_answer asks r c.tell-in-Frame.result bytes _ _ _ _ _ _ _ _ _ tt (λ file told. g.met.S.Source.told_are_bytes c.args.source.now file told)
+    let other : (f : DecodeFault) → d ≡ Err f → (f ≢ decoding.Write) → g.K.Sink.written c.frame_out-answer.new.sink ≡ written =
+    λ f h other. ap g.K.Sink.written (e.untouched f h other) in
+    same_run same (run_of_answer asks r c.tell-in-Frame.result bytes _ _ _ _ _ _ _ _ _ tt
+    (λ file told. g.met.S.Source.told_are_bytes c.args.source.now file told)
     (λ file told. record {
-      finished = subst (λ r. IfOk r (λ s. (out : List ℕ) × OutcomeOf asks file (done out (done_line asks s ∷ [])) × (g.K.Sink.written c.frame_out-answer.new.sink ≡ and_then written out))) (sym is)
-          (if_answered of_written of_decode d _ (at_file d (λ s file. (out : List ℕ) × OutcomeOf asks file (done out (done_line asks (of_written s) ∷ [])) × (g.K.Sink.written c.frame_out-answer.new.sink ≡ and_then written out)) bytes file told e.written));
+      finished = subst (λ r. IfOk r (λ s. (out : List ℕ) × OutcomeOf asks file (done out (done_line asks s ∷ []))
+          × (g.K.Sink.written c.frame_out-answer.new.sink ≡ and_then written out))) (sym is)
+          (if_answered of_written of_decode d _ (at_file d
+          (λ s file. (out : List ℕ) × OutcomeOf asks file (done out (done_line asks (of_written s) ∷ []))
+          × (g.K.Sink.written c.frame_out-answer.new.sink ≡ and_then written out)) bytes file told e.written));
       file_is = λ fault h. e.file fault (back (File fault) h) file told;
       untouched = λ fault h. other _ (back (File fault) h) (λ w. absurd cc);
-      frame_is = λ k fault h. ([], e.frame k fault (back (Frame k fault) h) file told, other _ (back (Frame k fault) h) (λ w. absurd cc) ∙ nothing_added written);
-      cut_short = cut_or_nothing asks r file written _ (command_has_one_outcome asks file tt (g.met.S.Source.told_are_bytes c.args.source.now file told)) (λ h. other _ (back Read h) (λ w. absurd cc)) (λ h. e.cut_short (back Write h) file told);
+      frame_is = λ k fault h. (
+        [],
+        e.frame k fault (back (Frame k fault) h) file told,
+        other _ (back (Frame k fault) h) (λ w. absurd cc)
+            ∙ nothing_added written,
+      );
+      cut_short = cut_or_nothing asks r file written _
+          (command_has_one_outcome asks file tt (g.met.S.Source.told_are_bytes c.args.source.now file told))
+          (λ h. other _ (back Read h) (λ w. absurd cc)) (λ h. e.cut_short (back Write h) file told);
       memory = λ refused h. other _ (back (Memory refused) h) (λ w. absurd cc);
       no_report = λ h. decode_reports of_written d (sym is ∙ h);
     })
@@ -337,10 +388,14 @@ returns-in-Range g c =
     let pairs = c.as_slice.result.now in
     let same = ap command_seen c.in-Range.is ∙ ap asked.range (sym c.as_slice.ensures.pairs) in
     let asks = asked.range pairs in
-    same_run same (run_of_answer asks r c.tell-in-Range.result bytes _ _ _ _ _ _ _ _ _ tt (λ file told. g.met.S.Source.told_are_bytes c.args.source.now file told)
+    same_run same (run_of_answer asks r c.tell-in-Range.result bytes _ _ _ _ _ _ _ _ _ tt
+    (λ file told. g.met.S.Source.told_are_bytes c.args.source.now file told)
     (λ file told. record {
-      finished = subst (λ r. IfOk r (λ s. (out : List ℕ) × OutcomeOf asks file (done out (done_line asks s ∷ [])) × (g.K.Sink.written c.range_out-answer.new.sink ≡ and_then written out))) (sym is)
-          (if_answered of_ranged of_decode d _ (at_file d (λ s file. (out : List ℕ) × OutcomeOf asks file (done out (done_line asks (of_ranged s) ∷ [])) × (g.K.Sink.written c.range_out-answer.new.sink ≡ and_then written out)) bytes file told e.written));
+      finished = subst (λ r. IfOk r (λ s. (out : List ℕ) × OutcomeOf asks file (done out (done_line asks s ∷ []))
+          × (g.K.Sink.written c.range_out-answer.new.sink ≡ and_then written out))) (sym is)
+          (if_answered of_ranged of_decode d _ (at_file d
+          (λ s file. (out : List ℕ) × OutcomeOf asks file (done out (done_line asks (of_ranged s) ∷ []))
+          × (g.K.Sink.written c.range_out-answer.new.sink ≡ and_then written out)) bytes file told e.written));
       file_is = λ fault h. e.file fault (back (File fault) h) file told;
       untouched = λ fault h. ap g.K.Sink.written (e.untouched fault (back (File fault) h));
       frame_is = λ k fault h. e.frame k fault (back (Frame k fault) h) file told;

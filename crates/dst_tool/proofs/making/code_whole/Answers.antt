@@ -17,5 +17,6 @@ unreachable-requires-in-Err-Source-File g c =
 pub unreachable-requires-in-Err-Write : goal.unreachable-requires-in-Err-Write
 unreachable-requires-in-Err-Write g c =
     let is = c.in-Err-Write.is ∙ ap Err c.in-Err-Write.field-0-is in
-    let fits = subst (λ level. length (coded (level_picks level) c.args.made.now (accepted c.args.made.now)) ≤ c.requires.room.0) (sym c.in-Some.ensures.level) c.requires.room.2 in
+    let fits = subst (λ level. length (coded (level_picks level) c.args.made.now (accepted c.args.made.now)) ≤ c.requires.room.0)
+    (sym c.in-Some.ensures.level) c.requires.room.2 in
     c.encode_file.ensures.sure is c.args.made.now c.new-source.ensures.bytes c.requires.room.0 c.requires.room.1 fits

@@ -18,7 +18,8 @@ code_whole-requires-clause-accepted g c κs within =
     let few : c.args.frames ≤ 1000 = omega (arith, c.requires.most) in
     let shape = c.file_size-size.ensures.shape in
     let file = made_file c.args.start c.args.frames c.args.channels in
-    let is_made : c.written-made.result.now ≡ file = held _ _ file c.written-made.result.now c.in_ok-plain.ensures.written c.in_ok-make_whole.ensures c.written-made.ensures in
+    let is_made : c.written-made.result.now ≡ file =
+    held _ _ file c.written-made.result.now c.in_ok-plain.ensures.written c.in_ok-make_whole.ensures c.written-made.ensures in
     subst (λ w. refusal (encode 2) w ≡ None) (sym is_made) (file_accepted c.args.start c.args.frames c.args.channels few shape 2)
 
 pub code_whole-requires-clause-room : goal.code_whole-requires-clause-room
@@ -26,7 +27,8 @@ code_whole-requires-clause-room g c κs within =
     let few : c.args.frames ≤ 1000 = omega (arith, c.requires.most) in
     let shape = c.file_size-size.ensures.shape in
     let file = made_file c.args.start c.args.frames c.args.channels in
-    let is_made : c.written-made.result.now ≡ file = held _ _ file c.written-made.result.now c.in_ok-plain.ensures.written c.in_ok-make_whole.ensures c.written-made.ensures in
+    let is_made : c.written-made.result.now ≡ file =
+    held _ _ file c.written-made.result.now c.in_ok-plain.ensures.written c.in_ok-make_whole.ensures c.written-made.ensures in
     let bytes : AreBytes file = subst AreBytes is_made c.known_as_bytes.ensures in
     let room = c.file_size-size.result + 26 * c.args.frames + 200 - 0 in
     let fits : length (coded_at 2 file (accepted file)) ≤ room =
@@ -38,7 +40,8 @@ restore_whole-requires-clause-outcome g c κs within =
     let few : c.args.frames ≤ 1000 = omega (arith, c.requires.most) in
     let shape = c.file_size-size.ensures.shape in
     let file = made_file c.args.start c.args.frames c.args.channels in
-    let is_made : c.written-made.result.now ≡ file = held _ _ file c.written-made.result.now c.in_ok-plain.ensures.written c.in_ok-make_whole.ensures c.written-made.ensures in
+    let is_made : c.written-made.result.now ≡ file =
+    held _ _ file c.written-made.result.now c.in_ok-plain.ensures.written c.in_ok-make_whole.ensures c.written-made.ensures in
     let bytes : AreBytes file = subst AreBytes is_made c.known_as_bytes.ensures in
     let coded = coded_at 2 file (accepted file) in
     let stored : c.written.result.now ≡ coded_at 2 c.written-made.result.now (accepted c.written-made.result.now) =
@@ -46,15 +49,21 @@ restore_whole-requires-clause-outcome g c κs within =
     let is_coded : c.written.result.now ≡ coded = stored ∙ ap (λ w. coded_at 2 w (accepted w)) is_made in
     let line = decoded_line (accepted file).frames (size_of_sound (accepted file)) in
     let room = c.file_size-size.result - 0 in
-    let fits : length file ≤ room = omega (arith, c.file_size-size.ensures.size c.args.start) in
-    (file, line, subst (λ w. IsTheOutcome decode w (done file (line ∷ []))) (sym is_coded) (file_comes_back c.args.start c.args.frames c.args.channels few shape bytes).decoded, (room, c.in_ok-restored.ensures.room, fits))
+    let fits : length file ≤ room = omega (arith, c.file_size-size.ensures.size c.args.start) in (
+      file,
+      line,
+      subst (λ w. IsTheOutcome decode w (done file (line ∷ []))) (sym is_coded)
+          (file_comes_back c.args.start c.args.frames c.args.channels few shape bytes).decoded,
+      (room, c.in_ok-restored.ensures.room, fits),
+    )
 
 pub returns-clause-frames : goal.returns-clause-frames
 returns-clause-frames g c =
     let few : c.args.frames ≤ 1000 = omega (arith, c.requires.most) in
     let shape = c.file_size-size.ensures.shape in
     let file = made_file c.args.start c.args.frames c.args.channels in
-    let is_made : c.written-made.result.now ≡ file = held _ _ file c.written-made.result.now c.in_ok-plain.ensures.written c.in_ok-make_whole.ensures c.written-made.ensures in
+    let is_made : c.written-made.result.now ≡ file =
+    held _ _ file c.written-made.result.now c.in_ok-plain.ensures.written c.in_ok-make_whole.ensures c.written-made.ensures in
     let bytes : AreBytes file = subst AreBytes is_made c.known_as_bytes.ensures in
     let coded = coded_at 2 file (accepted file) in
     let stored : c.written.result.now ≡ coded_at 2 c.written-made.result.now (accepted c.written-made.result.now) =
@@ -69,7 +78,8 @@ returns-clause-restored g c =
     let few : c.args.frames ≤ 1000 = omega (arith, c.requires.most) in
     let shape = c.file_size-size.ensures.shape in
     let file = made_file c.args.start c.args.frames c.args.channels in
-    let is_made : c.written-made.result.now ≡ file = held _ _ file c.written-made.result.now c.in_ok-plain.ensures.written c.in_ok-make_whole.ensures c.written-made.ensures in
+    let is_made : c.written-made.result.now ≡ file =
+    held _ _ file c.written-made.result.now c.in_ok-plain.ensures.written c.in_ok-make_whole.ensures c.written-made.ensures in
     let bytes : AreBytes file = subst AreBytes is_made c.known_as_bytes.ensures in
     let coded = coded_at 2 file (accepted file) in
     let stored : c.written.result.now ≡ coded_at 2 c.written-made.result.now (accepted c.written-made.result.now) =
@@ -82,7 +92,8 @@ returns-clause-line g c =
     let few : c.args.frames ≤ 1000 = omega (arith, c.requires.most) in
     let shape = c.file_size-size.ensures.shape in
     let file = made_file c.args.start c.args.frames c.args.channels in
-    let is_made : c.written-made.result.now ≡ file = held _ _ file c.written-made.result.now c.in_ok-plain.ensures.written c.in_ok-make_whole.ensures c.written-made.ensures in
+    let is_made : c.written-made.result.now ≡ file =
+    held _ _ file c.written-made.result.now c.in_ok-plain.ensures.written c.in_ok-make_whole.ensures c.written-made.ensures in
     let bytes : AreBytes file = subst AreBytes is_made c.known_as_bytes.ensures in
     let coded = coded_at 2 file (accepted file) in
     let stored : c.written.result.now ≡ coded_at 2 c.written-made.result.now (accepted c.written-made.result.now) =
@@ -91,7 +102,8 @@ returns-clause-line g c =
     let n = c.args.frames * sound_bytes c.args.channels in
     let sound = file_sound c.args.start c.args.frames c.args.channels few shape in
     let back = coded_sound c.args.start c.args.frames c.args.channels few shape bytes in
-    let kept : c.in_ok-encoded.encoded.bytes ≡ stored_at 2 file (accepted file) = c.in_ok-encoded.ensures.bytes ∙ ap (λ w. stored_at 2 w (accepted w)) is_made in
+    let kept : c.in_ok-encoded.encoded.bytes ≡ stored_at 2 file (accepted file) = c.in_ok-encoded.ensures.bytes
+    ∙ ap (λ w. stored_at 2 w (accepted w)) is_made in
     let restored : c.in_ok-decoded.decoded.bytes ≡ n = c.in_ok-decoded.ensures.bytes ∙ ap (λ w. size_of_sound (accepted w)) is_coded ∙ back in
     ap₂ (λ (a b : ℕ). made_run_line c.args.frames a (stored_at 2 file (accepted file)) b) sound back
     ∙ ap₂ (λ (a b : ℕ). made_run_line c.args.frames n a b) (sym kept) (sym restored)

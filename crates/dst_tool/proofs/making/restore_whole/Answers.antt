@@ -19,13 +19,15 @@ pub unreachable-requires-in-Err-Write : goal.unreachable-requires-in-Err-Write
 unreachable-requires-in-Err-Write g c =
     let is = c.in-Err-Write.is ∙ ap Err c.in-Err-Write.field-0-is in
     let o = done c.requires.outcome.0 (c.requires.outcome.1 ∷ []) in
-    c.decode_file.ensures.sure is c.args.coded.now c.new-source.ensures.bytes o c.requires.outcome.2.0 c.requires.outcome.3.0 c.requires.outcome.3.1 c.requires.outcome.3.2
+    c.decode_file.ensures.sure is c.args.coded.now c.new-source.ensures.bytes o c.requires.outcome.2.0 c.requires.outcome.3.0 c.requires.outcome.3.1
+    c.requires.outcome.3.2
 
 pub unreachable-requires-in-Err-Frame : goal.unreachable-requires-in-Err-Frame
 unreachable-requires-in-Err-Frame g c =
     let k = c.in-Err-Frame.field-0-0 in
     let fault = c.in-Err-Frame.field-0-1 in
     let stopped = c.decode_file.ensures.frame k fault (c.in-Err-Frame.is ∙ ap Err c.in-Err-Frame.field-0-is) c.args.coded.now c.new-source.ensures.bytes in
-    let same : frame_refused k fault stopped.0 ≡ done c.requires.outcome.0 (c.requires.outcome.1 ∷ []) = c.requires.outcome.2.1 (frame_refused k fault stopped.0) stopped.1 in
+    let same : frame_refused k fault stopped.0 ≡ done c.requires.outcome.0 (c.requires.outcome.1 ∷ []) =
+    c.requires.outcome.2.1 (frame_refused k fault stopped.0) stopped.1 in
     let status : 6 ≡ 0 = ap (λ (a : Answer). a.status) same in
     absurd (omega (arith, status))

@@ -6,7 +6,8 @@ use Rattle.words_spec.specs.Rows.{command_of, task_of}
 use Rattle.dsdiff_spec.specs.Words.{Task, Word}
 use Rattle.dst_words.specs.Commands.{command_seen}
 use Rattle.dst_tool.specs.Runs.{ReadsNothing, WritesNowhere}
-use Rattle.dst_tool.proofs.Runs.{of_command, same_command, some_command, ends_of_words, run_headline, run_completes, run_refused, run_refused_frame, no_command, none_headline, reported}
+use Rattle.dst_tool.proofs.Runs.{of_command, same_command, some_command, ends_of_words, run_headline, run_completes, run_refused, run_refused_frame}
+use Rattle.dst_tool.proofs.Runs.{no_command, none_headline, reported}
 use Rattle.dst_tool.proofs.run.dst_run.Goals as goal
 
 -- the command of what the words ask for
@@ -15,14 +16,16 @@ command_from words o e = ap (option_map (λ (t : Task). t.command)) e
 
 pub returns-in-None-clause-headline : goal.returns-in-None-clause-headline
 returns-in-None-clause-headline g c file told no_read no_write no_report =
-    none_headline (map string_bytes c.args.words.now) file c.report_line.result _ _ _ _ (sym (command_from _ _ c.in-None.ensures.task)) c.words_not_understood.ensures c.report_line.ensures.reported c.report_line.ensures.whole (λ e. no_report (c.report_line.ensures.cause e))
+    none_headline (map string_bytes c.args.words.now) file c.report_line.result _ _ _ _ (sym (command_from _ _ c.in-None.ensures.task))
+    c.words_not_understood.ensures c.report_line.ensures.reported c.report_line.ensures.whole (λ e. no_report (c.report_line.ensures.cause e))
 
 pub returns-in-None-clause-ends : goal.returns-in-None-clause-ends
 returns-in-None-clause-ends g c file told = (
   1,
   words_line ∷ [],
   inr (inr (inr (no_command (map string_bytes c.args.words.now) file (g.K.Sink.written c.args.sink.now) (sym (command_from _ _ c.in-None.ensures.task))))),
-  reported 1 c.report_line.result words_line _ _ _ c.words_not_understood.ensures c.report_line.ensures.reported c.report_line.ensures.whole c.report_line.ensures.cut_short,
+  reported 1 c.report_line.result words_line _ _ _ c.words_not_understood.ensures c.report_line.ensures.reported c.report_line.ensures.whole
+      c.report_line.ensures.cut_short,
 )
 
 pub returns-in-Some-clause-headline : goal.returns-in-Some-clause-headline
@@ -39,7 +42,8 @@ returns-in-Some-clause-complete g c file told none no_read no_write no_report =
     let asks = command_seen c.in-Some.field-0.command in
     let e : command_of words ≡ Some asks = sym (command_from _ _ c.in-Some.ensures.task) in
     let r = c.run_command.ensures in
-    run_completes words asks file c.run_command.result _ _ _ _ e none (run_headline words asks file c.run_command.result _ _ _ _ _ _ _ _ _ _ e r told no_read no_write no_report)
+    run_completes words asks file c.run_command.result _ _ _ _ e none
+    (run_headline words asks file c.run_command.result _ _ _ _ _ _ _ _ _ _ e r told no_read no_write no_report)
 
 pub returns-in-Some-clause-ends : goal.returns-in-Some-clause-ends
 returns-in-Some-clause-ends g c file told =

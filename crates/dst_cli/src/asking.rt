@@ -1,0 +1,35 @@
+// Words that ask the program itself.
+ghost use Rattle.std.specs.Prelude.{◌≡◌, map};
+ghost use Rattle.std.specs.String.{string_bytes};
+ghost use Rattle.dst_cli.specs.Words.{asked_of, word_of};
+
+/// What is asked of the program itself.
+#[derive(Clone, Copy, Debug, PartialEq, Eq)]
+pub(crate) enum Asked {
+    Help,
+    Version,
+    /// The help of the command that the first word names.
+    HelpOf,
+}
+
+/// What the words ask of the program itself, if they do.
+pub(crate) fn what_is_asked(words: &[String]) -> Option<Asked>
+    ensures { result ≡ asked_of (map string_bytes words.now) }
+{
+    match words {
+        [word] if word.as_str() == "--help" => Some(Asked::Help),
+        [word] if word.as_str() == "--version" => Some(Asked::Version),
+        [_, word] if word.as_str() == "--help" => Some(Asked::HelpOf),
+        _ => None,
+    }
+}
+
+/// A word, or an empty one where there is none.
+pub(crate) fn word_at(words: &[String], place: usize) -> &str
+    ensures { result.now ≡ word_of (map string_bytes words.now) place }
+{
+    match words.get(place) {
+        Some(word) => word.as_str(),
+        None => "",
+    }
+}

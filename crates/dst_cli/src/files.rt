@@ -1,0 +1,45 @@
+// The machine's files and its standard input, as the devices of a run.
+ghost use Rattle.std.specs.Prelude.{None};
+
+use crate::progress::{Watched, sound_of};
+use crate::running::Devices;
+use dst_streams::{FileSink, FileSource, PipeFlow};
+use std::rt::Runtime;
+
+/// Names stand for files; a source tells how much of it was read, where that is wanted.
+#[derive(Drop)]
+pub(crate) struct MachineFiles<'r, R: Runtime + AllocGlobal> {
+    pub(crate) rt: &'r R,
+    pub(crate) is_watched: bool,
+}
+
+impl<'r, R: Runtime + AllocGlobal> Devices<'r> for MachineFiles<'r, R> {
+    type Source = Watched<'r, FileSource<'r, R>, R>;
+
+    type Sink = FileSink<'r, R>;
+
+    type Flow = PipeFlow<'r, R>;
+
+    ghost reads = { λ _ _. None };
+
+    ghost holds = { λ _ _. None };
+
+    ghost flows = { λ _. None };
+
+    fn source(&self, name: &'r str) -> Watched<'r, FileSource<'r, R>, R> {
+        let sound = if self.is_watched {
+            Some(sound_of(self.rt, self.rt.alloc(), name))
+        } else {
+            None
+        };
+        Watched::new(self.rt, FileSource::new(self.rt, name), sound)
+    }
+
+    fn sink(&self, name: &'r str) -> FileSink<'r, R> {
+        FileSink::new(self.rt, name)
+    }
+
+    fn flow(&self) -> PipeFlow<'r, R> {
+        PipeFlow::new(self.rt)
+    }
+}
