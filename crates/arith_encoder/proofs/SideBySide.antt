@@ -1,5 +1,6 @@
 -- A symbol in a lane of sixteen bits, and symbols one after the other.
-use Rattle.std.proofs.Common.{◌≡◌, ℕ, ◌+◌, ◌-◌, ◌*◌, ◌/◌, ◌%◌, ◌^◌, ◌<◌, ◌≤◌, Bool, true, false, nat_lt, if◌then◌else◌, List, [], ◌∷◌, length, get_or, take, refl, ap, subst, ◌∙◌, arith, lt-ltb, le-ltb, length-take-le}
+use Rattle.std.proofs.Common.{◌≡◌, ℕ, ◌+◌, ◌-◌, ◌*◌, ◌/◌, ◌%◌, ◌^◌, ◌<◌, ◌≤◌, Bool, true, false, nat_lt, if◌then◌else◌, List, [], ◌∷◌, length, get_or}
+use Rattle.std.proofs.Common.{take, refl, ap, subst, ◌∙◌, arith, lt-ltb, le-ltb, length-take-le}
 use mir.Val.{bool_byte}
 use Rattle.std.proofs.lemmas.List.{take_more, get_or_default}
 use Rattle.std.proofs.lemmas.Nat.{mul-le}
@@ -16,14 +17,16 @@ doubled_is : (m : ℕ) → m < 4096 → (e : Bool) → (if e then m * 2 % 65536 
 doubled_is m lt true = omega arith
 doubled_is m lt false = omega arith
 
-narrows-of : (range p : ℕ) (symbol : Bool) (start after d after_is d_is : ℕ) → after_is ≡ after → d_is ≡ d → IsNarrowed range p symbol start after d → Narrows range symbol p after_is d_is
+narrows-of : (range p : ℕ) (symbol : Bool) (start after d after_is d_is : ℕ) → after_is ≡ after → d_is ≡ d → IsNarrowed range p symbol start after d →
+    Narrows range symbol p after_is d_is
 narrows-of range p symbol start after d after_is d_is e g n = rw (e, g) (record {
   in_range = n.in_range;
   few = n.few;
   alike = λ i is. (ap (λ j. j.range) (n.narrowed_is i is), ap (λ j. j.doublings) (n.narrowed_is i is));
 })
 
-pub lane_is : (symbol : Bool) (p range step s size part after d : ℕ) → IsStep symbol p step → IsRange range → s ≡ scale range → size ≡ s * (step % 256) % 65536 →
+pub lane_is : (symbol : Bool) (p range step s size part after d : ℕ) → IsStep symbol p step → IsRange range → s ≡ scale range →
+    size ≡ s * (step % 256) % 65536 →
     part ≡ (if nat_lt step 32768 then size else (range + (65536 - size)) % 65536) → after ≡ (if nat_lt part 2048 then part * 2 % 65536 else part) →
     d ≡ step / 256 % 8 + bool_byte (nat_lt part 2048) → Narrows range symbol p after d
 lane_is true p range step s size part after d is r scale_is size_is part_is after_is d_is =
@@ -66,15 +69,18 @@ none-taken before r = record { in_range = r; few = omega arith; alike = λ i is.
 
 pub step-of : (lane : ℕ) (steps : List (List ℕ)) (pairs : List (Bool × ℕ)) (k : ℕ) (d : List ℕ) → AreSteps lane steps pairs → k < length steps →
     IsStep (get_or pairs k (false, 0)).0 (get_or pairs k (false, 0)).1 (get_or (get_or steps k d) lane 0)
-step-of lane steps pairs k d h lt = subst (λ s. IsStep (get_or pairs k (false, 0)).0 (get_or pairs k (false, 0)).1 (get_or s lane 0)) (get_or_default steps k [] d lt) (h.each k lt)
+step-of lane steps pairs k d h lt = subst (λ s. IsStep (get_or pairs k (false, 0)).0 (get_or pairs k (false, 0)).1 (get_or s lane 0))
+    (get_or_default steps k [] d lt) (h.each k lt)
 
 one-more : (j : Interval) (e : Bool) (p : ℕ) → interval_from j ((e, p) ∷ []) ≡ narrowed j (e, p)
 unfolding interval_from
 one-more j e p = refl
 
-pub leaves-more : (before : ℕ) (lane : ℕ) (steps : List (List ℕ)) (pairs : List (Bool × ℕ)) (k now count after count_after : ℕ) → AreSteps lane steps pairs → k < length steps → length steps ≤ 8000 →
+pub leaves-more : (before : ℕ) (lane : ℕ) (steps : List (List ℕ)) (pairs : List (Bool × ℕ)) (k now count after count_after : ℕ) →
+    AreSteps lane steps pairs → k < length steps → length steps ≤ 8000 →
     Leaves before (take k pairs) now count →
-    (IsRange now → TakesStep now count (get_or pairs k (false, 0)).0 (get_or pairs k (false, 0)).1 after count_after) → Leaves before (take (k + 1) pairs) after count_after
+    (IsRange now → TakesStep now count (get_or pairs k (false, 0)).0 (get_or pairs k (false, 0)).1 after count_after) →
+    Leaves before (take (k + 1) pairs) after count_after
 leaves-more before lane steps pairs k now count after count_after h lt most old next =
     let t = next old.in_range in
     let e = (get_or pairs k (false, 0)).0 in
@@ -92,6 +98,7 @@ leaves-more before lane steps pairs k now count after count_after h lt most old 
           let a = old.alike i is in
           let j = interval_from i (take k pairs) in
           let n = t.narrows.alike j a.0 in
-          let whole = ap (interval_from i) (take_more pairs k (false, 0) (omega arith)) ∙ interval_from-append i (take k pairs) (get_or pairs k (false, 0) ∷ []) ∙ one-more j e p in
+          let whole = ap (interval_from i) (take_more pairs k (false, 0) (omega arith))
+          ∙ interval_from-append i (take k pairs) (get_or pairs k (false, 0) ∷ []) ∙ one-more j e p in
           (ap (λ x. x.range) whole ∙ n.0, ap (λ x. x.doublings) whole ∙ omega (arith, n.1, a.1, counted));
     }

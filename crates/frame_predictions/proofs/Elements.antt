@@ -28,7 +28,8 @@ unfolding codes
 codes-whole f sound c filter xs long each = fill_by_all (code_at f sound c filter) xs (samples f) 0 long each
 
 -- a code has seven bits
-pub codes-small : (f : Shape) (sound : List ℕ) (c : ℕ) (filter : List ℤ) (k d : ℕ) → k < length (codes f sound c filter) → get_or (codes f sound c filter) k d < 128
+pub codes-small : (f : Shape) (sound : List ℕ) (c : ℕ) (filter : List ℤ) (k d : ℕ) → k < length (codes f sound c filter) →
+    get_or (codes f sound c filter) k d < 128
 codes-small f sound c filter k d lt =
     let long = codes-length f sound c filter in
     let at = get_or_default (codes f sound c filter) k d 0 lt ∙ codes-at f sound c filter k (omega arith) in

@@ -1,5 +1,6 @@
 -- Rows made and moved.
-use Rattle.std.proofs.Common.{◌≡◌, ◌⊎◌, inl, inr, ℕ, ◌+◌, ◌<◌, ◌≤◌, max, List, [], ◌∷◌, ◌++◌, length, get_or, set, take, drop, map, ap, sym, subst, ◌∙◌, arith, get_or-set_same, get_or-set_other, length-set, length-take-le, get_or-take}
+use Rattle.std.proofs.Common.{◌≡◌, ◌⊎◌, inl, inr, ℕ, ◌+◌, ◌<◌, ◌≤◌, max, List, [], ◌∷◌, ◌++◌, length, get_or, set, take, drop, map, ap, sym, subst}
+use Rattle.std.proofs.Common.{◌∙◌, arith, get_or-set_same, get_or-set_other, length-set, length-take-le, get_or-take}
 use Rattle.std.specs.List.{SwappedAt}
 use Rattle.std.proofs.lemmas.Bool.{cases_eq, cases_lt}
 use Rattle.std.proofs.lemmas.List.{get_or-map, length-map}
@@ -18,7 +19,8 @@ IsRight f sound row = row.codes.items ≡ codes f sound row.channel row.filter
 right-long : (f : Shape) (sound : List ℕ) (row : Row) → IsRight f sound row → length row.codes.items ≡ samples f
 right-long f sound row is = ap length is ∙ codes-length f sound row.channel row.filter
 
-pub filled-made : (f : Shape) (sound : List ℕ) (rows : List Row) (filled place : ℕ) (new : Row) → AreFilled f sound rows filled → place < length rows → place ≤ filled → IsRight f sound new →
+pub filled-made : (f : Shape) (sound : List ℕ) (rows : List Row) (filled place : ℕ) (new : Row) → AreFilled f sound rows filled →
+    place < length rows → place ≤ filled → IsRight f sound new →
     AreFilled f sound (set rows place new) (max filled (place + 1))
 filled-made f sound rows filled place new h inside next right =
     let long = length-set rows place new in
@@ -30,11 +32,13 @@ filled-made f sound rows filled place new h inside next right =
     }
   where
     at : (k : ℕ) (other : Row) → k < max filled (place + 1) → (k ≡ place) ⊎ (k ≡ place → ⊥) → IsRight f sound (get_or (set rows place new) k other)
-    at k other lt (inl is) = subst (IsRight f sound) (sym (ap (λ n. get_or (set rows place new) n other) is ∙ get_or-set_same rows place new other inside)) right
+    at k other lt (inl is) = subst (IsRight f sound)
+        (sym (ap (λ n. get_or (set rows place new) n other) is ∙ get_or-set_same rows place new other inside)) right
     at k other lt (inr ne) = subst (IsRight f sound) (sym (get_or-set_other rows place k new other ne)) (h.are k other (omega arith))
 
 -- what holds of each place before holds of each place of rows two of which are exchanged
-swapped-all : (P : Row → Type 0) (xs ys : List Row) (a b n : ℕ) → SwappedAt xs ys a b → a < n → b < n → ((k : ℕ) (other : Row) → k < n → P (get_or xs k other)) → (k : ℕ) (other : Row) → k < n → P (get_or ys k other)
+swapped-all : (P : Row → Type 0) (xs ys : List Row) (a b n : ℕ) → SwappedAt xs ys a b → a < n → b < n →
+    ((k : ℕ) (other : Row) → k < n → P (get_or xs k other)) → (k : ℕ) (other : Row) → k < n → P (get_or ys k other)
 swapped-all P xs ys a b n s la lb h k other lt = at (cases_eq k a) (cases_eq k b)
   where
     at : (k ≡ a) ⊎ (k ≡ a → ⊥) → (k ≡ b) ⊎ (k ≡ b → ⊥) → P (get_or ys k other)
@@ -42,12 +46,14 @@ swapped-all P xs ys a b n s la lb h k other lt = at (cases_eq k a) (cases_eq k b
     at (inr ne) (inl is) = subst P (sym (ap (λ i. get_or ys i other) is ∙ s.1 other)) (h a other la)
     at (inr ne) (inr nor) = subst P (sym (s.2 k other ne nor)) (h k other lt)
 
-pub filled-swapped : (f : Shape) (sound : List ℕ) (rows new : List Row) (filled a b : ℕ) → AreFilled f sound rows filled → SwappedAt rows new a b → length new ≡ length rows → a < filled → b < filled → AreFilled f sound new filled
+pub filled-swapped : (f : Shape) (sound : List ℕ) (rows new : List Row) (filled a b : ℕ) → AreFilled f sound rows filled → SwappedAt rows new a b →
+    length new ≡ length rows → a < filled → b < filled → AreFilled f sound new filled
 filled-swapped f sound rows new filled a b h s long la lb =
     let within = h.within in
     record {
       within = omega arith;
-      long = λ k other lt. swapped-all (λ row. length row.codes.items ≡ samples f) rows new a b (length rows) s (omega arith) (omega arith) (λ i o l. h.long i o l) k other (omega arith);
+      long = λ k other lt. swapped-all (λ row. length row.codes.items ≡ samples f) rows new a b (length rows) s (omega arith) (omega arith)
+          (λ i o l. h.long i o l) k other (omega arith);
       are = swapped-all (IsRight f sound) rows new a b filled s la lb h.are;
     }
 
@@ -55,7 +61,8 @@ filled-swapped f sound rows new filled a b h s long la lb =
 pub seen-length : (rows : List Row) (held : ℕ) → held ≤ length rows → length (map predicted (take held rows)) ≡ held
 seen-length rows held le = length-map (take held rows) predicted ∙ length-take-le held rows le
 
-pub seen-at : (rows : List Row) (held k : ℕ) (row : Row) (other : Predicted) → held ≤ length rows → k < held → get_or (map predicted (take held rows)) k other ≡ predicted (get_or rows k row)
+pub seen-at : (rows : List Row) (held k : ℕ) (row : Row) (other : Predicted) → held ≤ length rows → k < held →
+    get_or (map predicted (take held rows)) k other ≡ predicted (get_or rows k row)
 seen-at rows held k row other le lt =
     let inside : k < length (take held rows) = omega (arith, length-take-le held rows le) in
     get_or-map predicted (take held rows) k row other inside ∙ ap predicted (get_or-take held rows k row lt)

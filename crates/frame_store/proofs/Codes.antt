@@ -1,5 +1,6 @@
 -- Codes symbol after symbol, and that a code which doesn't fit fits with no more symbols.
-use Rattle.std.proofs.Common.{◌≡◌, ◌⊎◌, inl, inr, ℕ, suc, ◌+◌, ◌<◌, ◌≤◌, Bool, List, [], ◌∷◌, ◌++◌, length, get_or, map, take, drop, ap, sym, ◌∙◌, arith, drop-cons}
+use Rattle.std.proofs.Common.{◌≡◌, ◌⊎◌, inl, inr, ℕ, suc, ◌+◌, ◌<◌, ◌≤◌, Bool, List, [], ◌∷◌, ◌++◌, length, get_or, map, take, drop, ap, sym, ◌∙◌}
+use Rattle.std.proofs.Common.{arith, drop-cons}
 use Rattle.std.proofs.lemmas.Bool.{cases_lt}
 use Rattle.std.proofs.lemmas.List.{take_more, take-append-drop, map-append}
 use Rattle.dst_spec.specs.Interval.{Interval, whole, narrowed, interval_from, interval}
@@ -15,12 +16,14 @@ pub map-around : (f : ℕ → Bool × ℕ) (xs : List ℕ) (i : ℕ) → i < len
 map-around f xs i lt =
     ap (map f) (sym (take-append-drop i xs)) ∙ map-append f (take i xs) (drop i xs) ∙ ap (λ ys. map f (take i xs) ++ map f ys) (drop-cons xs i 0 lt)
 
-pub too_long : (room : ℕ) (reached : Interval) (before behind : List (Bool × ℕ)) (e : Bool) (p : ℕ) → reached ≡ interval before → (13 + (narrowed reached (e, p)).doublings ≤ room → ⊥) →
+pub too_long : (room : ℕ) (reached : Interval) (before behind : List (Bool × ℕ)) (e : Bool) (p : ℕ) → reached ≡ interval before →
+    (13 + (narrowed reached (e, p)).doublings ≤ room → ⊥) →
     room < 13 + (interval (before ++ (e, p) ∷ behind)).doublings
 unfolding interval_from
 too_long room reached before behind e p is refused = at (cases_lt room (13 + (narrowed reached (e, p)).doublings))
   where
-    at : (room < 13 + (narrowed reached (e, p)).doublings) ⊎ (13 + (narrowed reached (e, p)).doublings ≤ room) → room < 13 + (interval (before ++ (e, p) ∷ behind)).doublings
+    at : (room < 13 + (narrowed reached (e, p)).doublings) ⊎ (13 + (narrowed reached (e, p)).doublings ≤ room) →
+        room < 13 + (interval (before ++ (e, p) ∷ behind)).doublings
     at (inl lt) =
         let all = ap (λ i. i.doublings) (interval_from-append whole before ((e, p) ∷ behind) ∙ ap (λ i. interval_from (narrowed i (e, p)) behind) (sym is)) in
         omega (arith, all, more_from (narrowed reached (e, p)) behind)

@@ -1,5 +1,7 @@
 -- Steps laid side by side.
-use Rattle.std.proofs.Common.{◌≡◌, ◌≢◌, ◌⊎◌, inl, inr, ℕ, zero, suc, ◌+◌, ◌<◌, ◌≤◌, Bool, false, List, [], ◌∷◌, ◌++◌, length, get_or, set, take, drop, map, replicate, refl, ap, sym, subst, ◌∙◌, arith, get_or-set_same, get_or-set_other, length-set, length-take-le, get_or-take}
+use Rattle.std.proofs.Common.{◌≡◌, ◌≢◌, ◌⊎◌, inl, inr, ℕ, zero, suc, ◌+◌, ◌<◌, ◌≤◌, Bool, false, List, [], ◌∷◌, ◌++◌, length, get_or, set, take, drop}
+use Rattle.std.proofs.Common.{map, replicate, refl, ap, sym, subst, ◌∙◌, arith, get_or-set_same, get_or-set_other, length-set, length-take-le}
+use Rattle.std.proofs.Common.{get_or-take}
 use Rattle.std.proofs.lemmas.Bool.{cases_eq}
 use Rattle.std.proofs.lemmas.List.{get_or-map, length-map, map-append}
 use Rattle.std.proofs.Math.Seq.{take-add}
@@ -14,18 +16,22 @@ use Rattle.frame_store.specs.Pairs.{pair_of}
 abbrev pub with_lane : List (List ℕ) → ℕ → ℕ → ℕ → List (List ℕ)
 with_lane steps k lane x = set steps k (set (get_or steps k []) lane x)
 
-pub lane-same : (steps : List (List ℕ)) (k lane x : ℕ) → k < length steps → lane < length (get_or steps k []) → get_or (get_or (with_lane steps k lane x) k []) lane 0 ≡ x
-lane-same steps k lane x lt h = ap (λ r. get_or r lane 0) (get_or-set_same steps k (set (get_or steps k []) lane x) [] lt) ∙ get_or-set_same (get_or steps k []) lane x 0 h
+pub lane-same : (steps : List (List ℕ)) (k lane x : ℕ) → k < length steps → lane < length (get_or steps k []) →
+    get_or (get_or (with_lane steps k lane x) k []) lane 0 ≡ x
+lane-same steps k lane x lt h = ap (λ r. get_or r lane 0) (get_or-set_same steps k (set (get_or steps k []) lane x) [] lt)
+    ∙ get_or-set_same (get_or steps k []) lane x 0 h
 
 pub lane-row : (steps : List (List ℕ)) (k j lane x : ℕ) → j ≢ k → get_or (get_or (with_lane steps k lane x) j []) lane 0 ≡ get_or (get_or steps j []) lane 0
 lane-row steps k j lane x ne = ap (λ r. get_or r lane 0) (get_or-set_other steps k j (set (get_or steps k []) lane x) [] ne)
 
-pub lane-other : (steps : List (List ℕ)) (k j lane other x : ℕ) → k < length steps → other ≢ lane → get_or (get_or (with_lane steps k lane x) j []) other 0 ≡ get_or (get_or steps j []) other 0
+pub lane-other : (steps : List (List ℕ)) (k j lane other x : ℕ) → k < length steps → other ≢ lane →
+    get_or (get_or (with_lane steps k lane x) j []) other 0 ≡ get_or (get_or steps j []) other 0
 lane-other steps k j lane other x lt ne = at (cases_eq j k)
   where
     at : (j ≡ k) ⊎ (j ≡ k → ⊥) → get_or (get_or (with_lane steps k lane x) j []) other 0 ≡ get_or (get_or steps j []) other 0
     at (inl is) =
-        ap (λ i. get_or (get_or (with_lane steps k lane x) i []) other 0) is ∙ ap (λ r. get_or r other 0) (get_or-set_same steps k (set (get_or steps k []) lane x) [] lt)
+        ap (λ i. get_or (get_or (with_lane steps k lane x) i []) other 0) is
+        ∙ ap (λ r. get_or r other 0) (get_or-set_same steps k (set (get_or steps k []) lane x) [] lt)
         ∙ get_or-set_other (get_or steps k []) lane other x 0 ne ∙ ap (λ i. get_or (get_or steps i []) other 0) (sym is)
     at (inr nor) = ap (λ r. get_or r other 0) (get_or-set_other steps k j (set (get_or steps k []) lane x) [] nor)
 
@@ -57,7 +63,8 @@ part-steps lane table steps xs n long le each small here =
           (subst (IsStep (pair_of (get_or xs k 0)).0 (pair_of (get_or xs k 0)).1) (sym step) (each (get_or xs k 0) (small k)));
     }
 
-pub measured-more : (before behind : List (Bool × ℕ)) (range bits after more bits_after : ℕ) → IsMeasured before range bits → Leaves range behind after more → bits_after ≡ bits + more →
+pub measured-more : (before behind : List (Bool × ℕ)) (range bits after more bits_after : ℕ) → IsMeasured before range bits →
+    Leaves range behind after more → bits_after ≡ bits + more →
     IsMeasured (before ++ behind) after bits_after
 measured-more before behind range bits after more bits_after h next is =
     let all = interval_from-append whole before behind in
@@ -72,16 +79,19 @@ measured-more before behind range bits after more bits_after h next is =
 
 pub none-measured : (range bits : ℕ) → range ≡ 4095 → bits ≡ 13 → IsMeasured [] range bits
 unfolding interval_from
-none-measured range bits r b = rw (r, b) (record { doublings = 0; in_range = record { least = omega arith; most = omega arith }; alike = (refl, refl); bits_are = refl })
+none-measured range bits r b = rw (r, b)
+    (record { doublings = 0; in_range = record { least = omega arith; most = omega arith }; alike = (refl, refl); bits_are = refl })
 
 pub all-measured : (pairs : List (Bool × ℕ)) (range bits : ℕ) → IsMeasured pairs range bits → bits ≡ length (code_spelling pairs)
 all-measured pairs range bits h = let is = h.bits_are in omega (arith, code_bits pairs, h.alike.1)
 
-pub first-step : (lane p : ℕ) (steps : List (List ℕ)) (first : List ℕ) → 0 < length steps → IsStep false p (get_or first lane 0) → AreSteps lane (take 1 (set steps 0 first)) ((false, p) ∷ [])
+pub first-step : (lane p : ℕ) (steps : List (List ℕ)) (first : List ℕ) → 0 < length steps → IsStep false p (get_or first lane 0) →
+    AreSteps lane (take 1 (set steps 0 first)) ((false, p) ∷ [])
 first-step lane p [] first some is = absurd (omega arith)
 first-step lane p (s ∷ rest) first some is = record { long = refl; each = at }
   where
-    at : (k : ℕ) → k < 1 → IsStep (get_or {A = Bool × ℕ} ((false, p) ∷ []) k (false, 0)).0 (get_or {A = Bool × ℕ} ((false, p) ∷ []) k (false, 0)).1 (get_or (get_or (first ∷ []) k []) lane 0)
+    at : (k : ℕ) → k < 1 → IsStep (get_or {A = Bool × ℕ} ((false, p) ∷ []) k (false, 0)).0 (get_or {A = Bool × ℕ} ((false, p) ∷ []) k (false, 0)).1
+        (get_or (get_or (first ∷ []) k []) lane 0)
     at zero lt = is
     at (suc k) lt = absurd (omega arith)
 

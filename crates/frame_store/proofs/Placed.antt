@@ -1,5 +1,7 @@
 -- Symbols laid out in order, a byte for each channel of each sample.
-use Rattle.std.proofs.Common.{◌≡◌, ◌≢◌, ◌⊎◌, inl, inr, ℕ, zero, suc, ◌+◌, ◌-◌, ◌*◌, ◌%◌, ◌<◌, ◌≤◌, ◌&&◌, min, nat_lt, not, pos, Bool, true, false, if◌then◌else◌, List, ◌∷◌, ◌++◌, length, get_or, map, take, drop, ap, ap₂, sym, subst, ◌∙◌, arith, add-one, lt-ltb, le-ltb, length-drop, length-take-le, get_or-take, get_or-drop}
+use Rattle.std.proofs.Common.{◌≡◌, ◌≢◌, ◌⊎◌, inl, inr, ℕ, zero, suc, ◌+◌, ◌-◌, ◌*◌, ◌%◌, ◌<◌, ◌≤◌, ◌&&◌, min, nat_lt, not, pos, Bool, true, false}
+use Rattle.std.proofs.Common.{if◌then◌else◌, List, ◌∷◌, ◌++◌, length, get_or, map, take, drop, ap, ap₂, sym, subst, ◌∙◌, arith, add-one, lt-ltb}
+use Rattle.std.proofs.Common.{le-ltb, length-drop, length-take-le, get_or-take, get_or-drop}
 use Rattle.std.proofs.lemmas.Bool.{cases_lt, cases_eq}
 use Rattle.std.proofs.lemmas.List.{map-append, get_or-map, length-map, take_all}
 use Rattle.std.proofs.lemmas.List.FromFn.{fill_by_all}
@@ -64,9 +66,11 @@ rows-are f P sound xs long placed (suc t) le =
     ∙ ap₂ (λ a b. a ++ b) (rows-are f P sound xs long placed t (omega arith)) (row-is f P sound xs t long placed (omega arith))
     ∙ sym (symbols_before-more f P sound false t) ∙ ap (symbols_before f P sound false) (add-one t)
 
-pub all-placed : (f : Shape) (P : Params) (sound xs : List ℕ) → length xs ≡ samples f * f.channels → ArePlaced f P sound xs f.channels → all_pairs P xs ≡ symbols f P sound false
+pub all-placed : (f : Shape) (P : Params) (sound xs : List ℕ) → length xs ≡ samples f * f.channels → ArePlaced f P sound xs f.channels →
+    all_pairs P xs ≡ symbols f P sound false
 all-placed f P sound xs long placed =
-    ap (all_pairs P) (sym (take_all (samples f * f.channels) xs (omega arith))) ∙ rows-are f P sound xs long placed (samples f) (omega arith) ∙ all_symbols f P sound false
+    ap (all_pairs P) (sym (take_all (samples f * f.channels) xs (omega arith))) ∙ rows-are f P sound xs long placed (samples f) (omega arith)
+    ∙ all_symbols f P sound false
 
 -- ---- the byte of a sample
 bit_back : (b : Bool) (p : ℕ) → 1 ≤ p → p ≤ 128 → pair_of (p % 128 + (if b then 128 else 0)) ≡ (b, p)
@@ -86,7 +90,8 @@ pub record Tells (f : Shape) (P : Params) (sound : List ℕ) (c t code : ℕ) : 
       else get_or (probs_of P c) (min (code % 64) (length (probs_of P c) - 1)) 0)
 
 pub byte-is : (f : Shape) (P : Params) (sound : List ℕ) (c t code : ℕ) (early : Bool) → IsTable prob_kind (map pos (probs_of P c)) → Tells f P sound c t code →
-    early ≡ (get_or P.half_prob c false && nat_lt t (length (filter_of P c))) → pair_of (symbol_byte (probs_of P c) early code) ≡ (as_guessed f P sound c t, probability f P sound c t)
+    early ≡ (get_or P.half_prob c false && nat_lt t (length (filter_of P c))) →
+    pair_of (symbol_byte (probs_of P c) early code) ≡ (as_guessed f P sound c t, probability f P sound c t)
 byte-is f P sound c t code early table tells is =
     let probs = probs_of P c in
     let place = min (code % 64) (length probs - 1) in
@@ -94,20 +99,25 @@ byte-is f P sound c t code early table tells is =
     let range = prob_in_range probs place table (omega arith) in
     back early (sym tells.guess) (ap (λ b. if b then 128 else get_or probs place 0) is ∙ sym tells.probability_is) range
   where
-    back : (b : Bool) → nat_lt code 64 ≡ as_guessed f P sound c t → (if b then 128 else get_or (probs_of P c) (min (code % 64) (length (probs_of P c) - 1)) 0) ≡ probability f P sound c t →
-        (1 ≤ get_or (probs_of P c) (min (code % 64) (length (probs_of P c) - 1)) 0) × (get_or (probs_of P c) (min (code % 64) (length (probs_of P c) - 1)) 0 ≤ 128) →
+    back : (b : Bool) → nat_lt code 64 ≡ as_guessed f P sound c t →
+        (if b then 128 else get_or (probs_of P c) (min (code % 64) (length (probs_of P c) - 1)) 0) ≡ probability f P sound c t →
+        (1 ≤ get_or (probs_of P c) (min (code % 64) (length (probs_of P c) - 1)) 0)
+        × (get_or (probs_of P c) (min (code % 64) (length (probs_of P c) - 1)) 0 ≤ 128) →
         pair_of (symbol_byte (probs_of P c) b code) ≡ (as_guessed f P sound c t, probability f P sound c t)
     back true g p range = bit_back (nat_lt code 64) 128 (omega arith) (omega arith) ∙ ap₂ (λ x y. (x, y)) g p
-    back false g p range = bit_back (nat_lt code 64) (get_or (probs_of P c) (min (code % 64) (length (probs_of P c) - 1)) 0) range.0 range.1 ∙ ap₂ (λ x y. (x, y)) g p
+    back false g p range = bit_back (nat_lt code 64) (get_or (probs_of P c) (min (code % 64) (length (probs_of P c) - 1)) 0) range.0 range.1
+        ∙ ap₂ (λ x y. (x, y)) g p
 
 -- one channel more
 pub placed-more : (f : Shape) (P : Params) (sound old new : List ℕ) (done : ℕ) → done < f.channels → ArePlaced f P sound old done →
     ((t : ℕ) → t < samples f → pair_of (get_or new (t * f.channels + done) 0) ≡ (as_guessed f P sound done t, probability f P sound done t)) →
-    ((t d : ℕ) → t < samples f → d < f.channels → d ≢ done → get_or new (t * f.channels + d) 0 ≡ get_or old (t * f.channels + d) 0) → ArePlaced f P sound new (done + 1)
+    ((t d : ℕ) → t < samples f → d < f.channels → d ≢ done → get_or new (t * f.channels + d) 0 ≡ get_or old (t * f.channels + d) 0) →
+    ArePlaced f P sound new (done + 1)
 placed-more f P sound old new done lt placed here others = record {
   each = λ c t h k. at c t h k (cases_eq c done);
 }
   where
-    at : (c t : ℕ) → c < done + 1 → t < samples f → (c ≡ done) ⊎ (c ≡ done → ⊥) → pair_of (get_or new (t * f.channels + c) 0) ≡ (as_guessed f P sound c t, probability f P sound c t)
+    at : (c t : ℕ) → c < done + 1 → t < samples f → (c ≡ done) ⊎ (c ≡ done → ⊥) →
+        pair_of (get_or new (t * f.channels + c) 0) ≡ (as_guessed f P sound c t, probability f P sound c t)
     at c t h k (inl is) = subst (λ n. pair_of (get_or new (t * f.channels + n) 0) ≡ (as_guessed f P sound n t, probability f P sound n t)) (sym is) (here t k)
     at c t h k (inr ne) = ap pair_of (others t c k (omega arith) ne) ∙ placed.each c t (omega arith) k

@@ -6,7 +6,8 @@ use Rattle.frame_header.proofs.write.write_header.Goals as goal
 
 pub returns-then-length-room-clause-written : goal.returns-then-length-room-clause-written
 returns-then-length-room-clause-written c =
-    let no : length (header_spelling c.args.params.now) ≤ c.args.writer.now.room → ⊥ = λ fits. omega (arith, c.header_length-length.ensures.length, c.if-length-room.true, c.room.ensures.room, fits) in
+    let no : length (header_spelling c.args.params.now) ≤ c.args.writer.now.room → ⊥ =
+    λ fits. omega (arith, c.header_length-length.ensures.length, c.if-length-room.true, c.room.ensures.room, fits) in
     (λ t. absurd cc, λ fits. absurd (no fits))
 
 pub write-requires : goal.write-requires
@@ -16,7 +17,13 @@ write-requires c =
       filters_are = c.as_slice-filters.ensures.value ∙ ap (λ Q. Q.filters) c.params.view_is;
       probs_are = c.as_slice-probs.ensures.value ∙ ap (λ Q. Q.probs) c.params.view_is;
     } in
-    omega (arith, parts_long c.args.params.now c.of-front.result c.as_slice-filters.result.now c.as_slice-probs.result.now parts, c.header_length-length.ensures.length, c.if-length-room.false, c.room.ensures.room)
+    omega (
+      arith,
+      parts_long c.args.params.now c.of-front.result c.as_slice-filters.result.now c.as_slice-probs.result.now parts,
+      c.header_length-length.ensures.length,
+      c.if-length-room.false,
+      c.room.ensures.room,
+    )
 
 pub write_tables-requires : goal.write_tables-requires
 write_tables-requires c =
@@ -25,7 +32,14 @@ write_tables-requires c =
       filters_are = c.as_slice-filters.ensures.value ∙ ap (λ Q. Q.filters) c.params.view_is;
       probs_are = c.as_slice-probs.ensures.value ∙ ap (λ Q. Q.probs) c.params.view_is;
     } in
-    omega (arith, parts_long c.args.params.now c.of-front.result c.as_slice-filters.result.now c.as_slice-probs.result.now parts, c.header_length-length.ensures.length, c.if-length-room.false, c.room.ensures.room, c.write.ensures.room)
+    omega (
+      arith,
+      parts_long c.args.params.now c.of-front.result c.as_slice-filters.result.now c.as_slice-probs.result.now parts,
+      c.header_length-length.ensures.length,
+      c.if-length-room.false,
+      c.room.ensures.room,
+      c.write.ensures.room,
+    )
 
 pub write_tables-requires-2 : goal.write_tables-requires-2
 write_tables-requires-2 c =
@@ -34,7 +48,15 @@ write_tables-requires-2 c =
       filters_are = c.as_slice-filters.ensures.value ∙ ap (λ Q. Q.filters) c.params.view_is;
       probs_are = c.as_slice-probs.ensures.value ∙ ap (λ Q. Q.probs) c.params.view_is;
     } in
-    omega (arith, parts_long c.args.params.now c.of-front.result c.as_slice-filters.result.now c.as_slice-probs.result.now parts, c.header_length-length.ensures.length, c.if-length-room.false, c.room.ensures.room, c.write.ensures.room, c.write_tables.ensures.room)
+    omega (
+      arith,
+      parts_long c.args.params.now c.of-front.result c.as_slice-filters.result.now c.as_slice-probs.result.now parts,
+      c.header_length-length.ensures.length,
+      c.if-length-room.false,
+      c.room.ensures.room,
+      c.write.ensures.room,
+      c.write_tables.ensures.room,
+    )
 
 whole : (c : goal.After-write_tables-2) → Wrote c.args.writer.now (header_spelling c.args.params.now) c.write_tables-2.new.writer
 whole c =
@@ -43,7 +65,8 @@ whole c =
       filters_are = c.as_slice-filters.ensures.value ∙ ap (λ Q. Q.filters) c.params.view_is;
       probs_are = c.as_slice-probs.ensures.value ∙ ap (λ Q. Q.probs) c.params.view_is;
     } in
-    wrote_header c.args.params.now c.of-front.result c.as_slice-filters.result.now c.as_slice-probs.result.now c.args.writer.now c.write.new.writer c.write_tables.new.writer c.write_tables-2.new.writer parts
+    wrote_header c.args.params.now c.of-front.result c.as_slice-filters.result.now c.as_slice-probs.result.now c.args.writer.now c.write.new.writer
+    c.write_tables.new.writer c.write_tables-2.new.writer parts
     c.write.ensures c.write_tables.ensures c.write_tables-2.ensures
 
 pub returns-clause-written : goal.returns-clause-written

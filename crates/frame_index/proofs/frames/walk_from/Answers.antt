@@ -39,7 +39,8 @@ loop-place-init g c =
       few = omega arith;
       behind = omega arith;
       before = omega (arith, least);
-      walked = walk_begins form (g.S.Source.bytes c.args.source.now) c.in_room-entries.result.entries (ap (λ (g : Gathered). g.entries) c.in_room-entries.ensures);
+      walked = walk_begins form (g.S.Source.bytes c.args.source.now) c.in_room-entries.result.entries
+          (ap (λ (g : Gathered). g.entries) c.in_room-entries.ensures);
       room = ap (λ (g : Gathered). g.room) c.in_room-entries.ensures;
     }
 
@@ -113,7 +114,8 @@ loop-place-preserved g c =
       behind = omega (arith, c.loop-place.invariant.behind);
       before = omega (arith, c.in-Ok.ensures.within);
       walked =
-          walk_goes_on form (g.S.Source.bytes c.args.source.now) c.loop-place.passed place _ c.loop-place.frames _ c.loop-place.entries.entries _ (head_seen head)
+          walk_goes_on form (g.S.Source.bytes c.args.source.now) c.loop-place.passed place _ c.loop-place.frames _ c.loop-place.entries.entries _
+          (head_seen head)
           c.loop-place.invariant.walked few c.loop-place-test.true c.loop-place.invariant.behind c.in-Ok.ensures.place within next
           (λ xs told. c.in-Ok.ensures.head xs (c.loop-place.invariant.bytes ∙ told))
           c.in-Ok-pass_chunk.ensures.count c.in-Ok-pass_chunk.ensures.kept c.in-Ok-pass_chunk.ensures.faultless;
@@ -124,13 +126,15 @@ pub returns-then-frames-form-clause-fault : goal.returns-then-frames-form-clause
 returns-then-frames-form-clause-fault g c fault e xs told =
     let form = coded_seen c.args.form.now in
     let w = c.loop-place.invariant.walked in
-    stops_at_other_count form (g.S.Source.bytes c.args.source.now) c.loop-place.passed c.loop-place.place c.loop-place.frames c.loop-place.entries.entries xs w told
+    stops_at_other_count form (g.S.Source.bytes c.args.source.now) c.loop-place.passed c.loop-place.place c.loop-place.frames
+    c.loop-place.entries.entries xs w told
     c.loop-place-test.false c.if-frames-form.true
     ∙ ap Err (same_fault _ _ e)
 
 pub returns-clause-index : goal.returns-clause-index
 returns-clause-index g c xs told =
-    walk_is (coded_seen c.args.form.now) (g.S.Source.bytes c.args.source.now) c.loop-place.passed c.loop-place.place c.loop-place.frames c.loop-place.entries.entries
+    walk_is (coded_seen c.args.form.now) (g.S.Source.bytes c.args.source.now) c.loop-place.passed c.loop-place.place c.loop-place.frames
+    c.loop-place.entries.entries
     xs c.loop-place.invariant.walked told c.loop-place-test.false c.if-frames-form.false
     ∙ ap Ok (sym c.into_index.ensures)
 

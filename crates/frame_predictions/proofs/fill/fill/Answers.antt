@@ -14,7 +14,8 @@ loop-byte-preserved c = record {
   long = c.fill_byte.ensures.long ∙ c.loop-byte.invariant.long;
   filling = λ f count.
       let at = ap (λ n. get_or c.args.sound.now (c.loop-byte.byte * n + c.args.channel) 0) count in
-      filling-goes_on f c.args.sound.now c.args.channel c.args.sums.now c.loop-byte.byte c.fill_byte.new.codes c.fill_byte.new.ahead c.take_byte.new.self c.take_byte.ensures
+      filling-goes_on f c.args.sound.now c.args.channel c.args.sums.now c.loop-byte.byte c.fill_byte.new.codes c.fill_byte.new.ahead
+      c.take_byte.new.self c.take_byte.ensures
       (c.fill_byte.ensures.filling f c.args.sound.now c.args.channel at (c.loop-byte.invariant.filling f count));
 }
 

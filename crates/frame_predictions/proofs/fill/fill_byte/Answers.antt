@@ -15,7 +15,8 @@ loop-place-preserved c =
           let h = c.loop-place.invariant.filling f sound ch at start in
           let next : 8 * m + i + 1 ≡ 8 * m + (i + 1) = omega arith in
           subst (λ t. IsFilling f sound ch c.args.sums.now t (i + 1) (set codes (8 * m + i) c.take_sample-code.result) c.take_sample-code.new.ahead) next
-          (filling-more f sound ch c.args.sums.now (8 * m + i) i codes c.loop-place.ahead c.take_sample-code.new.ahead c.sample_at-one.result c.take_sample-code.result c.requires.filter inside
+          (filling-more f sound ch c.args.sums.now (8 * m + i) i codes c.loop-place.ahead c.take_sample-code.new.ahead c.sample_at-one.result
+          c.take_sample-code.result c.requires.filter inside
           (sample_is f sound ch m i c.args.samples c.sample_at-one.result c.loop-place-test.true at c.sample_at-one.ensures) h
           (c.take_sample-code.ensures.code h.samples h.ahead) (c.take_sample-code.ensures.ahead h.samples h.ahead));
     }

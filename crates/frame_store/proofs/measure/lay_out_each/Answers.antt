@@ -1,4 +1,5 @@
-use Rattle.std.proofs.Common.{◌≡◌, ◌≢◌, ℕ, ◌+◌, ◌-◌, ◌*◌, ◌<◌, ◌≤◌, false, length, get_or, take, drop, set, ap, ap₂, sym, subst, subst₂, ◌∙◌, arith, below_more, get_or-set_same, get_or-set_other, length-set}
+use Rattle.std.proofs.Common.{◌≡◌, ◌≢◌, ℕ, ◌+◌, ◌-◌, ◌*◌, ◌<◌, ◌≤◌, false, length, get_or, take, drop, set, ap, ap₂, sym, subst, subst₂, ◌∙◌, arith}
+use Rattle.std.proofs.Common.{below_more, get_or-set_same, get_or-set_other, length-set}
 use Rattle.std.proofs.lemmas.List.{get_or_default}
 use borrow.Rule.Slice.PartMut.{put_mid}
 use Rattle.dst_spec.specs.Header.{Params}
@@ -32,13 +33,15 @@ loop-lane-preserved c =
     let x = c.step_of.result in
     let Q = c.index-group-lane.result in
     let R : ℕ → Type 0 = λ l. (other : Params) → IsStep false (reserved_probability (get_or group l other)) (get_or (set c.loop-lane.reserved lane x) l 0) in
-    let L : ℕ → Type 0 = λ l. (other : Params) → all_pairs (get_or group l other) (take long (drop (l * long) (put_mid a k old new))) ≡ symbols f (get_or group l other) sound false in
+    let L : ℕ → Type 0 = λ l. (other : Params) →
+    all_pairs (get_or group l other) (take long (drop (l * long) (put_mid a k old new))) ≡ symbols f (get_or group l other) sound false in
     let here : (other : Params) → Q ≡ get_or group lane other = λ other. c.index-group-lane.is ∙ get_or_default group lane Q other c.loop-lane-test.true in
     let r_below : (l : ℕ) → l < lane → R l = λ l lt other.
     let ne : l ≢ lane = omega arith in
     subst (IsStep false (reserved_probability (get_or group l other))) (sym (get_or-set_other c.loop-lane.reserved lane l x 0 ne)) (v.reserved l other lt) in
     let r_here : R lane = λ other.
-    subst₂ (λ p s. IsStep false p s) (c.reserved_probability.ensures ∙ ap reserved_probability (here other)) (sym (get_or-set_same c.loop-lane.reserved lane x 0 room)) c.step_of.ensures in
+    subst₂ (λ p s. IsStep false p s) (c.reserved_probability.ensures ∙ ap reserved_probability (here other))
+    (sym (get_or-set_same c.loop-lane.reserved lane x 0 room)) c.step_of.ensures in
     let l_below : (l : ℕ) → l < lane → L l = λ l lt other.
     ap (all_pairs (get_or group l other)) (part-before a long (l * long) old new k same inside (rows-before l lane long lt)) ∙ v.laid_out l other lt in
     let l_here : L lane = λ other.

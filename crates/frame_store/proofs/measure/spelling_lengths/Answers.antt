@@ -21,7 +21,8 @@ returns-then-group-eq1-clause-lengths c = λ lane other lt.
     let laid = ap (λ n. all_pairs c.index-group-0.result (take n c.lay_out_first.new.symbols)) c.requires.long ∙ c.lay_out_first.ensures.symbols in
     let is : all_pairs P xs ≡ symbols f P sound false = subst (λ Q. all_pairs Q xs ≡ symbols f Q sound false) one laid in
     let length_is = c.spelling_length.ensures ∙ ap (λ Q. (length (header_spelling Q) + length (code_spelling (all_pairs Q xs)) + 7) / 8) two in
-    same-at 8 c.spelling_length.result lane (omega arith) ∙ length_is ∙ sym (spelled-length f P sound xs is) ∙ ap (λ l. length (spell f (get_or group l other) sound)) (sym none)
+    same-at 8 c.spelling_length.result lane (omega arith) ∙ length_is ∙ sym (spelled-length f P sound xs is)
+    ∙ ap (λ l. length (spell f (get_or group l other) sound)) (sym none)
 
 pub returns-clause-lengths : goal.returns-clause-lengths
 returns-clause-lengths c = λ lane other lt.
@@ -33,4 +34,5 @@ returns-clause-lengths c = λ lane other lt.
     c.lay_out_each-reserved.ensures.symbols lane other lt ∙ ap₂ (λ g s. symbols g P s false) c.release.ensures.channels c.release.ensures.sound in
     let eight : lane < 8 = omega (arith, c.requires.few) in
     let code = c.code_lengths-codes.ensures.lengths lane (reserved_probability P) eight (c.lay_out_each-reserved.ensures.reserved lane other lt) in
-    c.loop-lane.invariant.lengths lane other (omega (arith, c.loop-lane-test.false)) ∙ ap (λ n. (length (header_spelling P) + n + 7) / 8) code ∙ sym (spelled-length f P sound xs is)
+    c.loop-lane.invariant.lengths lane other (omega (arith, c.loop-lane-test.false)) ∙ ap (λ n. (length (header_spelling P) + n + 7) / 8) code
+    ∙ sym (spelled-length f P sound xs is)

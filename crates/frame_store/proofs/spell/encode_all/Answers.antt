@@ -17,7 +17,9 @@ returns-then-not-encode-2-clause-long c = λ refused.
     let p = c.prob_of.result in
     let room = c.loop-byte.invariant.room in
     let pair : (e, p) ≡ pair_of (get_or xs i 0) = ap₂ (λ x y. (x, y)) c.symbol_in.ensures c.prob_of.ensures in
-    let all = ap (λ q. (false, c.args.reserved) ∷ map pair_of (take i xs) ++ q ∷ map pair_of (drop (suc i) xs)) pair ∙ ap (λ ys. (false, c.args.reserved) ∷ ys) (sym (map-around pair_of xs i c.loop-byte-test.true)) in
+    let all = ap (λ q. (false, c.args.reserved) ∷ map pair_of (take i xs) ++ q ∷ map pair_of (drop (suc i) xs)) pair
+    ∙ ap (λ ys. (false, c.args.reserved) ∷ ys) (sym (map-around pair_of xs i c.loop-byte-test.true)) in
     subst (λ pairs. c.args.encoder.now.room < 13 + (interval pairs).doublings) all
-    (too_long c.args.encoder.now.room c.loop-byte.encoder.reached ((false, c.args.reserved) ∷ map pair_of (take i xs)) (map pair_of (drop (suc i) xs)) e p c.loop-byte.invariant.stands
+    (too_long c.args.encoder.now.room c.loop-byte.encoder.reached ((false, c.args.reserved) ∷ map pair_of (take i xs)) (map pair_of (drop (suc i) xs))
+    e p c.loop-byte.invariant.stands
     (λ h. let t = c.if-not-encode-2.ensures.fits.1 (omega (arith, h)) in absurd cc))

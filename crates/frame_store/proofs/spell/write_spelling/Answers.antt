@@ -7,7 +7,13 @@ use Rattle.frame_store.specs.Pairs.{pair_of, all_pairs}
 use Rattle.frame_store.proofs.spell.write_spelling.Goals as goal
 
 pub returns-in-Err-clause-long : goal.returns-in-Err-clause-long
-returns-in-Err-clause-long c = omega (arith, c.in-Err.ensures.full, c.if-not-write_header.ensures.room refl, code_bits (all_pairs c.args.params.now c.args.symbols.now))
+returns-in-Err-clause-long c = omega (
+  arith,
+  c.in-Err.ensures.full,
+  c.if-not-write_header.ensures.room refl,
+  code_bits
+      (all_pairs c.args.params.now c.args.symbols.now),
+)
 
 pub returns-then-encode_all-clause-bytes : goal.returns-then-encode_all-clause-bytes
 returns-then-encode_all-clause-bytes c =

@@ -28,9 +28,11 @@ loop-lane-preserved c =
           let before = v.chosen f sound found inside lengths start in
           let next : n + 1 ≡ c.args.first + (lane + 1) = omega arith in
           subst (λ m. IsChosen f sound found m new.best new.least) next (elim c.if-length-choice.branch [
-            | then-length-choice w ↦ subst₂ (λ b l. IsChosen f sound found (n + 1) b l) (sym (ap (λ x. x.best) w.choice-is)) (sym (ap (λ x. x.least) w.choice-is))
+            | then-length-choice w ↦ subst₂ (λ b l. IsChosen f sound found (n + 1) b l) (sym (ap (λ x. x.best) w.choice-is))
+                (sym (ap (λ x. x.least) w.choice-is))
                 (chosen-new f sound found n P old.best old.least (get_or c.args.lengths.now lane 0) lt at before long w.if-length-choice.true)
-            | else-length-choice w ↦ subst₂ (λ b l. IsChosen f sound found (n + 1) b l) (sym (ap (λ x. x.best) w.choice-is)) (sym (ap (λ x. x.least) w.choice-is))
+            | else-length-choice w ↦ subst₂ (λ b l. IsChosen f sound found (n + 1) b l) (sym (ap (λ x. x.best) w.choice-is))
+                (sym (ap (λ x. x.least) w.choice-is))
                 (chosen-old f sound found n P old.best old.least (get_or c.args.lengths.now lane 0) lt at before long w.if-length-choice.false)
           ]);
     }

@@ -28,5 +28,6 @@ returns-in-Some-clause-stored g c =
     sym (ap (λ h. all_pairs P (take (8 * sound_bytes h) c.lay_out_first.new.symbols)) later) ∙ c.lay_out_first.ensures.symbols
     ∙ ap₂ (λ h s. symbols h P s false) later (c.shortest.ensures.sound ∙ heard) in
     let long = spelled-length f P sound xs is in
-    let fits : length (header_spelling P) + length (code_spelling (all_pairs P xs)) ≤ 8 * (1 + sound_bytes f) = omega (arith, long, few, same, c.requires.sound) in
+    let fits : length (header_spelling P) + length (code_spelling (all_pairs P xs)) ≤ 8 * (1 + sound_bytes f) =
+    omega (arith, long, few, same, c.requires.sound) in
     c.write_into.ensures.written (c.write_into.ensures.fits.1 fits) ∙ spelled-bytes f P sound xs is ∙ sym chosen ∙ ap (stored f sound) picked

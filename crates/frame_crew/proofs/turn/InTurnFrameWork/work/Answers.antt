@@ -11,7 +11,11 @@ loop-job-preserved g c =
     let same = same_at c.loop-job.run c.args.run.now c.loop-job.job-index c.job-item.result c.loop-job.invariant.rest in
     let done = rw same at c.work_job.ensures.done in
     record {
-      done = rw (take_more c.args.run.now c.loop-job.job-index c.job-item.result begun, take_more_set c.loop-job.run c.loop-job.job-index c.work_job.new.job inside)
+      done = rw (
+        take_more c.args.run.now c.loop-job.job-index c.job-item.result begun,
+        take_more_set c.loop-job.run c.loop-job.job-index
+            c.work_job.new.job inside,
+      )
           (AllZip-push _ _ _ _ _ c.loop-job.invariant.done done);
       rest = same_after c.loop-job.run c.args.run.now c.loop-job.job-index c.work_job.new.job c.loop-job.invariant.rest;
       shapes = All-set (λ job. g.W.Job.Slot.shape job ≡ g.W.JobWork.shape c.args.self.now.each) c.loop-job.run c.loop-job.job-index c.work_job.new.job

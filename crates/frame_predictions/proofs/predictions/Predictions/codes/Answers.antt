@@ -13,6 +13,7 @@ returns-clause-small c = λ k d lt.
     let order = v.in_order in
     let within = filled.within in
     let rows : length c.args.self.now.rows ≡ p.held = ap (λ v. length v.rows) (sym c.self.view_is) ∙ seen-length p.rows.items p.held (omega arith) in
-    let right : IsRight p.channels p.sound.items row = subst (IsRight p.channels p.sound.items) (sym c.index.ensures) (filled.are c.args.row row (omega arith)) in
+    let right : IsRight p.channels p.sound.items row =
+    subst (IsRight p.channels p.sound.items) (sym c.index.ensures) (filled.are c.args.row row (omega arith)) in
     let is : c.as_slice.result.now ≡ codes p.channels p.sound.items row.channel row.filter = c.as_slice.ensures.value ∙ right in
     subst (λ xs. (k < length xs → get_or xs k d < 128)) (sym is) (codes-small p.channels p.sound.items row.channel row.filter k d) lt

@@ -14,9 +14,11 @@ returns-then-place-held-clause-is c = λ other.
     let place = c.provide-place.result in
     let all : length rows ≡ p.rows.len = c.provide-place.ensures.long ∙ c.as_mut_slice.ensures.len in
     let same = ap length c.as_mut_slice.ensures.value in
-    let next = held-before p.held c.len.result c.next_place-held.result place c.next_place-held.ensures.behind c.next_place-held.ensures.first c.if-place-held.true in
+    let next = held-before p.held c.len.result c.next_place-held.result place c.next_place-held.ensures.behind c.next_place-held.ensures.first
+    c.if-place-held.true in
     let row = first-of rows (omega arith) in
-    subst (λ xs. get_or (map predicted (take p.held xs)) place other ≡ record { channel = c.args.channel; filter = c.args.filter.now }) (sym (written-back p.rows.items rows p.rows.len all))
+    subst (λ xs. get_or (map predicted (take p.held xs)) place other ≡ record { channel = c.args.channel; filter = c.args.filter.now })
+    (sym (written-back p.rows.items rows p.rows.len all))
     (seen-at rows p.held place row other (omega (arith, next.0)) (omega (arith, next.1)) ∙ c.provide-place.ensures.is row)
 
 pub returns-then-place-held-clause-stay : goal.returns-then-place-held-clause-stay
@@ -28,9 +30,11 @@ returns-then-place-held-clause-stay c = λ room k other lt.
     let place = c.provide-place.result in
     let all : length rows ≡ p.rows.len = c.provide-place.ensures.long ∙ c.as_mut_slice.ensures.len in
     let same = ap length c.as_mut_slice.ensures.value in
-    let next = held-before p.held c.len.result c.next_place-held.result place c.next_place-held.ensures.behind c.next_place-held.ensures.first c.if-place-held.true in
+    let next = held-before p.held c.len.result c.next_place-held.result place c.next_place-held.ensures.behind c.next_place-held.ensures.first
+    c.if-place-held.true in
     let is = c.provide-place.ensures.behind p.held (omega (arith, next.0)) order (omega (arith, next.1)) ∙ c.as_mut_slice.ensures.value in
-    ap (λ xs. get_or (map predicted (take p.held xs)) k other) (written-back p.rows.items rows p.rows.len all ∙ is) ∙ ap (λ w. get_or w.rows k other) c.self.view_is
+    ap (λ xs. get_or (map predicted (take p.held xs)) k other) (written-back p.rows.items rows p.rows.len all ∙ is)
+    ∙ ap (λ w. get_or w.rows k other) c.self.view_is
 
 pub invariant_of-self-2 : goal.invariant_of-self-2
 invariant_of-self-2 c =
@@ -45,7 +49,8 @@ invariant_of-self-2 c =
     let same = ap length c.as_mut_slice.ensures.value in
     let back = written-back p.rows.items rows p.rows.len all in
     let most = c.max-self-inside.ensures in
-    let filled : AreFilled p.channels p.sound.items rows c.max-self-inside.result = subst₂ (λ xs n. AreFilled p.channels xs rows n) c.as_slice.ensures.value (sym most) c.provide-place.ensures.filled in
+    let filled : AreFilled p.channels p.sound.items rows c.max-self-inside.result =
+    subst₂ (λ xs n. AreFilled p.channels xs rows n) c.as_slice.ensures.value (sym most) c.provide-place.ensures.filled in
     let long : length c.swap.new.self.items ≡ length rows = ap length c.swap.ensures.items ∙ length-swap _ place next ∙ ap length back in
     let many = v.many in
     let swapped : SwappedAt rows c.swap.new.self.items place next = subst (λ xs. SwappedAt xs c.swap.new.self.items place next) back c.swap.ensures.by_index in
@@ -54,7 +59,8 @@ invariant_of-self-2 c =
       whole = v.whole;
       many = omega arith;
       in_order = omega arith;
-      are_filled = filled-swapped p.channels p.sound.items rows c.swap.new.self.items c.max-self-inside.result place next filled swapped long (omega arith) (omega arith);
+      are_filled = filled-swapped p.channels p.sound.items rows c.swap.new.self.items c.max-self-inside.result place next filled swapped long
+          (omega arith) (omega arith);
     }
 
 pub returns-clause-is : goal.returns-clause-is
@@ -94,5 +100,6 @@ returns-clause-stay c = λ room k other lt.
     let here : next ≡ p.held = c.next_place-held.ensures.behind some in
     let ne : k ≢ place = omega arith in
     let nor : k ≢ next = omega arith in
-    seen-at new (next + 1) k row other (omega arith) (omega arith) ∙ ap predicted (swapped.2 k row ne nor ∙ c.provide-place.ensures.others k row ne ∙ ap (λ xs. get_or xs k row) c.as_mut_slice.ensures.value)
+    seen-at new (next + 1) k row other (omega arith) (omega arith)
+    ∙ ap predicted (swapped.2 k row ne nor ∙ c.provide-place.ensures.others k row ne ∙ ap (λ xs. get_or xs k row) c.as_mut_slice.ensures.value)
     ∙ sym (seen-at p.rows.items p.held k row other (omega arith) (omega arith)) ∙ ap (λ w. get_or w.rows k other) c.self.view_is
