@@ -3,7 +3,7 @@ ghost use Rattle.std.specs.Prelude.{◌≡◌, ◌<◌, ◌≤◌, ℕ, All, len
 ghost use Rattle.std.specs.List.{AllZip};
 ghost use Rattle.dst_commands.specs.Rooms.{shape_number};
 ghost use Rattle.dst_read.specs.Jobs.{shape_of_job, shape_of_tables, IsWorked};
-ghost use Rattle.dst_read.specs.Lending.{lent_frame, given_back, IsLent};
+ghost use Rattle.dst_read.specs.Lending.{given_back, IsLent};
 ghost use Rattle.dst_read.specs.declared.jobs.Job.{Job};
 ghost use Rattle.dst_frames.specs.declared.stored.StoredFrame.{StoredFrame};
 ghost use Rattle.dst_frames.specs.declared.stored.DecodedFrame.{DecodedFrame};
