@@ -1,6 +1,6 @@
 #!/usr/bin/env bash
-# Measures the built program: million samples a second of encode at each level, decode and check, with 1, 2 and 4 workers; resident
-# memory and sizes. The least of several turns counts, all taken in turn in one run. Beside it ffmpeg and wavpack, where they are
+# Measures the built program: million samples a second of encode at each level, decode and check, with 1, 2 and 4 workers; of a pipe, whose
+# frames are decoded one by one, and how much faster eight side by side are; resident memory and sizes. The least of several turns counts, all taken in turn in one run. Beside it ffmpeg and wavpack, where they are
 # installed.
 #
 #   bench/run.sh [TURNS] [FILE ..]     plain DSDIFF files; made sound without any
@@ -41,15 +41,15 @@ least() {
 
 echo "$("$program" --version), $(git rev-parse --short HEAD), $(nproc) processors, $(sed -n 's/^model name[^:]*: //p' /proc/cpuinfo | head -1), least of $turns turns"
 for file in "${files[@]}"; do
-  rm -f "$place"/[edcfw]-*
+  rm -f "$place"/[edcpfw]-*
   samples=$(("$(stat -c %s "$file")" * 8))
-  for level in 0 1 2; do
+  for level in 0 1 2 3; do
     rm -f "$place/coded$level.dff"
     "$program" encode "$file" "$place/coded$level.dff" --level "$level" --workers 4 >/dev/null
   done
   for _ in $(seq "$turns"); do
     for workers in 1 2 4; do
-      for level in 0 1 2; do
+      for level in 0 1 2 3; do
         measure "$program" encode "$file" "$place/out" --level "$level" --workers "$workers"
         least "e-$level-$workers"
       done
@@ -58,6 +58,8 @@ for file in "${files[@]}"; do
       measure "$program" check "$place/coded2.dff" --workers "$workers"
       least "c-$workers"
     done
+    measure sh -c 'cat "$1" | "$2" pipe "$3"' sh "$place/coded2.dff" "$program" "$place/out"
+    least p-1
     if command -v ffmpeg >/dev/null; then
       measure ffmpeg -v quiet -threads 1 -i "$place/coded2.dff" -f null -
       least f-1
@@ -82,17 +84,20 @@ for file in "${files[@]}"; do
     read -r _ four <"$place/$key-4"
     echo "$line   $one, $four"
   }
-  for level in 0 1 2; do
+  for level in 0 1 2 3; do
     row "encode --level $level" "e-$level"
   done
   row decode d
   row check c
-  for other in f:ffmpeg w:wavpack; do
+  for other in p:pipe f:ffmpeg w:wavpack; do
     [ -e "$place/${other%%:*}-1" ] || continue
     read -r seconds kilobytes <"$place/${other%%:*}-1"
     awk -v name="${other#*:}" -v n="$samples" -v s="$seconds" -v k="$kilobytes" 'BEGIN { printf "%-18s %8.1f %17s   %s\n", name, n / s / 1e6, "", k }'
   done
-  for level in 0 1 2; do
+  read -r alone _ <"$place/p-1"
+  read -r eight _ <"$place/d-1"
+  awk -v a="$alone" -v e="$eight" 'BEGIN { printf "frames alone (pipe) by eight side by side (decode): %.2f\n", a / e }'
+  for level in 0 1 2 3; do
     awk -v l="$level" -v c="$(stat -c %s "$place/coded$level.dff")" -v p="$(stat -c %s "$file")" 'BEGIN { printf "size at level %d     %s bytes, %.1f percent\n", l, c, 100 * c / p }'
   done
 done
