@@ -37,7 +37,7 @@ pub stops_first : (pairs : List (ℕ × ℕ)) (fault : OpenFault) (bytes : Optio
     Stops (refusal (range pairs)) bytes before now fault
 stops_first pairs (File f) bytes before now stops = λ file told. refused_first pairs file f (stops file told)
 stops_first pairs Read bytes before now stops = stops
-stops_first pairs Memory bytes before now stops = stops
+stops_first pairs (Memory refused) bytes before now stops = stops
 
 -- ---- where it isn't, the pairs are asked
 pub pairs_asked : (pairs : List (ℕ × ℕ)) (file : List ℕ) (form : Form) → form_refusal index file ≡ None → accepted file ≡ form →
