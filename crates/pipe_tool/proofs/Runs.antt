@@ -152,7 +152,7 @@ pub line_fits : (a : Result Piped PipeFault) (w : List ℕ) (old new : Option (L
 line_fits (Ok s) w old new room o n bytes e is read write least fits = outcome_fits w o (done e.0 (decoded_line s.frames s.bytes ∷ [])) n bytes is e.1.0 fits
 line_fits (Err Read) w old new room o n bytes e is read write least fits = absurd (read refl)
 line_fits (Err Write) w old new room o n bytes e is read write least fits = absurd (write refl)
-line_fits (Err Memory) w old new room o n bytes e is read write least fits = least
+line_fits (Err (Memory refused)) w old new room o n bytes e is read write least fits = least
 line_fits (Err (File fault)) w old new room o n bytes e is read write least fits = outcome_fits w o (stream_refused fault e.0) n bytes is e.1.0 fits
 line_fits (Err (Frame k fault)) w old new room o n bytes e is read write least fits = outcome_fits w o (frame_refused k fault e.0) n bytes is e.1.0 fits
 

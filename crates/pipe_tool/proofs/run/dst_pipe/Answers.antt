@@ -76,7 +76,7 @@ returns-clause-sure_report g c w told o outcome flow sink n room least fits seve
     let a = c.decode_pipe-answer in
     let b = sym c.is_pipe.ensures ∙ c.if-not-is_pipe.false in
     let ends = ends_of a.result _ _ _ _ a.ensures.decoded a.ensures.file a.ensures.frame a.ensures.cut_short a.ensures.sure
-    (λ e. ap g.K.Sink.written (a.ensures.memory e)) w told in
+    (λ refused e. ap g.K.Sink.written (a.ensures.memory refused e)) w told in
     let own = subst (λ x. OfWords x w o) b outcome in
     c.report_line-2.ensures.sure seven n room
     (subst (λ line. length line ≤ n) (sym c.told-status.ensures.line)
