@@ -13,7 +13,7 @@ use Rattle.dst_make.specs.Making.{multiple_of, made_file}
 use Rattle.dst_make.specs.declared.make.Made.{Made}
 use Rattle.dst_make.specs.declared.make.MakeFault.{MakeFault}
 use Rattle.dst_write.specs.declared.faults.Encoded.{Encoded}
-use Rattle.dst_write.proofs.MadeSounds.{octets_of}
+use Rattle.dst_make.proofs.MadeSounds.{octets_of}
 use Rattle.dst_read.specs.declared.faults.Decoded.{Decoded}
 use Rattle.dst_tool.specs.declared.making.RunFault.{RunFault}
 use Rattle.dst_tool.specs.declared.answers.Numbers.{Numbers}

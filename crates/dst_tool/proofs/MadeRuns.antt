@@ -17,7 +17,7 @@ use Rattle.dsdiff_laws.proofs.Filed.{length-file}
 use Rattle.dsdiff_laws.proofs.Headline.{headline, level_picks_law}
 use Rattle.dsdiff_laws.proofs.MadeFile.{IsMade, made_chunks, is_file, made_long, made_is_accepted, made_frames, made_size, made_room}
 use Rattle.dst_make.specs.Making.{multiple_of, made_file}
-use Rattle.dst_write.proofs.MadeSounds.{length-made_sound, octets_of}
+use Rattle.dst_make.proofs.MadeSounds.{length-made_sound, octets_of}
 
 -- what a sink that held nothing holds
 pub held : (old new : Option (List ℕ)) (piece xs : List ℕ) → old ≡ Some [] → new ≡ and_then old piece → new ≡ Some xs → xs ≡ piece
