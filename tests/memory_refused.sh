@@ -19,6 +19,7 @@ fail() {
 
 # Refuses the allocation of the number that REFUSE names, and says so in the file `met`.
 "${CC:-cc}" -O1 -shared -fPIC -x c -o refuse.so - <<'LINES'
+#include <errno.h>
 #include <fcntl.h>
 #include <stddef.h>
 #include <stdlib.h>
@@ -39,6 +40,7 @@ static int is_refused(void) {
   }
   if (__sync_add_and_fetch(&asked, 1) != refused) return 0;
   close(open("met", O_CREAT | O_WRONLY, 0600));
+  errno = ENOMEM;
   return 1;
 }
 
