@@ -1,11 +1,14 @@
 // How a reader comes at the frames of a file.
-ghost use Rattle.std.specs.Prelude.{◌≡◌, ◌≤◌, Err};
-ghost use Rattle.dst_streams.specs.Causes.{Rose};
+ghost use Rattle.std.specs.Prelude.{◌≡◌, ◌+◌, ◌*◌, ◌<◌, ◌≤◌, ℕ, length, Some, Err, IfOk};
+ghost use Rattle.dst_spec.specs.Sample.{sound_bytes};
+ghost use Rattle.dst_streams.specs.Causes.{Rose, HasCause};
+ghost use Rattle.dsdiff_chunks.specs.Forms.{coded_seen};
+ghost use Rattle.frame_index.specs.Fitting.{IsIndexOf};
 
-use dsdiff_chunks::{FileFault, Form, OpenFault, open_form, read_range};
+use dsdiff_chunks::{CodedForm, FileFault, Form, OpenFault, open_form, read_range};
 use dst_num::Channels;
-use dst_streams::Source;
-use frame_index::walk;
+use dst_streams::{Failed, Source};
+use frame_index::{Index, walk};
 use std::alloc::Global;
 
 /// What is told of each frame.
@@ -38,12 +41,37 @@ pub fn frames_of_file<S: Source, L: Listener>(
         Err(refused) => return Err(OpenFault::Memory(refused)),
     };
     for k in 0..index.length() {
-        let entry = index.entry(k);
-        let stored = &mut buffer[..entry.size as usize];
-        let Ok(()) = read_range(source, entry.offset, stored) else {
-            return Err(OpenFault::Read);
+        let size = match read_frame(source, &form, &index, k, &mut buffer) {
+            Ok(size) => size,
+            Err(_) => return Err(OpenFault::Read),
         };
-        listener.hear(stored, form.channels);
+        listener.hear(&buffer[..size], form.channels);
     }
     Ok(index.length())
+}
+
+// Reads a frame into the front of a buffer that has room for the longest one, and gives its bytes.
+fn read_frame<S: Source>(
+    source: &mut S,
+    form: &CodedForm,
+    index: &Index,
+    k: u32,
+    buffer: &mut [u8],
+) -> Result<usize, Failed>
+    requires index { IsIndexOf (coded_seen form.now) index.now }
+    requires k { k < length index.now }
+    requires size { (n : ℕ) × (S.known source.old ≡ Some n) × (form.now.end ≤ n) }
+    requires room { length buffer.old ≡ 2 * (sound_bytes form.now.channels + 1) }
+    ensures bytes { S.bytes source.new ≡ S.bytes source.old }
+    ensures stays { S.known source.new ≡ S.known source.old }
+    ensures cause { HasCause (S.faults source.old) (S.faults source.new) result }
+    ensures long { length buffer.new ≡ length buffer.old }
+    ensures short { IfOk result (λ size. size ≤ length buffer.new) }
+{
+    let entry = index.entry(k);
+    let size = entry.size as usize;
+    match read_range(source, entry.offset, &mut buffer[..size]) {
+        Ok(()) => Ok(size),
+        Err(failed) => Err(failed),
+    }
 }
