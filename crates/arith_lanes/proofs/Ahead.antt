@@ -2,7 +2,7 @@
 use Rattle.std.proofs.Common.{◌≡◌, ℕ, ◌+◌, ◌-◌, ◌*◌, ◌/◌, ◌%◌, ◌^◌, ◌<◌, ◌≤◌, Bool, true, false, nat_lt, nat_eq, ◌||◌, ltb-true, ltb-false, List}
 use Rattle.std.proofs.Common.{get_or, bit_or}
 use Rattle.std.proofs.Common.{refl, ap, ◌∙◌, arith, below_more, ◌⊎◌, inl, inr}
-use Rattle.std.proofs.lemmas.Bool.{eqb-true, eqb-false}
+use Rattle.std.proofs.lemmas.Bool.{eqb-true, eqb-false, or_parts}
 use Rattle.std.proofs.lemmas.Nat.{pow-add, shl-shr, le_or_l, le_or_r}
 use Rattle.std.proofs.lemmas.Nat.Bits.{bit_at_cat_low, bit_at-zero}
 use Rattle.dst_spec.specs.Bits.{bits, number_from}
@@ -73,10 +73,6 @@ few_ahead s n bytes lane e =
     omega arith
 
 -- what a disjunction says
-pub neither : (a b : Bool) → (a || b) ≡ false → (a ≡ false) × (b ≡ false)
-neither true b e = absurd (cc)
-neither false b e = (refl, e)
-
 pub either : (a b : Bool) → (a || b) ≡ true → (a ≡ true) ⊎ (b ≡ true)
 either true b e = inl refl
 either false b e = inr e
@@ -86,7 +82,7 @@ pub longer : (s : ArithLanes) (i : ℕ) (short : Bool) → (short ≡ false → 
     get_or s.middle i 0 < 65536 → get_or s.low i 0 < 65536 →
     (short || nat_eq (bit_or (get_or s.middle i 0) (get_or s.low i 0)) 0) ≡ false → (m : ℕ) (bytes : List ℕ) → m < i + 1 → IsLane s m bytes → 16 ≤ ahead_at s m
 longer s i short before a b e m bytes h lane =
-    let both = neither short (nat_eq (bit_or (get_or s.middle i 0) (get_or s.low i 0)) 0) e in
+    let both = or_parts short (nat_eq (bit_or (get_or s.middle i 0) (get_or s.low i 0)) 0) e in
     let P : ℕ → Type 0 = λ k. (bytes : List ℕ) → IsLane s k bytes → 16 ≤ ahead_at s k in
     below_more P i (λ k h bytes lane. before both.0 k bytes h lane) (λ bytes lane. many_ahead s i bytes lane a b both.1) m h bytes lane
 

@@ -5,21 +5,17 @@ use Rattle.std.proofs.lemmas.Bool.{and_parts, eqb-true}
 use Rattle.std.proofs.lemmas.List.{append-nil, length-append, length-drop, length-take, take_all}
 use Rattle.byteorder.specs.Endian.{big_bytes}
 use Rattle.dsdiff_spec.specs.Bytes.{between, number_at}
-use Rattle.dsdiff_spec.specs.Chunks.{Head, next_place, the_first}
+use Rattle.dsdiff_spec.specs.Chunks.{next_place}
 use Rattle.dsdiff_spec.specs.Origin.{is_one_chunk}
 use Rattle.dsdiff_spec.specs.Parts.{in_prop, local, cmpr_head}
 use Rattle.dsdiff_spec.specs.Written.{prop_with}
 use Rattle.dsdiff_spec.proofs.Sizes.{between-joined}
+use Rattle.dsdiff_spec.proofs.Finding.{the_only}
 use Rattle.dsdiff_chunks.specs.Lawful.{IsPropBody}
 use Rattle.dsdiff_chunks.proofs.Accepted.{is_whole}
 use Rattle.dsdiff_chunks.proofs.Chained.{are_chained, exchanged, is_even, IsExchanged, one_exchanged}
 
 -- its `CMPR` chunk
-the_only : (hs : List Head) → length hs ≡ 1 → hs ≡ the_first hs ∷ []
-the_only [] e = absurd cc
-the_only (h ∷ []) e = refl
-the_only (h ∷ i ∷ hs) e = absurd (omega (arith, e))
-
 pub its_cmpr : (prop : List ℕ) → IsPropBody prop → local "CMPR" prop ≡ cmpr_head prop ∷ []
 its_cmpr prop h = the_only (local "CMPR" prop) (is_whole 0 prop h.rules).one
 

@@ -9,13 +9,12 @@ use Rattle.dsdiff_spec.specs.Bytes.{bytes_at, number_at, ◌is◌, ◌below◌, 
 use Rattle.dsdiff_spec.specs.Chunks.{Head, named, the_first, body_place, next_place, fits}
 use Rattle.dsdiff_spec.specs.Faults.{◌when◌, ◌otherwise◌}
 use Rattle.dsdiff_spec.specs.Form.{Form, Kind, Origin, plain, coded, shape_of, frames_for}
-use Rattle.dsdiff_spec.specs.Parts.{form_size, form_end, top_level, prop_head, prop, in_prop, sound_head, channel_count, multiple, sound_bytes_in}
+use Rattle.dsdiff_spec.specs.Parts.{form_size, form_end, top_level, prop_head, prop, sound_head, channel_count, multiple, sound_bytes_in}
 use Rattle.dsdiff_spec.specs.Parts.{frames_needed, behind_form, frame_count, frame_rate}
-use Rattle.dsdiff_spec.specs.Rules.{moved, type_fault, rate_fault, channels_fault, compression_fault, local_fault, room_fault, plain_fault, coded_fault}
+use Rattle.dsdiff_spec.specs.Rules.{room_fault, plain_fault, coded_fault}
 use Rattle.dsdiff_spec.specs.Rules.{is_frte, has_bad_origin}
 use Rattle.dsdiff_spec.specs.declared.faults.FileFault.{FileFault}
 use Rattle.dsdiff_spec.specs.declared.faults.FileFault.TheVariants.{SoundUneven, TooManyFrames, CodedChunk, TailTooLong, FrameRate, KeptBad}
-use Rattle.dsdiff_spec.proofs.Lawful.{moved_none}
 use Rattle.dsdiff_chunks.specs.Opening.{may_lack_pad, plain_parts_fault, space_fault, is_of_coded, coded_sound_fault, are_bad_origins}
 
 -- ---- forms with equal parts are equal
@@ -60,19 +59,6 @@ frame_bytes_of xs body s e is_shape = ap sound_bytes_in e ∙ sym (ap sound_byte
 
 pub channels_of : (xs body : List ℕ) (s : Shape) → prop xs ≡ body → s ≡ shape_of (channel_count body) (multiple body) → channel_count (prop xs) ≡ s.channels
 channels_of xs body s e is_shape = ap channel_count e ∙ sym (ap (λ t. t.channels) is_shape)
-
--- ---- where the body of `PROP` begins changes no fault into none
-anywhere : (start : ℕ) (t m r : Option FileFault) → (t otherwise moved start m otherwise r) ≡ None → (t otherwise moved 0 m otherwise r) ≡ None
-anywhere start (Some f) m r e = absurd cc
-anywhere start None m r e = at (moved start m) refl e
-  where
-    at : (v : Option FileFault) → moved start m ≡ v → (v otherwise r) ≡ None → (moved 0 m otherwise r) ≡ None
-    at (Some f) q p = absurd cc
-    at None q p = ap (λ o. moved 0 o otherwise r) (moved_none start m q) ∙ p
-
-pub rules_at_0 : (start : ℕ) (body : List ℕ) → local_fault start body ≡ None → local_fault 0 body ≡ None
-rules_at_0 start body e =
-    anywhere start (type_fault body) (in_prop body).fault (rate_fault body otherwise channels_fault body otherwise compression_fault body) e
 
 -- ---- the kind
 pub is_plain_id : (b : Bool) → plain ≡ (if b then plain else coded) → b ≡ true

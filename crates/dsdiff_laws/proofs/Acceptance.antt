@@ -28,9 +28,10 @@ use Rattle.dsdiff_laws.proofs.BehindFrte.{behind_frte}
 use Rattle.dsdiff_laws.proofs.CodedWalk.{Walked, IsWalk, walk_is, entries_are_numbers}
 use Rattle.dsdiff_laws.proofs.CodedIndex.{HasIndex, index_is_walk}
 use Rattle.dsdiff_spec.proofs.SoundPieces.{length-pieces}
+use Rattle.dsdiff_spec.proofs.ByteLists.{byte_at_place}
 use Rattle.dsdiff_laws.proofs.StoredBytes.{AreStored, stored_are, pieces_are}
 use Rattle.dsdiff_laws.proofs.Answered.{IsAnswered, decodes, checks, lists, writes}
-use Rattle.dsdiff_laws.proofs.Accepting.{coded_is_bytes, byte_at_place}
+use Rattle.dsdiff_laws.proofs.Accepting.{coded_is_bytes}
 
 more_short : (m n : ℕ) (frames : List (List ℕ)) → m ≤ n → AreShort m frames → AreShort n frames
 more_short m n [] le all = tt

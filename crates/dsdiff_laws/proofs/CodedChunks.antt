@@ -16,6 +16,7 @@ use Rattle.dsdiff_spec.specs.Written.{form_of, frte, dstf, dsti, entries_from, o
 use Rattle.dsdiff_spec.specs.Written.{behind_sound, copied_with}
 use Rattle.dsdiff_spec.specs.Coded as encoding
 use Rattle.dsdiff_spec.proofs.Tiling.{heads_from, head_of}
+use Rattle.dsdiff_spec.proofs.ByteLists.{entry_bytes}
 use Rattle.dsdiff_laws.proofs.Standing.{Holds}
 use Rattle.dsdiff_laws.proofs.Filed.{may_lack, body_bytes, concat_bytes}
 use Rattle.dsdiff_laws.proofs.Props.{locals, chunk_of, body_with, prop_with_is, fields_are_read}
@@ -42,9 +43,6 @@ dst_body frames = frte (length frames) ++ flat_map dstf frames
 
 abbrev pub dst_chunk : List (List ℕ) → Chunk
 dst_chunk frames = chunk_of "DST " (dst_body frames) 0
-
-abbrev pub entry_bytes : Entry → List ℕ
-entry_bytes e = big_bytes 8 e.offset ++ big_bytes 4 e.size
 
 abbrev pub dsti_chunk : List Entry → Chunk
 dsti_chunk es = chunk_of "DSTI" (flat_map entry_bytes es) 0

@@ -10,15 +10,15 @@ use Rattle.byteorder.specs.Numbers.{length-bytes_high_first}
 use Rattle.dsdiff_spec.specs.Chunks.{Chunk, bytes_of_chunk, IsChunk}
 use Rattle.dsdiff_spec.specs.Form.{Form, plain}
 use Rattle.dsdiff_spec.specs.Rules.{form_of_kind}
-use Rattle.dsdiff_spec.specs.Walk.{Entry}
 use Rattle.dsdiff_spec.specs.Written.{form_of, frte, dstf, entries_from}
 use Rattle.dsdiff_spec.proofs.Tiling.{length_of_chunk}
 use Rattle.dsdiff_spec.proofs.Pieces.{pad_is_long}
+use Rattle.dsdiff_spec.proofs.ByteLists.{entry_bytes, length-index}
 use Rattle.dsdiff_laws.proofs.Composed.{AreChunks, others_are, is_ending}
 use Rattle.dsdiff_laws.proofs.Filed.{IsFile, may_lack, body_bytes, written_is_file, end_is}
 use Rattle.dsdiff_laws.proofs.Props.{locals, replaced, chunk_of, body_with, length-replaced, length-prop, AroundOne, around_cmpr}
 use Rattle.dsdiff_laws.proofs.PlainParts.{PlainParts}
-use Rattle.dsdiff_laws.proofs.CodedChunks.{coded_cmpr, coded_prop, dst_body, dst_chunk, entry_bytes, dsti_chunk, origin_body, coded_pre, plain_pre}
+use Rattle.dsdiff_laws.proofs.CodedChunks.{coded_cmpr, coded_prop, dst_body, dst_chunk, dsti_chunk, origin_body, coded_pre, plain_pre}
 use Rattle.dsdiff_laws.proofs.CodedChunks.{entries_of, origin_of_parts, coded_chunks}
 use Prim.Native.String.{String}
 
@@ -70,18 +70,6 @@ length_of_frames n (w ∷ ws) small all =
 pub length-entries : (place : ℕ) (frames : List (List ℕ)) → length (entries_from place frames) ≡ length frames
 length-entries place [] = refl
 length-entries place (w ∷ ws) = omega (arith, length-entries (place + length (dstf w)) ws)
-
-pub length-index : (es : List Entry) → length (flat_map entry_bytes es) ≡ 12 * length es
-length-index [] = refl
-length-index (e ∷ es) =
-    omega (
-      arith,
-      length-append (entry_bytes e) (flat_map entry_bytes es),
-      length-append (big_bytes 8 e.offset) (big_bytes 4 e.size),
-      length-bytes_high_first 8 e.offset,
-      length-bytes_high_first 4 e.size,
-      length-index es,
-    )
 
 pub length-frte : (n : ℕ) → length (frte n) ≡ 18
 length-frte n =

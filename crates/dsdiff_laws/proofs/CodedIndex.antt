@@ -15,9 +15,9 @@ use Rattle.dsdiff_spec.specs.Walk.{Entry, entry_of, entry, entries, index_heads,
 use Rattle.dsdiff_spec.specs.declared.faults.FileFault.{FileFault}
 use Rattle.dsdiff_spec.specs.declared.faults.FileFault.TheVariants.{IndexBad}
 use Rattle.dsdiff_spec.proofs.Tiling.{heads_from, head_of, big_from-behind}
+use Rattle.dsdiff_spec.proofs.ByteLists.{entry_bytes, length-index}
 use Rattle.dsdiff_laws.proofs.Standing.{Holds}
-use Rattle.dsdiff_laws.proofs.CodedChunks.{entry_bytes, dsti_chunk}
-use Rattle.dsdiff_laws.proofs.CodedFile.{length-index}
+use Rattle.dsdiff_laws.proofs.CodedChunks.{dsti_chunk}
 use Rattle.dsdiff_laws.proofs.Places.{number_inside}
 use Rattle.dsdiff_laws.proofs.Composed.{AreChunks, first_ends, others_are, length_of_ending}
 use Rattle.dsdiff_laws.proofs.Filed.{body_bytes}

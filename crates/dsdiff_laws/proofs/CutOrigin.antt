@@ -3,7 +3,7 @@ use Rattle.std.proofs.Common.{◌≡◌, inl, inr, ℕ, ◌+◌, ◌-◌, ◌*�
 use Rattle.std.proofs.Common.{take, drop, get_or, refl, sym, ap, ◌∙◌, arith, append-nil, length-drop, ltb-false, eqb-true}
 use Rattle.std.specs.Prelude.{codes, not, ◌||◌, ◌&&◌}
 use Rattle.std.proofs.lemmas.Slice.Eq.{bytes_eq-Decides}
-use Rattle.std.proofs.lemmas.Bool.{and_parts, eq-eqb}
+use Rattle.std.proofs.lemmas.Bool.{and_parts, eq-eqb, or_parts}
 use Rattle.std.proofs.lemmas.List.{length-take}
 use Rattle.std.proofs.lemmas.Nat.{div-mul-add}
 use Rattle.std.proofs.Math.Nat.{mul-add-mod_self_left, add-mul-div_left, mul-mod_left, mul-le-mul, mul_comm, mul_assoc}
@@ -18,11 +18,11 @@ use Rattle.dsdiff_spec.proofs.Steps.{fits_whole}
 use Rattle.dsdiff_spec.proofs.Finding.{Follow}
 use Rattle.dsdiff_spec.proofs.CodedFiles.{needed, some_bytes, longest_sound_of_frame}
 use Rattle.dsdiff_spec.proofs.Sizes.{length-bytes_at}
+use Rattle.dsdiff_spec.proofs.ByteLists.{byte_at_place}
 use Rattle.dsdiff_laws.proofs.Chunked.{chunk_at, chunks_of_heads, bytes_of_heads, number_fits}
-use Rattle.dsdiff_laws.proofs.Filed.{either_false, not_false, no_less, take_whole}
+use Rattle.dsdiff_laws.proofs.Filed.{not_false, no_less, take_whole}
 use Rattle.dsdiff_laws.proofs.Props.{all_whole, take_less}
 use Rattle.dsdiff_laws.proofs.OriginRead.{IsPlainCmpr, IsOrigin}
-use Rattle.dsdiff_laws.proofs.Accepting.{byte_at_place}
 
 -- ---- bytes that are one chunk
 pub record IsOneChunk (w : List ℕ) : Type 0 where
@@ -124,20 +124,20 @@ origin_says channels bytes count body are good =
     let o = origin_of body in
     let v1 = origin_version body == 1 in
     let v2 = origin_version body == 2 in
-    let a7 = either_false _ (not (frames_for bytes o.sound == count)) good in
-    let a6 = either_false _ (not (o.sound % channels == 0)) a7.0 in
-    let a5 = either_false _ (not (bytes_at o.cmpr 12 4 is "DSD ")) a6.0 in
-    let a4 = either_false _ (number_at o.cmpr 4 8 below 4) a5.0 in
-    let a3 = either_false _ (not (is_one_chunk "CMPR" o.cmpr)) a4.0 in
-    let a2 = either_false _ (v2 && bad_version_2 body) a3.0 in
-    let a1 = either_false (not (v1 || v2)) (v1 && bad_version_1 body) a2.0 in
+    let a7 = or_parts _ (not (frames_for bytes o.sound == count)) good in
+    let a6 = or_parts _ (not (o.sound % channels == 0)) a7.0 in
+    let a5 = or_parts _ (not (bytes_at o.cmpr 12 4 is "DSD ")) a6.0 in
+    let a4 = or_parts _ (number_at o.cmpr 4 8 below 4) a5.0 in
+    let a3 = or_parts _ (not (is_one_chunk "CMPR" o.cmpr)) a4.0 in
+    let a2 = or_parts _ (v2 && bad_version_2 body) a3.0 in
+    let a1 = or_parts (not (v1 || v2)) (v1 && bad_version_1 body) a2.0 in
     let known : (v1 || v2) ≡ true = not_false _ a1.0 in
     let facts = said body are v1
-    (λ e. let out = and_false v1 (bad_version_1 body) a1.1 e in ltb-false 65545 (length body) (either_false (length body below 25) _ out).1)
+    (λ e. let out = and_false v1 (bad_version_1 body) a1.1 e in ltb-false 65545 (length body) (or_parts (length body below 25) _ out).1)
     (λ e.
     let bad = and_false v2 (bad_version_2 body) a2.1 (or_true v1 v2 known e) in
-    let b1 = either_false _ (not_padded o) bad in
-    let b2 = either_false _ (length body above 65550 + kept_length body) b1.0 in
+    let b1 = or_parts _ (not_padded o) bad in
+    let b2 = or_parts _ (length body above 65550 + kept_length body) b1.0 in
     (ltb-false (65550 + kept_length body) (length body) b2.1, b1.1)) in
     record {
       cmpr = one_chunk_is o.cmpr facts.cmpr_bytes (not_false _ a3.1) (ltb-false (number_at o.cmpr 4 8) 4 a4.1)

@@ -5,6 +5,7 @@ use Rattle.std.specs.Prelude.{codes, not, ◌||◌}
 use Rattle.std.specs.List.{concat}
 use Rattle.std.proofs.lemmas.Slice.Eq.{bytes_eq-Decides}
 use Rattle.std.proofs.lemmas.List.{length-take}
+use Rattle.std.proofs.lemmas.Bool.{or_parts}
 use Rattle.dst_spec.specs.Bits.{AreBytes}
 use Rattle.dst_spec.specs.Sample.{IsShape}
 use Rattle.dst_spec.proofs.Lists.{AreBytes-take, AreBytes-drop}
@@ -23,7 +24,7 @@ use Rattle.dsdiff_spec.specs.declared.faults.FileFault.{FileFault}
 use Rattle.dsdiff_spec.specs.declared.faults.FileFault.TheVariants.{NotCoded, Range, TooManyChunks, FormTooLarge, FrameRate, TooManyFrames, KeptBad}
 use Rattle.dsdiff_spec.proofs.Lawful.{first_gives_none, later_gives_none, when_not, form_has_a_shape}
 use Rattle.dsdiff_spec.proofs.CodedFiles.{form_by, refused_by, is_coded_kind, kind_gives_none, no_bad_origin, bad_among}
-use Rattle.dsdiff_laws.proofs.Filed.{not_false, either_false}
+use Rattle.dsdiff_laws.proofs.Filed.{not_false}
 use Rattle.dsdiff_laws.proofs.FormParts.{FormParts, form_parts, sound_id}
 use Rattle.dsdiff_laws.proofs.FrameChunks.{IsWalked, walked_file}
 use Rattle.dsdiff_laws.proofs.CutOrigin.{IsOriginOf, origin_says}
@@ -110,7 +111,7 @@ cut_parts file first last bytes accepts =
     let bad = KeptBad when has_bad_origin file in
     let many = TooManyFrames when frame_count file above 1000000 in
     let framed = (sound_head file).size below 18 || not (is_frte file (body_place (sound_head file))) || not (frame_rate file == 75) in
-    let least = ltb-false (sound_head file).size 18 (either_false _ _ (either_false _ _ (when_not FrameRate framed
+    let least = ltb-false (sound_head file).size 18 (or_parts _ _ (or_parts _ _ (when_not FrameRate framed
     (first_gives_none (FrameRate when framed) (many otherwise bad) rules))).0).0 in
     let most = ltb-false 1000000 (frame_count file) (when_not TooManyFrames _ (first_gives_none many bad
     (later_gives_none (FrameRate when framed) (many otherwise bad) rules))) in

@@ -16,6 +16,7 @@ use Rattle.dsdiff_spec.specs.Decoded.{frames_of}
 use Rattle.dsdiff_spec.specs.Laws.{cut_file, those_from_to}
 use Rattle.dsdiff_spec.proofs.CodedFiles.{longest_sound_of_frame}
 use Rattle.dsdiff_spec.proofs.Tiling.{heads_from}
+use Rattle.dsdiff_spec.proofs.ByteLists.{bytes_joined}
 use Rattle.dsdiff_laws.proofs.Composed.{AreChunks}
 use Rattle.dsdiff_laws.proofs.Filed.{IsFile, body_bytes}
 use Rattle.dsdiff_laws.proofs.Order.{parts_are}
@@ -33,7 +34,7 @@ use Rattle.dsdiff_laws.proofs.Passed.{passed, passed_lack, passed_bytes}
 use Rattle.dsdiff_laws.proofs.CutChunks.{kept_chunks, m, dst, es, kept, behind, fits, frames_bytes, made}
 use Rattle.dsdiff_laws.proofs.CutForm.{same_shape, frames_is, sound_is, heads_are, rules_kept, is_coded}
 use Rattle.dsdiff_laws.proofs.Answered.{IsAnswered}
-use Rattle.dsdiff_laws.proofs.Accepting.{all_parts, joined, written_bytes, body_parts, body_joined, index_bytes, four, frte_bytes, origin_bytes}
+use Rattle.dsdiff_laws.proofs.Accepting.{all_parts, written_bytes, body_parts, body_joined, index_bytes, four, frte_bytes, origin_bytes}
 use Rattle.dsdiff_laws.proofs.Accepting.{form_is_bytes, form_body_bytes}
 
 both_are : (q : List ℕ → Bool) (cs ds : List Chunk) → AreChunks q (cs ++ ds) → AreChunks q cs × AreChunks q ds
@@ -182,7 +183,7 @@ module _ (file : List ℕ) (first last : ℕ) (le : first ≤ last) (c : CutPart
     kept_bytes (Some k) are =
         let size = size_left (is_last form last) (sound_bytes_of form) k first last in
         let known = are k refl in
-        joined (bytes_of_chunk (origin_piece size (pad_left (is_last form last) k) k.cmpr [])) []
+        bytes_joined (bytes_of_chunk (origin_piece size (pad_left (is_last form last) k) k.cmpr [])) []
         (written_bytes "KEPT" (origin_body size (pad_left (is_last form last) k) k.cmpr []) 0
         (four 75 69 80 84 (omega arith) (omega arith) (omega arith) (omega arith))
         (origin_bytes size (pad_left (is_last form last) k) k.cmpr [] (by_last (is_last form last) known.1) known.0 tt) (omega arith)) tt
@@ -208,17 +209,17 @@ module _ (file : List ℕ) (first last : ℕ) (le : first ≤ last) (c : CutPart
         let version = all_parts (bytes_of_chunk c.p.version) (body_bytes c.p.front) inner.0 in
         let prop = all_parts (bytes_of_chunk c.p.prop) (body_bytes c.p.middle) inner.1 in
         let before = body_joined (c.p.version ∷ passed c.p.front) (c.p.prop ∷ passed c.p.middle)
-        (joined (bytes_of_chunk c.p.version) (body_bytes (passed c.p.front)) version.0 (passed_bytes c.p.front version.1))
-        (joined (bytes_of_chunk c.p.prop) (body_bytes (passed c.p.middle)) prop.0 (passed_bytes c.p.middle prop.1)) in
+        (bytes_joined (bytes_of_chunk c.p.version) (body_bytes (passed c.p.front)) version.0 (passed_bytes c.p.front version.1))
+        (bytes_joined (bytes_of_chunk c.p.prop) (body_bytes (passed c.p.middle)) prop.0 (passed_bytes c.p.middle prop.1)) in
         let mid_bytes : AreBytes (body_bytes mid) = subst AreBytes (frames_bytes file first last le c)
         (AreBytes-take _ (drop (frame_place file form first) file) (AreBytes-drop (frame_place file form first) file c.bytes)) in
         let sound = written_bytes "DST " (frte (last + 1 - first) ++ body_bytes mid) 0
         (four 68 83 84 32 (omega arith) (omega arith) (omega arith) (omega arith))
-        (joined (frte (last + 1 - first)) (body_bytes mid) (frte_bytes (last + 1 - first)) mid_bytes) (omega arith) in
+        (bytes_joined (frte (last + 1 - first)) (body_bytes mid) (frte_bytes (last + 1 - first)) mid_bytes) (omega arith) in
         let entries = written_bytes "DSTI" index.body 0 (four 68 83 84 73 (omega arith) (omega arith) (omega arith) (omega arith))
         (index_bytes (es file first last le c)) (omega arith) in
         let others = body_joined (kept file first last le c) (passed c.p.last) (kept_bytes form.origin (said_bytes c.kept)) (passed_bytes c.p.last last_ones) in
         let all = body_joined pre (dst file first last le c ∷ behind file first last le c) before
-        (joined (bytes_of_chunk (dst file first last le c)) (body_bytes (behind file first last le c)) sound
-        (joined (bytes_of_chunk index) (body_bytes rest) entries others)) in
+        (bytes_joined (bytes_of_chunk (dst file first last le c)) (body_bytes (behind file first last le c)) sound
+        (bytes_joined (bytes_of_chunk index) (body_bytes rest) entries others)) in
         form_is_bytes g (pre ++ dst file first last le c ∷ behind file first last le c) (made file first last le c).bytes all

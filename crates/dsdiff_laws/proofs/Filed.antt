@@ -4,7 +4,7 @@ use Rattle.std.proofs.Common.{sym, ap, ap₂, subst, ◌∙◌, arith, length-ap
 use Rattle.std.specs.Prelude.{codes, not, ◌||◌, nat_lt}
 use Rattle.std.proofs.lemmas.Slice.Eq.{bytes_eq-Decides}
 use Rattle.std.specs.List.{AllZip, concat}
-use Rattle.std.proofs.lemmas.Bool.{le-ltb}
+use Rattle.std.proofs.lemmas.Bool.{le-ltb, or_parts}
 use Rattle.std.proofs.lemmas.List.{drop_at, length-map}
 use Rattle.byteorder.specs.Endian.{big_from, big_bytes}
 use Rattle.byteorder.specs.Numbers.{big_number-reads_back, length-bytes_high_first}
@@ -135,10 +135,6 @@ written_is_file cs rest are few size = record {
 abbrev pub chunks_in : List ℕ → List Chunk
 chunks_in file = map (chunk_at file (form_end file)) (top_level file).heads
 
-pub either_false : (a b : Bool) → (a || b) ≡ false → (a ≡ false) × (b ≡ false)
-either_false true b e = absurd cc
-either_false false b e = (refl, e)
-
 pub not_false : (b : Bool) → not b ≡ false → b ≡ true
 not_false true e = refl
 not_false false e = absurd cc
@@ -170,8 +166,8 @@ is_opened file none =
     let n3 = later_gives_none (FormType when not (bytes_at file 12 4 is "DSD ")) _ n2 in
     let r4 = when_not (Overrun 0) _ (first_gives_none _ _ n3) in
     let n4 = later_gives_none (Overrun 0 when form_end file above length file) _ n3 in
-    let parts = either_false _ _ r1 in
-    let inner = either_false _ _ parts.0 in
+    let parts = or_parts _ _ r1 in
+    let inner = or_parts _ _ parts.0 in
     record {
       long = ltb-false (length file) 16 inner.0;
       name = (bytes_eq-Decides (bytes_at file 0 4) (codes "FRM8")).0 (not_false _ inner.1);

@@ -13,7 +13,7 @@ use Rattle.dsdiff_spec.specs.Walk.{in_dst, frame_heads, frame_fault, walk_fault,
 use Rattle.dsdiff_spec.specs.Decoded.{frames_of}
 use Rattle.dsdiff_spec.specs.declared.faults.FileFault.{FileFault}
 use Rattle.dsdiff_spec.specs.declared.faults.FileFault.TheVariants.{FrameTooLong, TooManyFrames, CountDiffers}
-use Rattle.dsdiff_spec.proofs.Lawful.{first_gives_none, later_gives_none, when_not}
+use Rattle.dsdiff_spec.proofs.Lawful.{first_gives_none, later_gives_none, when_not, first_of}
 use Rattle.dsdiff_spec.proofs.CodedFiles.{count_is_right}
 use Rattle.dsdiff_spec.proofs.Finding.{found_follow, found_at_most, found_to_the_end}
 use Rattle.dsdiff_spec.proofs.Tiling.{heads_from}
@@ -30,9 +30,6 @@ pub record IsWalked (file : List ℕ) (form : Form) : Type 0 where
   pub frames : frames_of file form ≡ bodies_of (frames_among inner)
   pub short : AreShortBodies (longest_frame form) (frames_among inner)
   pub count : length (frames_among inner) ≡ form.frames
-
-abbrev first_of : Option FileFault → Option FileFault → Option FileFault
-first_of o later = elim o [ Some y ↦ Some y | None ↦ later ]
 
 -- no frame that no rule refuses is too long
 short_heads : (form : Form) (n : ℕ) (hs : List Head) → first_some (frame_fault form) (enumerate_from n hs) ≡ None →

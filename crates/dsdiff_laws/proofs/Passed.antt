@@ -10,6 +10,7 @@ use Rattle.dsdiff_spec.specs.Parts.{form_end, behind_form}
 use Rattle.dsdiff_spec.specs.Rules.{accepted}
 use Rattle.dsdiff_spec.specs.Written.{before_sound, behind_sound, copied}
 use Rattle.dsdiff_spec.proofs.Tiling.{heads_from}
+use Rattle.dsdiff_spec.proofs.ByteLists.{bytes_joined}
 use Rattle.dsdiff_laws.proofs.Composed.{AreChunks, is_ending}
 use Rattle.dsdiff_laws.proofs.Standing.{Holds, copies, chosen_hold}
 use Rattle.dsdiff_laws.proofs.Filed.{may_lack, body_bytes}
@@ -17,7 +18,7 @@ use Rattle.dsdiff_laws.proofs.Order.{those_before, those_behind}
 use Rattle.dsdiff_laws.proofs.Places.{Lacks, parts_hold}
 use Rattle.dsdiff_laws.proofs.FormParts.{FormParts}
 use Rattle.dsdiff_laws.proofs.PlainParts.{added_id}
-use Rattle.dsdiff_laws.proofs.Accepting.{all_parts, joined}
+use Rattle.dsdiff_laws.proofs.Accepting.{all_parts}
 
 abbrev pub is_passed : Chunk → Bool
 is_passed c = not (added_id c.id)
@@ -66,7 +67,7 @@ passed_bytes (c ∷ cs) all =
     go (is_passed c) parts.0 (passed_bytes cs parts.1)
   where
     go : (b : Bool) → AreBytes (bytes_of_chunk c) → AreBytes (body_bytes (passed cs)) → AreBytes (body_bytes (if b then c ∷ passed cs else passed cs))
-    go true here later = joined (bytes_of_chunk c) (body_bytes (passed cs)) here later
+    go true here later = bytes_joined (bytes_of_chunk c) (body_bytes (passed cs)) here later
     go false here later = later
 
 -- ---- they are copied byte for byte

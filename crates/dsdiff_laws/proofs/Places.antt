@@ -6,6 +6,7 @@ use Rattle.std.specs.Prelude.{◌||◌}
 use Rattle.std.specs.List.{AllByRecursion, AllZip}
 use Rattle.std.proofs.lemmas.List.{get_or-drop, get_or-take}
 use Rattle.std.proofs.lemmas.List.Elements.{filter-append}
+use Rattle.std.proofs.lemmas.Bool.{or_parts}
 use Rattle.byteorder.specs.Endian.{big_from}
 use Rattle.dsdiff_spec.specs.Bytes.{number_at, ◌is◌}
 use Rattle.dsdiff_spec.specs.Chunks.{Chunk, bytes_of_chunk, Head, body_place}
@@ -14,7 +15,7 @@ use Rattle.dsdiff_spec.specs.Parts.{form_end}
 use Rattle.dsdiff_spec.specs.Written.{prop_with, copied_with}
 use Rattle.dsdiff_spec.proofs.Tiling.{heads_from, head_of}
 use Rattle.dsdiff_laws.proofs.Standing.{Holds}
-use Rattle.dsdiff_laws.proofs.Filed.{IsFile, body_bytes, file_holds, either_false}
+use Rattle.dsdiff_laws.proofs.Filed.{IsFile, body_bytes, file_holds}
 use Rattle.dsdiff_laws.proofs.Order.{heads-append}
 
 -- ---- heads by their ids
@@ -29,7 +30,7 @@ lacks_parts f (c ∷ cs) ds all = let later = lacks_parts f cs ds all.1 in ((all
 pub either_lacks : (q r : List ℕ → Bool) (cs : List Chunk) → Lacks (λ id. q id || r id) cs → Lacks q cs × Lacks r cs
 either_lacks q r [] all = (tt, tt)
 either_lacks q r (c ∷ cs) all =
-    let both = either_false (q c.id) (r c.id) all.0 in
+    let both = or_parts (q c.id) (r c.id) all.0 in
     let later = either_lacks q r cs all.1 in
     ((both.0, later.0), (both.1, later.1))
 

@@ -5,7 +5,7 @@ use Rattle.std.proofs.Common.{length-drop, take_at, append-nil, ltb-false, eqb-t
 use Rattle.std.specs.Prelude.{codes, not, ◌||◌, nat_lt}
 use Rattle.std.proofs.lemmas.Slice.Eq.{bytes_eq-Decides}
 use Rattle.std.specs.List.{AllZip, AllByRecursion}
-use Rattle.std.proofs.lemmas.Bool.{le-ltb, eq-eqb, cases_lt}
+use Rattle.std.proofs.lemmas.Bool.{le-ltb, eq-eqb, cases_lt, or_parts}
 use Rattle.std.proofs.lemmas.List.{length-map, length-take, take_all}
 use Rattle.byteorder.specs.Endian.{big_from}
 use Rattle.byteorder.specs.Numbers.{big_from-take}
@@ -29,7 +29,7 @@ use Rattle.dsdiff_laws.proofs.Chunked.{chunk_at, chunks_of_heads, bytes_of_heads
 use Rattle.dsdiff_laws.proofs.Order.{one_among, none_chosen, chosen_is}
 use Rattle.std.proofs.lemmas.List.Concat.{flat_map-append}
 use Rattle.std.proofs.lemmas.List.{map-append}
-use Rattle.dsdiff_laws.proofs.Filed.{body_bytes, either_false, not_false, take_whole, no_less}
+use Rattle.dsdiff_laws.proofs.Filed.{body_bytes, not_false, take_whole, no_less}
 use Prim.Native.String.{String}
 
 -- ---- a body that is `SND ` and whole chunks
@@ -231,10 +231,10 @@ channels_said body none =
     let c : Bool = outside 1 6 (channel_count body) in
     let d : Bool = (channels_head body).size below 2 + 4 * channel_count body in
     let all : (a || b || c || d) ≡ false = when_not Channels (a || b || c || d) none in
-    let first = either_false (a || b || c) d all in
-    let second = either_false (a || b) c first.0 in
-    let third = either_false a b second.0 in
-    let counts = either_false (channel_count body below 1) (channel_count body above 6) second.1 in
+    let first = or_parts (a || b || c) d all in
+    let second = or_parts (a || b) c first.0 in
+    let third = or_parts a b second.0 in
+    let counts = or_parts (channel_count body below 1) (channel_count body above 6) second.1 in
     record {
       one = eqb-true (length (local "CHNL" body)) 1 (not_false _ third.0);
       least = ltb-false (channels_head body).size 2 third.1;
@@ -255,7 +255,7 @@ accepted_prop start body bytes none =
     let end = length body in
     let after_type = moved start (in_prop body).fault otherwise rate_fault body otherwise channels_fault body otherwise compression_fault body in
     let fields = rate_fault body otherwise channels_fault body otherwise compression_fault body in
-    let typed = either_false _ _ (when_not PropType _ (first_gives_none (type_fault body) after_type none)) in
+    let typed = or_parts _ _ (when_not PropType _ (first_gives_none (type_fault body) after_type none)) in
     let long = ltb-false end 4 typed.0 in
     let name = (bytes_eq-Decides (bytes_at body 0 4) (codes "SND ")).0 (not_false _ typed.1) in
     let found = moved_none start (in_prop body).fault (first_gives_none _ fields (later_gives_none (type_fault body) after_type none)) in
@@ -273,16 +273,16 @@ accepted_prop start body bytes none =
     } in
     let hold = prop_holds body (locals body) made in
     let behind_rate = channels_fault body otherwise compression_fault body in
-    let r = either_false _ _ (when_not Rate _ (first_gives_none (rate_fault body) behind_rate all)) in
-    let r1 = either_false _ _ r.0 in
+    let r = or_parts _ _ (when_not Rate _ (first_gives_none (rate_fault body) behind_rate all)) in
+    let r1 = or_parts _ _ r.0 in
     let one_a = one_chunk body end (local "FS  " body) (chunks_named "FS  " (locals body))
     (named_hold body end "FS  " (in_prop body).heads (locals body) hold) (eqb-true _ _ (not_false _ r1.0)) in
     let h = channels_said body (first_gives_none (channels_fault body) (compression_fault body) (later_gives_none (rate_fault body) behind_rate all)) in
     let one_b = one_chunk body end (local "CHNL" body) (chunks_named "CHNL" (locals body))
     (named_hold body end "CHNL" (in_prop body).heads (locals body) hold) h.one in
-    let c = either_false _ _ (when_not Compression _ (later_gives_none (channels_fault body) (compression_fault body)
+    let c = or_parts _ _ (when_not Compression _ (later_gives_none (channels_fault body) (compression_fault body)
     (later_gives_none (rate_fault body) behind_rate all))) in
-    let c1 = either_false _ _ c.0 in
+    let c1 = or_parts _ _ c.0 in
     let one_c = one_chunk body end (local "CMPR" body) (chunks_named "CMPR" (locals body))
     (named_hold body end "CMPR" (in_prop body).heads (locals body) hold) (eqb-true _ _ (not_false _ c1.0)) in
     let a = local_is body (locals body) "FS  " one_a.0 made one_a.1 in

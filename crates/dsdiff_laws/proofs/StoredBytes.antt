@@ -6,24 +6,19 @@ use Rattle.std.proofs.lemmas.List.{length-take, length-replicate}
 use Rattle.dst_spec.specs.Bits.{AreBits, AreBytes, number_from, octets}
 use Rattle.dst_spec.specs.Sample.{Shape, IsShape, IsSound, sound_bytes}
 use Rattle.dst_spec.specs.Header.{Params, IsParams}
-use Rattle.dst_spec.specs.Interval.{interval}
 use Rattle.dst_spec.specs.Means.{Means}
 use Rattle.dst_spec.specs.Symbols.{symbols}
 use Rattle.dst_spec.specs.Spell.{header_spelling, code_spelling, spell, shorter, stored}
 use Rattle.dst_spec.proofs.Lists.{all_append, AreBytes-take, AreBytes-drop, AreBytes-same}
-use Rattle.dst_spec.proofs.Numbers.{AreBits-low_bits, AreBits-append, number_from-below}
+use Rattle.dst_spec.proofs.Numbers.{AreBits-append, number_from-below}
 use Rattle.dst_spec.proofs.SpelledBits.{AreBits-header}
-use Rattle.dst_spec.proofs.Spelling.{storing_law}
+use Rattle.dst_spec.proofs.Spelling.{storing_law, AreBits-code}
 use Rattle.dsdiff_spec.specs.Bytes.{bytes_at}
 use Rattle.dsdiff_spec.specs.Form.{frames_for}
 use Rattle.dsdiff_spec.specs.Coded.{Picks, filled, pieces}
 use Rattle.dsdiff_laws.proofs.CodedFile.{AreShort}
 
 -- ---- a stored frame is bytes
-code_bits : (pairs : List (Bool × ℕ)) → AreBits (code_spelling pairs)
-unfolding code_spelling
-code_bits pairs = (omega arith, AreBits-low_bits (12 + (interval pairs).doublings) (interval pairs).low)
-
 octets_are : (xs ys : List ℕ) → AreBits xs → AreBytes (map (λ j. number_from xs (8 * j) 8) ys)
 octets_are xs [] all = tt
 octets_are xs (y ∷ ys) all = (number_from-below xs (8 * y) 8 all, octets_are xs ys all)
@@ -31,7 +26,7 @@ octets_are xs (y ∷ ys) all = (number_from-below xs (8 * y) 8 all, octets_are x
 spelling_is_bytes : (f : Shape) (P : Params) (sound : List ℕ) → AreBytes (spell f P sound)
 unfolding spell octets
 spelling_is_bytes f P sound =
-    octets_are _ _ (AreBits-append (header_spelling P) (code_spelling (symbols f P sound false)) (AreBits-header P) (code_bits (symbols f P sound false)))
+    octets_are _ _ (AreBits-append (header_spelling P) (code_spelling (symbols f P sound false)) (AreBits-header P) (AreBits-code (symbols f P sound false)))
 
 stored_from : (f : Shape) (sound a : List ℕ) (list : List Params) → AreBytes a → AreBytes (fold shorter a (map (λ P. spell f P sound) list))
 stored_from f sound a [] h = h

@@ -9,7 +9,7 @@ use Rattle.std.proofs.Math.Seq.{take-add}
 use Rattle.dsdiff_spec.specs.declared.faults.FileFault.{FileFault}
 use Rattle.dsdiff_spec.specs.declared.faults.FileFault.TheVariants.{Overrun, TooManyChunks}
 use Rattle.dsdiff_spec.specs.Bytes.{between}
-use Rattle.dsdiff_spec.specs.Chunks.{Head, Found, head_at, body_end, next_place, fits, chunks_from}
+use Rattle.dsdiff_spec.specs.Chunks.{Head, Found, head_at, body_end, next_place, fits, chunks_from, the_first}
 use Rattle.dsdiff_spec.proofs.Steps.{nothing, with_head, fits_body, found_at_end, found_at_limit, found_at_misfit, found_at_chunk}
 
 -- ---- a property of what is found holds where it holds in each case at a place
@@ -142,3 +142,9 @@ limit_is_free m file end (suc a) (suc b) place p q = elim (cases_lt place end) [
         ∙ sym (found_at_chunk m file end b place l e)
   ]
 ]
+
+-- ---- what is the only one of a list
+pub the_only : (hs : List Head) → length hs ≡ 1 → hs ≡ the_first hs ∷ []
+the_only [] e = absurd cc
+the_only (h ∷ []) e = refl
+the_only (h ∷ i ∷ hs) e = absurd (omega (arith, e))

@@ -1,5 +1,5 @@
 -- What a file that keeps all rules has.
-use Rattle.std.proofs.Common.{◌≡◌, ◌⊎◌, ℕ, ◌*◌, ◌/◌, ◌≤◌, List, Bool, true, false, Option, Some, None, refl, inl, inr, ap}
+use Rattle.std.proofs.Common.{◌≡◌, ◌⊎◌, ℕ, ◌*◌, ◌/◌, ◌≤◌, List, Bool, true, false, Option, Some, None, refl, inl, inr, ap, ◌∙◌}
 use Rattle.std.specs.Prelude.{◌||◌, not, ◌==◌}
 use Rattle.std.proofs.lemmas.Bool.{ltb-false, eqb-true}
 use Rattle.dst_spec.specs.Sample.{IsShape}
@@ -97,3 +97,19 @@ prop_has_a_shape start body p =
 
 pub form_has_a_shape : (file : List ℕ) → form_fault file ≡ None → IsShape (shape (accepted file))
 form_has_a_shape file p = prop_has_a_shape (body_place (prop_head file)) (prop file) (local_gives_none file p)
+
+-- the first fault of a rule for each of a list, and of the others
+abbrev pub first_of : Option FileFault → Option FileFault → Option FileFault
+first_of o later = elim o [ Some y ↦ Some y | None ↦ later ]
+
+-- the rules on a body don't depend on where it begins
+pub rules_at_0 : (start : ℕ) (body : List ℕ) → local_fault start body ≡ None → local_fault 0 body ≡ None
+rules_at_0 start body none =
+    let fields = rate_fault body otherwise channels_fault body otherwise compression_fault body in
+    let type_none = first_gives_none (type_fault body) (moved start (in_prop body).fault otherwise fields) none in
+    let rest = later_gives_none (type_fault body) (moved start (in_prop body).fault otherwise fields) none in
+    let whole = moved_none start (in_prop body).fault (first_gives_none (moved start (in_prop body).fault) fields rest) in
+    let last = later_gives_none (moved start (in_prop body).fault) fields rest in
+    ap (λ t. t otherwise moved 0 (in_prop body).fault otherwise fields) type_none
+    ∙ ap (λ f. moved 0 f otherwise fields) whole
+    ∙ last

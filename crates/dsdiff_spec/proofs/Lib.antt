@@ -2,12 +2,14 @@ pub mod Files
 pub mod OddFiles
 pub mod DsfFiles
 pub mod DsfLengths
+pub mod MadeLengths
 pub mod DsfSamples
 pub mod Steps
 pub mod Tiling
 pub mod Finding
 pub mod Many
 pub mod Sizes
+pub mod ByteLists
 pub mod KeptBack
 pub mod Lawful
 pub mod Forms
@@ -31,6 +33,7 @@ pub mod OneOutcome
 pub mod Stopping
 pub mod Settling
 pub mod OneSound
+pub mod Sounding
 pub mod DsfOutcome
 pub mod RangeOutcome
 pub mod OneAnswer

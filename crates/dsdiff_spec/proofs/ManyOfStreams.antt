@@ -19,7 +19,7 @@ use Rattle.dsdiff_spec.proofs.Tiling.{head_of, head_of_chunk, length_of_chunk, r
 use Rattle.dsdiff_spec.proofs.StreamSteps.{reaches, head_is_whole, sound_ends, sound_has_no_more, sound_has_chunk, form_ends, form_has_no_more, form_has_chunk}
 
 -- a rule that a place below the end keeps
-within : (fault : FileFault) (end place : ℕ) (later : Option FileFault) → place ≤ end →
+pub within : (fault : FileFault) (end place : ℕ) (later : Option FileFault) → place ≤ end →
     ((if nat_lt end place then Some fault else None) otherwise later) ≡ later
 within fault end place later le = ap {A = Bool} (λ b. (if b then Some fault else None) otherwise later) (le-ltb end place le)
 
@@ -27,7 +27,7 @@ within fault end place later le = ap {A = Bool} (λ b. (if b then Some fault els
 no_frame : (b : Bool) → b ≡ false → (frames other : Option FileFault) → (if b then frames else other) ≡ other
 no_frame b e frames other = ap (λ c. if c then frames else other) e
 
-frameless : (b : Bool) → b ≡ false → (frame : List ℕ) (later : Stream) → (if b then with_frame frame later else later) ≡ later
+pub frameless : (b : Bool) → b ≡ false → (frame : List ℕ) (later : Stream) → (if b then with_frame frame later else later) ≡ later
 frameless b e frame later = ap (λ c. if c then with_frame frame later else later) e
 
 uncounted : (b : Bool) → b ≡ false → (found : ℕ) → (if b then (found + 1) else found) ≡ found
@@ -116,7 +116,7 @@ pub record IsPassed (c : Chunk) : Type 0 where
 abbrev pub behind_version : List ℕ → Option (List ℕ) → Came
 behind_version version prop = record { version = Some version; prop = prop }
 
-by_ids : Bool → Bool → Bool → Option FileFault → Option FileFault → Option FileFault → Option FileFault
+unfoldable pub by_ids : Bool → Bool → Bool → Option FileFault → Option FileFault → Option FileFault → Option FileFault
 by_ids a b c x y z = if a then x else (if b then y else (if c then z else None))
 
 no_rule : (a b c : Bool) → a ≡ false → b ≡ false → c ≡ false → (x y z : Option FileFault) → by_ids a b c x y z ≡ None
@@ -129,7 +129,7 @@ head_rules : (prop : Option (List ℕ)) (h : Head) → (h.id is "PROP") ≡ fals
 unfolding by_ids
 head_rules prop h p q r = no_rule (h.id is "PROP") (h.id is "DSD ") (h.id is "DST ") p q r _ _ _
 
-unruled : (b : Bool) → b ≡ false → (fault : Option FileFault) (later : Stream) → kept (if b then fault else None) later ≡ later
+pub unruled : (b : Bool) → b ≡ false → (fault : Option FileFault) (later : Stream) → kept (if b then fault else None) later ≡ later
 unruled b e fault later = ap (λ c. kept (if c then fault else None) later) e
 
 no_prop_more : (b : Bool) → b ≡ false → (body : List ℕ) (version : List ℕ) (prop : Option (List ℕ)) →

@@ -108,7 +108,7 @@ decoded_of_sounds sounds file form h =
     ∙ ap (λ m. decoded_front m file form ++ sound ++ decoded_end m file form) (length-take-le n (concat sounds) h)
 
 -- zeros stand for the sounds of the frames from k on
-zeros_are_whole : (m n : ℕ) → AreWhole n (replicate m (replicate n 0))
+pub zeros_are_whole : (m n : ℕ) → AreWhole n (replicate m (replicate n 0))
 zeros_are_whole zero n = tt
 zeros_are_whole (suc m) n = (length-replicate n 0, zeros_are_whole m n)
 

@@ -203,7 +203,7 @@ ends_with_sound file sounds none h =
     ))
 
 -- ---- every outcome of an accepted file begins with what is written when its first k frames are decoded
-take_of_take : {A : Type 0} (k n : ℕ) (xs : List A) → k ≤ n → take k (take n xs) ≡ take k xs
+pub take_of_take : {A : Type 0} (k n : ℕ) (xs : List A) → k ≤ n → take k (take n xs) ≡ take k xs
 take_of_take zero n xs h = refl
 take_of_take (suc k) zero xs h = absurd (omega arith)
 take_of_take (suc k) (suc n) [] h = refl

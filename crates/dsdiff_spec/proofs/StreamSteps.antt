@@ -20,7 +20,7 @@ falls_short w c place later lt =
     ap (λ b. if b then nothing_but (cut_off (Overrun c)) else later) (lt-ltb (length w) place lt)
 
 -- ---- the head of a chunk
-by_tests : Bool → Bool → ℕ → Option FileFault → Option Ending
+unfoldable pub by_tests : Bool → Bool → ℕ → Option FileFault → Option Ending
 by_tests a b place fault =
     if a then Some (stopped (Overrun place)) else (if b then Some (cut_off (Overrun place)) else option_map stopped fault)
 

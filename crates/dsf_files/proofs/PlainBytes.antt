@@ -9,11 +9,12 @@ use Rattle.std.proofs.lemmas.Bool.{ltb-true}
 use Rattle.std.proofs.Math.Nat.{mod-lt}
 use Rattle.byteorder.specs.Endian.{big_bytes}
 use Rattle.dst_spec.specs.Bits.{AreBytes}
-use Rattle.dst_spec.proofs.Lists.{all_append, both_true}
+use Rattle.dst_spec.proofs.Lists.{both_true}
 use Rattle.dsdiff_spec.specs.Dsf.{dsf_of, octets, dsf_bit, dsf_sample, dsfk, dsdiff}
 use Rattle.dsdiff_spec.specs.Made.{channel_id, fver, prop_of, plain_form}
 use Rattle.dsdiff_spec.specs.Samples.{sound_of}
 use Rattle.dsdiff_spec.specs.Written.{padded_chunk, chunk, cmpr_plain}
+use Rattle.dsdiff_spec.proofs.ByteLists.{bytes_joined}
 use Rattle.dsf_files.proofs.SoundSamples.{sound_is_bytes}
 use Prim.Native.String.{String}
 
@@ -31,17 +32,14 @@ number_is_bytes : (n x : ℕ) → AreBytes (big_bytes n x)
 number_is_bytes zero x = tt
 number_is_bytes (suc n) x = (byte_is_small n x, number_is_bytes n x)
 
-joined : (xs ys : List ℕ) → AreBytes xs → AreBytes ys → AreBytes (xs ++ ys)
-joined xs ys a b = all_append (λ b. b < 256) xs ys a b
-
 pad_is_bytes : (b : Bool) → AreBytes (if b then 0 ∷ [] else [])
 pad_is_bytes true = (omega arith, tt)
 pad_is_bytes false = tt
 
 chunk_is_bytes : (name : String) (body : List ℕ) → AreBytes (codes name) → AreBytes body → AreBytes (chunk name body)
 chunk_is_bytes name body a b =
-    joined (codes name ++ big_bytes 8 (length body) ++ body) (if length body % 2 == 1 then 0 ∷ [] else [])
-    (joined (codes name ++ big_bytes 8 (length body)) body (joined (codes name) (big_bytes 8 (length body)) a (number_is_bytes 8 (length body))) b)
+    bytes_joined (codes name ++ big_bytes 8 (length body) ++ body) (if length body % 2 == 1 then 0 ∷ [] else [])
+    (bytes_joined (codes name ++ big_bytes 8 (length body)) body (bytes_joined (codes name) (big_bytes 8 (length body)) a (number_is_bytes 8 (length body))) b)
     (pad_is_bytes (length body % 2 == 1))
 
 ids_are_bytes : (c : ℕ) → 1 ≤ c → c ≤ 6 → AreBytes (flat_map channel_id (range_with_len 0 c))
@@ -61,12 +59,12 @@ prop_is_bytes c m least most =
     let fs = chunk "FS  " (big_bytes 4 (2822400 * m)) in
     let chnl = chunk "CHNL" (big_bytes 2 c ++ ids) in
     chunk_is_bytes "PROP" (codes "SND " ++ fs ++ chnl ++ cmpr_plain) (by_test (codes "PROP") refl)
-    (joined (codes "SND " ++ fs ++ chnl) cmpr_plain
-    (joined (codes "SND " ++ fs) chnl
-    (joined (codes "SND ") fs (by_test (codes "SND ") refl)
+    (bytes_joined (codes "SND " ++ fs ++ chnl) cmpr_plain
+    (bytes_joined (codes "SND " ++ fs) chnl
+    (bytes_joined (codes "SND ") fs (by_test (codes "SND ") refl)
     (chunk_is_bytes "FS  " (big_bytes 4 (2822400 * m)) (by_test (codes "FS  ") refl) (number_is_bytes 4 (2822400 * m))))
     (chunk_is_bytes "CHNL" (big_bytes 2 c ++ ids) (by_test (codes "CHNL") refl)
-    (joined (big_bytes 2 c) ids (number_is_bytes 2 c) (ids_are_bytes c least most))))
+    (bytes_joined (big_bytes 2 c) ids (number_is_bytes 2 c) (ids_are_bytes c least most))))
     (by_test cmpr_plain refl))
 
 pub samples_are_bits : (f : List ℕ) (c t : ℕ) → dsf_sample f c t < 2
@@ -86,13 +84,13 @@ form_is_bytes f least most order =
     let all = fver ++ (prop ++ (dsd ++ (dsfk d ++ []))) in
     let told = 1 ∷ big_bytes 8 d.samples ++ big_bytes 4 d.type ++ d.bits ∷ [] in
     let last = chunk_is_bytes "DSFK" told (by_test (codes "DSFK") refl)
-    (joined (1 ∷ big_bytes 8 d.samples ++ big_bytes 4 d.type) (d.bits ∷ [])
-    (joined (1 ∷ big_bytes 8 d.samples) (big_bytes 4 d.type) (omega arith, number_is_bytes 8 d.samples) (number_is_bytes 4 d.type)) (order, tt)) in
-    joined (codes "FRM8" ++ big_bytes 8 (4 + length all) ++ codes "DSD ") all
-    (joined (codes "FRM8" ++ big_bytes 8 (4 + length all)) (codes "DSD ")
-    (joined (codes "FRM8") (big_bytes 8 (4 + length all)) (by_test (codes "FRM8") refl) (number_is_bytes 8 (4 + length all))) (by_test (codes "DSD ") refl))
-    (joined fver (prop ++ (dsd ++ (dsfk d ++ []))) (by_test fver refl)
-    (joined prop (dsd ++ (dsfk d ++ [])) (prop_is_bytes d.channels d.multiple least most)
-    (joined dsd (dsfk d ++ [])
+    (bytes_joined (1 ∷ big_bytes 8 d.samples ++ big_bytes 4 d.type) (d.bits ∷ [])
+    (bytes_joined (1 ∷ big_bytes 8 d.samples) (big_bytes 4 d.type) (omega arith, number_is_bytes 8 d.samples) (number_is_bytes 4 d.type)) (order, tt)) in
+    bytes_joined (codes "FRM8" ++ big_bytes 8 (4 + length all) ++ codes "DSD ") all
+    (bytes_joined (codes "FRM8" ++ big_bytes 8 (4 + length all)) (codes "DSD ")
+    (bytes_joined (codes "FRM8") (big_bytes 8 (4 + length all)) (by_test (codes "FRM8") refl) (number_is_bytes 8 (4 + length all))) (by_test (codes "DSD ") refl))
+    (bytes_joined fver (prop ++ (dsd ++ (dsfk d ++ []))) (by_test fver refl)
+    (bytes_joined prop (dsd ++ (dsfk d ++ [])) (prop_is_bytes d.channels d.multiple least most)
+    (bytes_joined dsd (dsfk d ++ [])
     (chunk_is_bytes "DSD " sound (by_test (codes "DSD ") refl) (sound_is_bytes (dsf_sample f) d.channels (octets d) (samples_are_bits f)))
-    (joined (dsfk d) [] last tt))))
+    (bytes_joined (dsfk d) [] last tt))))

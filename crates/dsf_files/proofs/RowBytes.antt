@@ -1,5 +1,5 @@
 -- A row of blocks as it is read, and the sound in it.
-use Rattle.std.proofs.Common.{◌≡◌, ◌⊎◌, inl, inr, ℕ, zero, suc, ◌+◌, ◌-◌, ◌*◌, ◌/◌, ◌%◌, ◌^◌, ◌<◌, ◌≤◌, Bool, true, List, [], ◌∷◌, length, take, drop}
+use Rattle.std.proofs.Common.{◌≡◌, ◌⊎◌, inl, inr, ℕ, ◌+◌, ◌-◌, ◌*◌, ◌/◌, ◌%◌, ◌^◌, ◌<◌, ◌≤◌, Bool, true, List, length, take, drop}
 use Rattle.std.proofs.Common.{get_or, refl, sym, ap, ap₂, subst, ◌∙◌, arith, Option, Some, None}
 use Rattle.std.proofs.lemmas.Bool.{leb-true, cases_order}
 use Rattle.std.proofs.lemmas.List.{get_or-take, get_or-drop}
@@ -8,6 +8,7 @@ use Rattle.std.proofs.Math.Nat.{mul-le-mul_right, mul-add-mod_self_right, mod-eq
 use Rattle.dst_spec.specs.Bits.{AreBytes}
 use Rattle.dsdiff_spec.specs.Bytes.{bytes_at}
 use Rattle.dsdiff_spec.specs.Dsf.{Dsf, dsf_of, rows, bytes_of_blocks, octets}
+use Rattle.dsdiff_spec.proofs.ByteLists.{byte_at_place}
 use Rattle.dsf_files.specs.declared.form.DsfForm.{DsfForm}
 use Rattle.dsf_files.specs.Forms.{dsf_seen, has_blocks, is_order}
 use Rattle.dsf_files.specs.Rows.{in_order, cleared, sound_byte, IsRowOf, IsCleared}
@@ -25,11 +26,6 @@ row_within (Some n) form number h below =
     (n, refl, omega arith)
 
 -- ---- the bytes in it
-byte_below : (xs : List ℕ) (i : ℕ) → AreBytes xs → get_or xs i 0 < 256
-byte_below [] i h = omega arith
-byte_below (x ∷ xs) zero h = h.0
-byte_below (x ∷ xs) (suc i) h = byte_below xs i h.1
-
 byte_in_row : (f row : List ℕ) (number n c j : ℕ) → row ≡ bytes_at f (92 + number * (4096 * n)) (4096 * n) → n ≡ (dsf_of f).channels → c < n → j < 4096 →
     get_or row (4096 * c + j) 0 ≡ block_byte f c (4096 * number + j)
 byte_in_row f row number n c j read channels below small =
@@ -65,7 +61,7 @@ whole_one : (f raw row : List ℕ) (number n order : ℕ) → IsOrdered f raw ro
     8 * (4096 * number + j) + 8 ≤ (dsf_of f).samples → get_or row (4096 * c + j) 0 ≡ sound_byte f c (4096 * number + j)
 whole_one f raw row number n order h c j below small all =
     ordered_byte f raw row number n order h c j (subst (λ m. c < m) (sym h.channels) below) small
-    ∙ sym (whole_byte f c (4096 * number + j) (lawful_order f raw row number n order h) (byte_below f _ h.bytes) all)
+    ∙ sym (whole_byte f c (4096 * number + j) (lawful_order f raw row number n order h) (byte_at_place f _ h.bytes) all)
 
 -- no byte of it is begun and not whole
 pub row_is_whole : (f raw row : List ℕ) (number n order : ℕ) → IsOrdered f raw row number n order →
@@ -92,7 +88,7 @@ row_is_cleared f raw row new number n order octet past h some past_is here octet
       ap (λ k. get_or new (4096 * c + k) 0) e
       ∙ cleared.0 c mine
       ∙ ap (λ b. cleared_by b) (ordered_byte f raw row number n order h c octet mine (omega arith))
-      ∙ sym (part_byte f c (4096 * number + octet) past (lawful_order f raw row number n order h) (byte_below f _ h.bytes) count (omega arith) (omega arith))
+      ∙ sym (part_byte f c (4096 * number + octet) past (lawful_order f raw row number n order h) (byte_at_place f _ h.bytes) count (omega arith) (omega arith))
       ∙ ap (λ k. sound_byte f c (4096 * number + k)) (sym e)
   | inr other ↦
       let mine : c < n = subst (λ m. c < m) (sym h.channels) below in

@@ -1,8 +1,8 @@
 -- A sound by its samples: how long it is, each byte of it, and each sample.
-use Rattle.std.proofs.Common.{◌≡◌, ℕ, ◌+◌, ◌-◌, ◌*◌, ◌/◌, ◌%◌, ◌^◌, ◌<◌, ◌≤◌, List, map, take, drop, length, get_or, refl, sym, ap, ap₂, ◌∙◌, arith}
+use Rattle.std.proofs.Common.{◌≡◌, ℕ, ◌+◌, ◌-◌, ◌*◌, ◌/◌, ◌%◌, ◌^◌, ◌<◌, ◌≤◌, take, drop, length, get_or, refl, sym, ap, ap₂, ◌∙◌, arith}
 use Rattle.std.proofs.Common.{length-append, take-append-drop}
 use Rattle.std.specs.List.{flat_map, range_with_len}
-use Rattle.std.proofs.lemmas.List.{length-map, length-take}
+use Rattle.std.proofs.lemmas.List.{length-take}
 use Rattle.std.proofs.lemmas.List.Concat.{get_or-flat_map}
 use Rattle.std.proofs.lemmas.List.FromFn.{get_or-map-range_with_len}
 use Rattle.std.proofs.lemmas.Nat.{div-mul-add}
@@ -12,17 +12,7 @@ use Rattle.dst_spec.proofs.Lists.{all_map, all_flat_map, all_range, place-below}
 use Rattle.dst_spec.proofs.Numbers.{length-range, get_or-range, number_from-below, bit-number_from, low_bits-at}
 use Rattle.dsdiff_spec.specs.Samples.{eight, sound_of, sample_in}
 use Rattle.dsdiff_spec.proofs.DsfLengths.{length-parts}
-
-abbrev row : (ℕ → ℕ → ℕ) → ℕ → ℕ → List ℕ
-row F channels i = map (λ c. number_from (eight F c i) 0 8) (range_with_len 0 channels)
-
-length-group : (F : ℕ → ℕ → ℕ) (channels i : ℕ) → length (row F channels i) ≡ channels
-length-group F channels i = length-map (range_with_len 0 channels) (λ c. number_from (eight F c i) 0 8) ∙ length-range 0 channels
-
-pub sound_is_long : (F : ℕ → ℕ → ℕ) (channels octets : ℕ) → length (sound_of F channels octets) ≡ octets * channels
-unfolding sound_of
-sound_is_long F channels octets =
-    length-parts channels (row F channels) (range_with_len 0 octets) (length-group F channels) ∙ ap (λ n. n * channels) (length-range 0 octets)
+use Rattle.dsdiff_spec.proofs.MadeLengths.{row, length-group}
 
 -- a byte by its channel and its place in it
 pub byte_of_sound : (F : ℕ → ℕ → ℕ) (channels octets c i : ℕ) → c < channels → i < octets →

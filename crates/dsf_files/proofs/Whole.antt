@@ -13,21 +13,10 @@ use Rattle.dsdiff_spec.specs.Dsf.{Dsf, dsf_of, octets, dsf_bit, dsf_sample, dsfk
 use Rattle.dsdiff_spec.specs.Made.{fver, prop_of, plain_form}
 use Rattle.dsdiff_spec.specs.Samples.{sound_of}
 use Rattle.dsdiff_spec.specs.Written.{chunk, cmpr_plain, form_of}
-use Rattle.dsf_files.proofs.SoundSamples.{sound_is_long}
+use Rattle.dsdiff_spec.proofs.MadeLengths.{prop_is_long, sound_is_long}
 use Rattle.dsf_files.specs.Standing.{sound_size, form_size, front, sound, back, front_size, back_size, whole_size}
 
 -- ---- `PROP` of so many channels
-pub prop_is_long : (m c : ℕ) → 1 ≤ c → c ≤ 6 → length (prop_of c m) ≡ 78 + 4 * c
-unfolding digits
-prop_is_long m zero least most = absurd (omega (arith, least))
-prop_is_long m (suc zero) least most = refl
-prop_is_long m (suc (suc zero)) least most = refl
-prop_is_long m (suc (suc (suc zero))) least most = refl
-prop_is_long m (suc (suc (suc (suc zero)))) least most = refl
-prop_is_long m (suc (suc (suc (suc (suc zero))))) least most = refl
-prop_is_long m (suc (suc (suc (suc (suc (suc zero)))))) least most = refl
-prop_is_long m (suc (suc (suc (suc (suc (suc (suc c))))))) least most = absurd (omega (arith, most))
-
 -- the front in pieces: the numbers in it, and the ids of the channels
 abbrev pub ids : List ℕ
 ids = codes "C000C001C002C003C004C005"

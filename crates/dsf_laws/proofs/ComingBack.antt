@@ -26,6 +26,7 @@ use Rattle.dsdiff_spec.specs.Samples.{sample_in}
 use Rattle.dsdiff_spec.specs.Laws.{ArePicks, IsPlainFile, coded_file, DsfLaw}
 use Rattle.dsdiff_spec.proofs.CodedFiles.{some_bytes}
 use Rattle.dsdiff_spec.proofs.Tiling.{heads_from}
+use Rattle.dsdiff_spec.proofs.MadeLengths.{sound_is_long}
 use Rattle.dsdiff_laws.proofs.Standing.{Holds}
 use Rattle.dsdiff_laws.proofs.Filed.{IsFile, file_holds, found_is}
 use Rattle.dsdiff_laws.proofs.Places.{one_named, head_behind, stands_behind, number_inside}
@@ -37,7 +38,6 @@ use Rattle.dsdiff_laws.proofs.MadeFile.{IsMade, made_prop_body}
 use Rattle.dsf_files.specs.Standing.{sound}
 use Rattle.dsf_files.proofs.PlainBytes.{form_is_bytes}
 use Rattle.dsf_files.proofs.Reading.{quotient_below}
-use Rattle.dsf_files.proofs.SoundSamples.{sound_is_long}
 use Rattle.dsf_laws.proofs.Accepted.{IsAcceptedDsf, accepted_dsf}
 use Rattle.dsf_laws.proofs.Alike.{with_alike, samples_again}
 use Rattle.dsf_laws.proofs.Chunks.{AreFour, same_keys, four}

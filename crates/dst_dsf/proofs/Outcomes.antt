@@ -26,7 +26,7 @@ use Rattle.dsdiff_spec.specs.Outcome.{Answer, done, frame_refused, IsStopped, Is
 use Rattle.dsdiff_spec.specs.Progress.{NoneOf, AreDecoded}
 use Rattle.dsdiff_spec.proofs.CodedFiles.{IsDecodable, is_decodable}
 use Rattle.dsdiff_spec.proofs.OneOutcome.{none_numbered, none_of_numbered, frames_are_answered}
-use Rattle.dsdiff_spec.proofs.Progress.{BeginsWith, length-decoded, sound_is_whole}
+use Rattle.dsdiff_spec.proofs.Progress.{BeginsWith, length-decoded, sound_is_whole, take_of_take}
 use Rattle.dsdiff_spec.proofs.Verdicts.{IsAnswered, AreAnswered, fewer_sounds, stop_is_not_earlier}
 use Rattle.dsf_files.proofs.Reading.{quotient_below}
 use Rattle.dsf_laws.proofs.Alike.{map_alike, flat_alike}
@@ -85,12 +85,6 @@ rows_cut d all n =
     (λ j m. ap (λ w. number_from (if d.bits == 1 then reverse w else w) 0 8)
     (map_alike (λ s. F c (8 * (4096 * r + j) + s)) (λ s. G c (8 * (4096 * r + j) + s)) 0 8
     (λ s i. sample_cut d all c (8 * (4096 * r + j) + s) (omega (arith, k)))))))
-
-take_of_take : {A : Type 0} (k n : ℕ) (xs : List A) → k ≤ n → take k (take n xs) ≡ take k xs
-take_of_take zero n xs h = refl
-take_of_take (suc k) zero xs h = absurd (omega arith)
-take_of_take (suc k) (suc n) [] h = refl
-take_of_take (suc k) (suc n) (x ∷ xs) h = ap (λ l. x ∷ l) (take_of_take k n xs (omega arith))
 
 row_below : (d : Dsf) (r n size : ℕ) → 1 ≤ d.channels → size ≡ n * d.channels → r * (4096 * d.channels) ≤ size → r ≤ n / 4096
 row_below d r n size some sized fits = elim (cases_lt (n / 4096) r) [

@@ -4,7 +4,6 @@ use Rattle.std.proofs.Common.{ap, sym, subst, ◌∙◌, arith}
 use Rattle.std.specs.Prelude.{option_map}
 use Rattle.std.specs.List.{concat}
 use Rattle.std.proofs.lemmas.List.{length-take}
-use Rattle.std.proofs.Math.Nat.{suc-mul}
 use Rattle.dst_spec.specs.Sample.{IsShape, sound_bytes}
 use Rattle.dst_spec.specs.Offends.{Offends}
 use Rattle.dst_streams.specs.Told.{and_then}
@@ -34,6 +33,7 @@ use Rattle.dst_read.specs.Feeding as feeding
 use Rattle.dst_read.proofs.Feeding as fed
 use Rattle.dst_read.proofs.Framing.{IsUnderstood, is_understood, count_is, one_more, refused_at}
 use Rattle.dst_read.proofs.Working.{heard, refused}
+use Rattle.dst_read.proofs.Underway.{one_less}
 use Rattle.dst_dsf.specs.declared.rows.RowWriter.{RowWriter}
 use Rattle.dst_dsf.specs.Rows.{rows_of}
 use Rattle.dst_dsf.specs.Gathering.{HasTaken, FailsAtRow}
@@ -50,11 +50,6 @@ sound_in_frames form lawful = go form.origin (coded_parts (coded_seen form) form
     go None h = omega arith
     go (Some o) h = (needed (sound_bytes_of (coded_seen form)) o.sound form.frames
         (some_bytes (shape (coded_seen form)) (subst IsShape (sym form.shape) lawful)) h.count).0
-
-one_less : (size n whole : ℕ) → size - n * whole - whole ≡ size - (n + 1) * whole
-one_less size n whole =
-    let same : (n + 1) * whole ≡ suc n * whole = ap (λ k. k * whole) (omega arith) in
-    omega (arith, suc-mul n whole, same)
 
 module _ {S K : Type 0} (bytes : S → Option (List ℕ)) (known : S → Option ℕ) (faults : S → ℕ) (written : K → Option (List ℕ)) (room : K → Option ℕ)
     (sink_faults : K → ℕ) (form : Form) (s0 : StoredFrames S) (t0 : RowWriter K) where

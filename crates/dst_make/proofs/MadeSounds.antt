@@ -1,40 +1,28 @@
 -- Made sound frame by frame, and the file around it.
-use Rattle.std.proofs.Common.{◌≡◌, ℕ, zero, suc, ◌+◌, ◌-◌, ◌*◌, ◌/◌, ◌%◌, ◌<◌, ◌≤◌, List, [], ◌∷◌, ◌++◌, length, get_or, take, Option, Result, Ok}
+use Rattle.std.proofs.Common.{◌≡◌, ℕ, zero, suc, ◌+◌, ◌-◌, ◌*◌, ◌/◌, ◌%◌, ◌<◌, ◌≤◌, List, [], ◌++◌, length, get_or, take, Option, Result, Ok}
 use Rattle.std.proofs.Common.{Err, refl, ap, sym, inl, inr, ◌∙◌, arith, append_assoc, append-nil, length-append}
-use Rattle.std.specs.Prelude.{◌==◌, codes, if◌then◌else◌, MatchResult}
+use Rattle.std.specs.Prelude.{codes, MatchResult}
 use Rattle.std.specs.Fmt.{digits}
-use Rattle.std.proofs.lemmas.List.FromFn.{length-map-range_with_len}
 use Rattle.byteorder.specs.Endian.{big_bytes}
 use Rattle.byteorder.specs.Numbers.{length-bytes_high_first}
-use Rattle.dst_spec.specs.Bits.{number_from}
 use Rattle.dst_spec.specs.Sample.{Shape, IsShape, sound_bytes}
 use Rattle.dsdiff_spec.specs.Form.{shape_of}
 use Rattle.dsdiff_spec.specs.Made.{fver, prop_of, made, made_samples, made_sound, plain_form}
-use Rattle.dsdiff_spec.specs.Samples.{eight, sound_of}
 use Rattle.dsdiff_spec.specs.Written.{chunk, cmpr_plain}
+use Rattle.dsdiff_spec.proofs.MadeLengths.{prop_is_long, sound_is_long, sound_chunk}
 use Rattle.sound_maker.specs.Making.{frame_of, maker_after}
-use Rattle.sound_maker.proofs.Making.{row, sound-more, one_frame_more}
+use Rattle.sound_maker.proofs.Making.{one_frame_more}
 use Rattle.dst_streams.specs.Told.{and_then, IsCutShort, IsSure}
 use Rattle.dst_commands.specs.Writing.{Adds, Stops}
 use Rattle.dst_commands.proofs.Writing.{added, adds_same, cut_off, stops_first, stops_same}
 use Rattle.dst_make.specs.Making.{multiple_of, made_file, made_front}
 
 -- ---- the sound
-length-sound_of : (F : ℕ → ℕ → ℕ) (channels octets : ℕ) → length (sound_of F channels octets) ≡ octets * channels
-unfolding sound_of
-length-sound_of F channels zero = omega arith
-length-sound_of F channels (suc n) =
-    let next : suc n ≡ n + 1 = omega arith in
-    let one = length-map-range_with_len (λ c. number_from (eight F c n) 0 8) 0 channels in
-    let more = ap length (sound-more F channels n) ∙ length-append (sound_of F channels n) (row F channels n) in
-    let before = length-sound_of F channels n in
-    ap (λ k. length (sound_of F channels k)) next ∙ more ∙ omega (arith, one, before)
-
 pub length-made_sound : (start frames : ℕ) (f : Shape) → length (made_sound start frames f) ≡ frames * sound_bytes f
 unfolding made_sound
 length-made_sound start frames f =
     let rows = made_samples start frames f in
-    let long = length-sound_of (λ c t. get_or (get_or rows t []) c 0) f.channels (frames * f.octets) in
+    let long = sound_is_long (λ c t. get_or (get_or rows t []) c 0) f.channels (frames * f.octets) in
     omega (arith, long)
 
 -- what it begins with
@@ -121,17 +109,6 @@ pub in_one_call : {T E : Type 0} (result : Result T E) (piece whole : List ℕ) 
 in_one_call (Ok u) piece whole old new room left is w s = adds_same piece whole old new room left is (added (Ok u) piece old new room left s w)
 in_one_call (Err fault) piece whole old new room left is w s = stops_same (Unit {0}) piece whole old new room is (cut_off fault piece old new room left s w)
 
-length-prop_of : (m c : ℕ) → 1 ≤ c → c ≤ 6 → length (prop_of c m) ≡ 78 + 4 * c
-unfolding digits
-length-prop_of m zero least most = absurd (omega (arith, least))
-length-prop_of m (suc zero) least most = refl
-length-prop_of m (suc (suc zero)) least most = refl
-length-prop_of m (suc (suc (suc zero))) least most = refl
-length-prop_of m (suc (suc (suc (suc zero)))) least most = refl
-length-prop_of m (suc (suc (suc (suc (suc zero))))) least most = refl
-length-prop_of m (suc (suc (suc (suc (suc (suc zero)))))) least most = refl
-length-prop_of m (suc (suc (suc (suc (suc (suc (suc c))))))) least most = absurd (omega (arith, most))
-
 pub octets_of : (f : Shape) → IsShape f → 4704 * multiple_of f ≡ f.octets
 octets_of f s = elim s.rate [ inl e ↦ omega (arith, e) | inr (inl e) ↦ omega (arith, e) | inr (inr e) ↦ omega (arith, e) ]
 
@@ -143,12 +120,6 @@ regrouped a b c d e s =
     ∙ append_assoc (a ++ b) c (d ++ (e ++ s))
     ∙ append_assoc a b (c ++ (d ++ (e ++ s)))
     ∙ ap (λ w. a ++ (b ++ (c ++ w))) (sym (append_assoc d e s))
-
-sound_chunk : (s : List ℕ) (n : ℕ) → length s ≡ n → n % 2 ≡ 0 → chunk "DSD " s ≡ codes "DSD " ++ big_bytes 8 n ++ s
-sound_chunk s n long even =
-    ap (λ k. codes "DSD " ++ big_bytes 8 k ++ s ++ (if k % 2 == 1 then 0 ∷ [] else [])) long
-    ∙ ap (λ p. codes "DSD " ++ big_bytes 8 n ++ s ++ (if p == 1 then 0 ∷ [] else [])) even
-    ∙ append-nil (codes "DSD " ++ big_bytes 8 n ++ s)
 
 sound_is_even : (frames : ℕ) (f : Shape) → IsShape f → frames * sound_bytes f % 2 ≡ 0
 sound_is_even frames f s =
@@ -172,7 +143,7 @@ file_is start frames f shape =
       arith,
       length-append fver (prop ++ (chunk "DSD " s ++ [])),
       length-append prop (chunk "DSD " s ++ []),
-      length-prop_of m f.channels
+      prop_is_long m f.channels
           shape.least shape.most,
       ap length (append-nil (chunk "DSD " s)),
       ap length sound,

@@ -3,7 +3,7 @@ use Rattle.std.proofs.Common.{◌≡◌, ◌⊎◌, inl, inr, ℕ, suc, ◌+◌,
 use Rattle.std.proofs.Common.{Some, None, refl, sym, ap, ap₂, subst, ◌∙◌, arith, length-append, append-nil, append_assoc, take-append-drop}
 use Rattle.std.specs.List.{AllByRecursion, AllZip, concat}
 use Rattle.std.proofs.lemmas.Bool.{cases_lt}
-use Rattle.std.proofs.lemmas.List.{take_all, get_or_at, length-replicate}
+use Rattle.std.proofs.lemmas.List.{take_all, get_or_at}
 use Rattle.std.proofs.Math.Seq.{take-append_seam}
 use Rattle.std.proofs.Math.Nat.{mul-le-mul_right}
 use Rattle.dst_spec.specs.Bits.{AreBytes}
@@ -11,7 +11,6 @@ use Rattle.dst_spec.specs.Sample.{Shape, IsShape, sound_bytes}
 use Rattle.dst_spec.specs.Means.{Means}
 use Rattle.dst_spec.specs.Offends.{Offends}
 use Rattle.dst_spec.specs.declared.faults.FrameFault.{FrameFault}
-use Rattle.dst_spec.proofs.Unique.{tail_law}
 use Rattle.dsdiff_spec.specs.declared.faults.FileFault.{FileFault}
 use Rattle.dsdiff_spec.specs.Ranges.{MeansOrZeros}
 use Rattle.dsdiff_spec.specs.Words.{decode}
@@ -22,6 +21,7 @@ use Rattle.dsdiff_spec.proofs.Lawful.{prop_has_a_shape}
 use Rattle.dsdiff_spec.proofs.Pieces.{AreWhole, length-sounds}
 use Rattle.dsdiff_spec.proofs.Progress.{BeginsWith, take-joined}
 use Rattle.dsdiff_spec.proofs.Verdicts.{stop_is_not_earlier}
+use Rattle.dsdiff_spec.proofs.Sounding.{one_of_both, long_of_both}
 use Rattle.stream_spec.specs.Lawful.{IsLawfulFront}
 use Rattle.stream_spec.specs.More.{GoesOn}
 use Rattle.stream_spec.specs.Outcome.{StreamOutcome, OfStream, IsStopped, IsThrough, at_ending}
@@ -64,10 +64,6 @@ early_stop_is None ended fault same = absurd cc
 early_stop_is None (stopped g) fault same = (let one : g ≡ fault = cc in (refl, ap stopped one))
 early_stop_is None (cut_off g) fault same = absurd cc
 
-pub no_more : (frames : List (List ℕ)) (e : Ending) → frame_event frames e ≡ None → frames ≡ []
-no_more [] e same = refl
-no_more (f ∷ fs) e same = absurd cc
-
 pub no_front : (front : Option Front) (e : Ending) → front_event front e ≡ None → front ≡ None
 no_front None e same = refl
 no_front (Some f) e same = absurd cc
@@ -83,15 +79,11 @@ means_or_zeros f [] (y ∷ ys) all = absurd all
 means_or_zeros f (x ∷ xs) [] all = absurd all
 means_or_zeros f (x ∷ xs) (y ∷ ys) all = (inl all.0, means_or_zeros f xs ys all.1)
 
-long_of : (f : Shape) (frame sound : List ℕ) → MeansOrZeros f frame sound → length sound ≡ sound_bytes f
-long_of f frame sound (inl m) = m.0.long
-long_of f frame sound (inr none) = ap length none.1 ∙ length-replicate (sound_bytes f) 0
-
 whole : (f : Shape) (frames sounds : List (List ℕ)) → AllZip (MeansOrZeros f) frames sounds → AreWhole (sound_bytes f) sounds × (length sounds ≡ length frames)
 whole f [] [] all = (tt, refl)
 whole f [] (y ∷ ys) all = absurd all
 whole f (x ∷ xs) [] all = absurd all
-whole f (x ∷ xs) (y ∷ ys) all = (let later = whole f xs ys all.1 in ((long_of f x y all.0, later.0), ap suc later.1))
+whole f (x ∷ xs) (y ∷ ys) all = (let later = whole f xs ys all.1 in ((long_of_both f x y all.0, later.0), ap suc later.1))
 
 zip_both : (f : Shape) (xs zs : List (List ℕ)) (ys ws : List (List ℕ)) → AllZip (MeansOrZeros f) xs ys → AllZip (MeansOrZeros f) zs ws →
     AllZip (MeansOrZeros f) (xs ++ zs) (ys ++ ws)
@@ -99,14 +91,6 @@ zip_both f [] zs [] ws a b = b
 zip_both f [] zs (y ∷ ys) ws a b = absurd a
 zip_both f (x ∷ xs) zs [] ws a b = absurd a
 zip_both f (x ∷ xs) zs (y ∷ ys) ws a b = (a.0, zip_both f xs zs ys ws a.1 b)
-
-one_sound : (f : Shape) (w a b : List ℕ) → IsShape f → Means f w a → MeansOrZeros f w b → b ≡ a
-one_sound f w a b lawful m (inl n) =
-    let law = tail_law f w lawful in
-    let s = law.1 b n in
-    let t = law.1 a m in
-    (law.0 b a s.0 t.0 s.1 t.1).0
-one_sound f w a b lawful m (inr none) = absurd (none.0 a m)
 
 -- the first of some sounds are those of the first frames
 first_sounds : (f : Shape) (frames later sounds all : List (List ℕ)) → IsShape f → AllZip (Means f) frames sounds →
@@ -118,7 +102,7 @@ first_sounds f (x ∷ xs) later [] all lawful p q = absurd p
 first_sounds f (x ∷ xs) later (y ∷ ys) [] lawful p q = absurd q
 first_sounds f (x ∷ xs) later (y ∷ ys) (z ∷ zs) lawful p q =
     let rest = first_sounds f xs later ys zs lawful p.1 q.1 in
-    (rest.0, ap₂ {A = List ℕ} (λ a as_are. a ∷ as_are) (one_sound f x y z lawful p.0 q.0) rest.1)
+    (rest.0, ap₂ {A = List ℕ} (λ a as_are. a ∷ as_are) (one_of_both f x y z lawful p.0 q.0) rest.1)
 
 concat_both : (xs ys : List (List ℕ)) → concat (xs ++ ys) ≡ concat xs ++ concat ys
 concat_both [] ys = refl

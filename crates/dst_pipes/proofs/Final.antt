@@ -13,13 +13,14 @@ use Rattle.stream_spec.specs.Outcome.{StreamOutcome, OfStream, IsEarly, stream_r
 use Rattle.push_decoder.specs.Events.{Answered, nothing_answered, begun, has_stopped, due}
 use Rattle.push_decoder.specs.Told.{EndsAs}
 use Rattle.push_decoder.specs.Laws.{AreOf}
+use Rattle.push_decoder.proofs.Pieces.{no_more_frames}
 use Rattle.dst_commands.proofs.Writing.{stops_behind, stops_unsettled, and_then-nothing}
 use Rattle.dst_pipes.specs.Heads.{head_of}
 use Rattle.dst_pipes.specs.States.{AreSounds, Wrote, BeginsSo}
 use Rattle.dst_pipes.specs.Steps.{HasCome, StopsAtFault, StopsAtFrame, StopsInWriting}
 use Rattle.dst_pipes.specs.Endings.{Writes, IsStoppedShort, LacksRoom}
 use Rattle.dst_pipes.specs.declared.work.Work.{Work}
-use Rattle.dst_pipes.proofs.Ending.{stays_ended, stays_stopped, end_is, stop_is, early_stop_is, no_more, no_front, all_frames, has_begun, through}
+use Rattle.dst_pipes.proofs.Ending.{stays_ended, stays_stopped, end_is, stop_is, early_stop_is, no_front, all_frames, has_begun, through}
 use Rattle.dst_pipes.proofs.Ending.{behind_all, all_told, refused, every_outcome_begins, stopped_short, lacks_room, nothing_written}
 
 -- the frames of the bytes that were taken
@@ -109,10 +110,10 @@ ends_cut_off w nothing_answered fault old new room left are none (inr e) wrote =
     refused_early w (cut_off fault) fault old new (no_front (stream w).front (stream w).ending none) e refl wrote.0
 ends_cut_off w (begun front frames) fault old new room left are none (inl e) wrote =
     refused_behind w front frames wrote.sounds (stopped fault) fault old new are.0
-    (all_frames frames (stream w).frames are.1 (no_more (drop (length frames) (stream w).frames) (stream w).ending none)) e wrote.are wrote.adds.written refl
+    (all_frames frames (stream w).frames are.1 (no_more_frames (drop (length frames) (stream w).frames) (stream w).ending none)) e wrote.are wrote.adds.written refl
 ends_cut_off w (begun front frames) fault old new room left are none (inr e) wrote =
     refused_behind w front frames wrote.sounds (cut_off fault) fault old new are.0
-    (all_frames frames (stream w).frames are.1 (no_more (drop (length frames) (stream w).frames) (stream w).ending none)) e wrote.are wrote.adds.written refl
+    (all_frames frames (stream w).frames are.1 (no_more_frames (drop (length frames) (stream w).frames) (stream w).ending none)) e wrote.are wrote.adds.written refl
 
 -- ---- a frame is refused
 pub ends_at_frame : (k : ℕ) (fault : FrameFault) (taken piece rest : List ℕ) (old new : Option (List ℕ)) (room left : Option ℕ)

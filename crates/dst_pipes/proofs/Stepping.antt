@@ -1,7 +1,7 @@
 -- What a step leaves, by what its event asks for.
 use Rattle.std.proofs.Common.{◌≡◌, ℕ, ◌+◌, ◌-◌, ◌<◌, List, [], ◌∷◌, ◌++◌, take, Option, Some, None, Result, Ok, Err, refl, sym, ap, subst, ◌∙◌, arith}
 use Rattle.std.proofs.Common.{length-append, append-nil, append_assoc}
-use Rattle.std.specs.List.{AllZip, concat}
+use Rattle.std.specs.List.{concat}
 use Rattle.std.specs.declared.alloc.AllocError.{AllocError}
 use Rattle.dst_spec.specs.Means.{Means}
 use Rattle.dst_spec.specs.Offends.{Offends}
@@ -13,6 +13,7 @@ use Rattle.dsdiff_spec.specs.Words.{decode}
 use Rattle.dsdiff_spec.specs.Progress.{NotRefused}
 use Rattle.dsdiff_spec.specs.Streams.{Front, shape_in, stream}
 use Rattle.dsdiff_spec.proofs.Lawful.{prop_has_a_shape}
+use Rattle.dsdiff_spec.proofs.Progress.{zip_push}
 use Rattle.stream_spec.specs.Lawful.{IsLawfulFront}
 use Rattle.stream_spec.proofs.Lawful.{streams_are_lawful}
 use Rattle.push_decoder.specs.Events.{Answered, nothing_answered, begun}
@@ -91,12 +92,6 @@ pub begun_no_read : (fault : PipeFault) (front : Front) (old new : Option (List 
 begun_no_read fault front old new room left b e = subst (λ f. HasBegun (Err f) front old new room left) e b
 
 -- ---- a sound is written
-zip_append : {A B : Type 0} (P : A → B → Type 0) (xs : List A) (ys : List B) (x : A) (y : B) → AllZip P xs ys → P x y → AllZip P (xs ++ x ∷ []) (ys ++ y ∷ [])
-zip_append P [] [] x y all p = (p, tt)
-zip_append P [] (b ∷ bs) x y all p = absurd all
-zip_append P (a ∷ more) [] x y all p = absurd all
-zip_append P (a ∷ more) (b ∷ bs) x y all p = (all.0, zip_append P more bs x y all.1 p)
-
 concat_one_more : (xs : List (List ℕ)) (x : List ℕ) → concat (xs ++ x ∷ []) ≡ concat xs ++ x
 concat_one_more [] x = append-nil x
 concat_one_more (y ∷ ys) x = ap (λ w. y ++ w) (concat_one_more ys x) ∙ sym (append_assoc y (concat ys) x)
@@ -106,7 +101,7 @@ one_more_sound : (front : Front) (frames sounds : List (List ℕ)) (frame sound 
     NotRefused decode (shape_in front.prop) frame → AreSounds front (frames ++ frame ∷ []) (sounds ++ sound ∷ [])
 one_more_sound front frames sounds frame sound are means none =
     record {
-      each = zip_append (Means (shape_in front.prop)) frames sounds frame sound are.each means;
+      each = zip_push (Means (shape_in front.prop)) frames sounds frame sound are.each means;
       none = all_append (NotRefused decode (shape_in front.prop)) frames (frame ∷ []) are.none (none, tt);
     }
 

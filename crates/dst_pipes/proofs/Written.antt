@@ -11,7 +11,8 @@ use Rattle.dst_spec.specs.Sample.{sound_bytes}
 use Rattle.dsdiff_spec.specs.Parts.{channel_count, multiple}
 use Rattle.dsdiff_spec.specs.Written.{chunk, form_of, prop_with, cmpr_plain}
 use Rattle.dsdiff_spec.specs.Streams.{Front, shape_in, piped, place_of_piped_sound}
-use Rattle.dsdiff_spec.proofs.Pieces.{AreWhole, length-sounds}
+use Rattle.dsdiff_spec.proofs.Pieces.{AreWhole, length-sounds, zeros_are_whole}
+use Rattle.dsdiff_spec.proofs.MadeLengths.{sound_chunk}
 use Rattle.stream_spec.specs.Outcome.{told_sound}
 use Rattle.dst_pipes.specs.Heads.{version_bytes, opening_bytes, plain_size, head_of}
 
@@ -21,10 +22,6 @@ size_of front = sound_bytes (shape_in front.prop)
 
 abbrev pub zeros : Front → ℕ → List ℕ
 zeros front k = concat (replicate (front.frames - k) (replicate (size_of front) 0))
-
-zeros_whole : (m n : ℕ) → AreWhole n (replicate m (replicate n 0))
-zeros_whole zero n = tt
-zeros_whole (suc m) n = (length-replicate n 0, zeros_whole m n)
 
 shared : (k m n : ℕ) → k * n + m * n ≡ (k + m) * n
 shared zero m n = omega arith
@@ -38,7 +35,7 @@ length-body front sounds whole le =
     let all : k + m ≡ front.frames = omega (arith, le) in
     length-append (concat sounds) (zeros front k)
     ∙ ap₂ (λ a b. a + b) (length-sounds (size_of front) sounds whole)
-    (length-sounds (size_of front) (replicate m (replicate (size_of front) 0)) (zeros_whole m (size_of front))
+    (length-sounds (size_of front) (replicate m (replicate (size_of front) 0)) (zeros_are_whole m (size_of front))
     ∙ ap (λ n. n * size_of front) (length-replicate m (replicate (size_of front) 0)))
     ∙ shared k m (size_of front)
     ∙ ap (λ n. n * size_of front) all
@@ -56,12 +53,6 @@ version_is : (version : List ℕ) → length version ≡ 4 → chunk "FVER" vers
 version_is version e =
     ap (λ n. codes "FVER" ++ big_bytes 8 n ++ version ++ (if n % 2 == 1 then 0 ∷ [] else [])) e
     ∙ append-nil (codes "FVER" ++ big_bytes 8 4 ++ version)
-
-sound_is : (body : List ℕ) (n : ℕ) → length body ≡ n → n % 2 ≡ 0 → chunk "DSD " body ≡ codes "DSD " ++ big_bytes 8 n ++ body
-sound_is body n e p =
-    ap (λ m. codes "DSD " ++ big_bytes 8 m ++ body ++ (if m % 2 == 1 then 0 ∷ [] else [])) e
-    ∙ ap (λ r. codes "DSD " ++ big_bytes 8 n ++ body ++ (if r == 1 then 0 ∷ [] else [])) p
-    ∙ append-nil (codes "DSD " ++ big_bytes 8 n ++ body)
 
 length-version : (version : List ℕ) → length version ≡ 4 → length (version_bytes version) ≡ 16
 length-version version e =
@@ -89,7 +80,7 @@ piped_is front sounds four whole le =
     let size : 4 + length (v ++ (p ++ d)) ≡ plain_size front.prop n =
     omega (arith, length-append v (p ++ d), length-append p d, length-version front.version four, length-sound body n, long) in
     ap (λ x. form_of (x ∷ p ∷ chunk "DSD " body ∷ [])) (version_is front.version four)
-    ∙ ap (λ x. form_of (v ∷ p ∷ x ∷ [])) (sound_is body n long (even front))
+    ∙ ap (λ x. form_of (v ∷ p ∷ x ∷ [])) (sound_chunk body n long (even front))
     ∙ ap (λ x. codes "FRM8" ++ big_bytes 8 (4 + length x) ++ codes "DSD " ++ x) (three v p d)
     ∙ ap (λ m. opening_bytes m ++ (v ++ (p ++ d))) size
     ∙ ap (λ x. opening_bytes (plain_size front.prop n) ++ (v ++ (p ++ x)))

@@ -14,7 +14,7 @@ use Rattle.dsdiff_spec.specs.Words.{range, index}
 use Rattle.dsdiff_spec.specs.declared.faults.FileFault.{FileFault}
 use Rattle.dsdiff_spec.specs.declared.faults.FileFault.TheVariants.{RangePast}
 use Rattle.dsdiff_spec.proofs.CodedFiles.{form_by, refused_by}
-use Rattle.dsdiff_spec.proofs.Lawful.{when_not}
+use Rattle.dsdiff_spec.proofs.Lawful.{when_not, first_of}
 use Rattle.dsdiff_chunks.specs.declared.open.OpenFault.{OpenFault}
 use Rattle.dsdiff_chunks.specs.declared.open.OpenFault.TheVariants.{Read, Memory, File}
 use Rattle.dsdiff_chunks.specs.Opening.{Stops}
@@ -55,11 +55,8 @@ pair_inside form p some none =
     let not_past = ltb-false (groups form) (p.0 + p.1) (when_not (RangePast (p.0 + p.1) (groups form)) (p.0 + p.1 above groups form) none) in
     (le-div_iff_mul-le {k = form.channels} {x = p.0 + p.1} {y = size_of_sound form} some).0 not_past
 
-abbrev pub then_first : Option FileFault → Option FileFault → Option FileFault
-then_first o later = elim o [ Some y ↦ Some y | None ↦ later ]
-
 -- none of them is past it where the first isn't and none of the others is
-both_inside : (first later : Option FileFault) → then_first first later ≡ None → (first ≡ None) × (later ≡ None)
+both_inside : (first later : Option FileFault) → first_of first later ≡ None → (first ≡ None) × (later ≡ None)
 both_inside (Some fault) later e = absurd cc
 both_inside None later e = (refl, e)
 
@@ -80,11 +77,11 @@ pair_is_not form p end g is of within =
     ap₂ {A = ℕ} {B = ℕ} (λ e n. RangePast e n when e above n) (sym is) (sym of) ∙ ap (λ b. if b then Some (RangePast end g) else None) (le-ltb g end within)
 
 pub next_pair : (form : Form) (pairs : List (ℕ × ℕ)) (i : ℕ) (d : ℕ × ℕ) (o : Option FileFault) → i < length pairs → past_fault form (get_or pairs i d) ≡ o →
-    first_some (past_fault form) (drop i pairs) ≡ then_first o (first_some (past_fault form) (drop (i + 1) pairs))
+    first_some (past_fault form) (drop i pairs) ≡ first_of o (first_some (past_fault form) (drop (i + 1) pairs))
 next_pair form pairs i d o h is =
     let next : suc i ≡ i + 1 = omega arith in
-    ap (first_some (past_fault form)) (drop-cons pairs i d h) ∙ ap (λ f. then_first f (first_some (past_fault form) (drop (suc i) pairs))) is
-    ∙ ap (λ j. then_first o (first_some (past_fault form) (drop j pairs))) next
+    ap (first_some (past_fault form)) (drop-cons pairs i d h) ∙ ap (λ f. first_of f (first_some (past_fault form) (drop (suc i) pairs))) is
+    ∙ ap (λ j. first_of o (first_some (past_fault form) (drop j pairs))) next
 
 -- ---- pairs that lie in the sound of a form lie in that of its reader
 pub inside_reader : (form : Form) (r : Reader) (f : Shape) (pairs : List (ℕ × ℕ)) → form.channels ≡ f.channels → size_of_sound form ≡ r.size → IsShape f →

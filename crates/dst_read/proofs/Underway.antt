@@ -22,7 +22,7 @@ use Rattle.dst_read.proofs.Framing.{IsUnderstood, is_understood, AreWritten, non
 use Rattle.dst_read.proofs.Working.{heard, refused}
 use Rattle.dst_commands.proofs.Writing.{stops_behind}
 
-one_less : (size n whole : ℕ) → size - n * whole - whole ≡ size - (n + 1) * whole
+pub one_less : (size n whole : ℕ) → size - n * whole - whole ≡ size - (n + 1) * whole
 one_less size n whole =
     let same : (n + 1) * whole ≡ suc n * whole = ap (λ k. k * whole) (omega arith) in
     omega (arith, suc-mul n whole, same)

@@ -75,7 +75,7 @@ symbols-by_place f P sound e =
 abbrev pub sample_at : Shape → List ℕ → ℕ → ℕ
 sample_at f sound k = sample f sound (k % f.channels) (pos (k / f.channels))
 
-row_less : (u q w : ℕ) → u < q → u * w + w ≤ q * w
+pub row_less : (u q w : ℕ) → u < q → u * w + w ≤ q * w
 row_less u q w l = grind arith
 
 less : (u q w c k : ℕ) → u < q → 0 < w → q * w + c ≡ k → u * w + c < k

@@ -55,7 +55,7 @@ code_of_spelling h pairs b lawful =
     let least = n.least in
     record { above = omega (arith, value); below = omega (arith, value) }
 
-AreBits-code : (pairs : List (Bool × ℕ)) → AreBits (code_spelling pairs)
+pub AreBits-code : (pairs : List (Bool × ℕ)) → AreBits (code_spelling pairs)
 unfolding code_spelling
 AreBits-code pairs = (omega arith, AreBits-low_bits (12 + (interval pairs).doublings) (interval pairs).low)
 
@@ -105,7 +105,7 @@ shorter_is P a b h k = go (nat_lt (length b) (length a))
     go true = k
     go false = h
 
-shorter-length : (a b : List ℕ) → length (shorter a b) ≤ length a
+pub shorter-length : (a b : List ℕ) → length (shorter a b) ≤ length a
 shorter-length a b = go (nat_lt (length b) (length a)) refl
   where
     go : (t : Bool) → nat_lt (length b) (length a) ≡ t → length (cond t b a) ≤ length a
@@ -118,7 +118,7 @@ fold_is : (P : List ℕ → Type 0) (a : List ℕ) (list : List (List ℕ)) → 
 fold_is P a [] h k = h
 fold_is P a (b ∷ list) h k = fold_is P (shorter a b) list (shorter_is P a b h k.0) k.1
 
-fold-length : (a : List ℕ) (list : List (List ℕ)) → length (fold shorter a list) ≤ length a
+pub fold-length : (a : List ℕ) (list : List (List ℕ)) → length (fold shorter a list) ≤ length a
 fold-length a [] = omega arith
 fold-length a (b ∷ list) = omega (arith, fold-length (shorter a b) list, shorter-length a b)
 

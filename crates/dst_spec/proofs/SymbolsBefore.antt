@@ -14,7 +14,7 @@ pub symbols_at-more : (f : Shape) (P : Params) (sound : List ℕ) (t n : ℕ) �
 symbols_at-more f P sound t n = map-range_with_len_more (λ c. (as_guessed f P sound c t, probability f P sound c t)) 0 n n (omega arith)
 
 -- one more place
-range-more : (a n : ℕ) → range_with_len a (n + 1) ≡ range_with_len a n ++ (a + n) ∷ []
+pub range-more : (a n : ℕ) → range_with_len a (n + 1) ≡ range_with_len a n ++ (a + n) ∷ []
 range-more a zero =
     let e : a + zero ≡ a = omega arith in
     rw e refl

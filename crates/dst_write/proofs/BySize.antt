@@ -1,28 +1,21 @@
 -- Frames by their sizes: the bytes of their chunks, and their entries in `DSTI`.
-use Rattle.std.proofs.Common.{◌≡◌, ℕ, ◌+◌, ◌*◌, ◌/◌, ◌%◌, ◌<◌, ◌==◌, Bool, true, false, if◌then◌else◌, List, [], ◌∷◌, ◌++◌, length, map, take, get_or}
+use Rattle.std.proofs.Common.{◌≡◌, ℕ, ◌+◌, ◌*◌, ◌/◌, ◌%◌, ◌<◌, ◌==◌, false, if◌then◌else◌, List, [], ◌∷◌, ◌++◌, length, map, take, get_or}
 use Rattle.std.proofs.Common.{flat_map, refl, sym, ap, ◌∙◌, arith, length-append, append-nil, append_assoc, drop}
 use Rattle.std.specs.Prelude.{codes}
-use Rattle.std.proofs.lemmas.Bool.{eqb-false}
-use Rattle.std.proofs.Common.{eqb-true}
 use Rattle.std.proofs.lemmas.List.{take_more, take-append-drop}
 use Rattle.std.proofs.lemmas.List.Sums.{sum_by-cons}
 use Rattle.std.proofs.lemmas.List.Concat.{flat_map-append}
 use Rattle.byteorder.specs.Endian.{big_bytes}
 use Rattle.byteorder.specs.Numbers.{length-bytes_high_first}
 use Rattle.dsdiff_spec.proofs.Progress.{BeginsWith}
+use Rattle.dsdiff_spec.proofs.ByteLists.{entry_bytes, length-index}
+use Rattle.dsdiff_spec.proofs.Pieces.{pad_is_long}
 use Rattle.dsdiff_spec.specs.Walk.{Entry}
 use Rattle.dsdiff_spec.specs.Written.{padded_chunk, chunk, frte, dstf, dsti, entries_from}
 use Rattle.dst_write.specs.Layout.{chunk_size, frames_size, entries_by}
 use Prim.Native.String.{String}
 
 -- ---- the bytes of a chunk
-length-pad : (n pad : ℕ) → length (if n % 2 == 1 then pad ∷ [] else []) ≡ n % 2
-length-pad n pad = go (n % 2 == 1) refl
-  where
-    go : (b : Bool) → (n % 2 == 1) ≡ b → length (if b then pad ∷ [] else []) ≡ n % 2
-    go true e = let one = eqb-true (n % 2) 1 e in omega arith
-    go false e = let not_one = eqb-false (n % 2) 1 e in omega arith
-
 pub length-padded : (name : String) (body : List ℕ) (pad : ℕ) → length (codes name) ≡ 4 →
     length (padded_chunk name body pad) ≡ 12 + length body + length body % 2
 length-padded name body pad four =
@@ -34,7 +27,7 @@ length-padded name body pad four =
       length-append (codes name ++ big_bytes 8 (length body)) body,
       length-append (codes name) (big_bytes 8 (length body)),
       length-bytes_high_first 8 (length body),
-      length-pad (length body) pad,
+      pad_is_long (length body) pad,
     )
 
 -- behind a body of even size there is no pad byte
@@ -82,21 +75,6 @@ entries_are place (frame ∷ frames) =
 pub length-entries : (place : ℕ) (sizes : List ℕ) → length (entries_by place sizes) ≡ length sizes
 length-entries place [] = refl
 length-entries place (size ∷ sizes) = omega (arith, length-entries (place + chunk_size size) sizes)
-
-abbrev pub entry_bytes : Entry → List ℕ
-entry_bytes e = big_bytes 8 e.offset ++ big_bytes 4 e.size
-
-pub length-index : (es : List Entry) → length (flat_map entry_bytes es) ≡ 12 * length es
-length-index [] = refl
-length-index (e ∷ es) =
-    omega (
-      arith,
-      length-append (entry_bytes e) (flat_map entry_bytes es),
-      length-append (big_bytes 8 e.offset) (big_bytes 4 e.size),
-      length-bytes_high_first 8 e.offset,
-      length-bytes_high_first 4 e.size,
-      length-index es,
-    )
 
 pub dsti_is : (place : ℕ) (sizes : List ℕ) →
     codes "DSTI" ++ big_bytes 8 (12 * length sizes) ++ flat_map entry_bytes (entries_by place sizes) ≡ dsti (entries_by place sizes)

@@ -20,12 +20,13 @@ use Rattle.dsdiff_spec.specs.Cut.{cut_chunks, cut_frames, cut_entries, cut_origi
 use Rattle.dsdiff_spec.specs.Faults.{◌when◌, ◌otherwise◌}
 use Rattle.dsdiff_spec.specs.Refusal.{cut_fault}
 use Rattle.dsdiff_spec.specs.declared.faults.FileFault.TheVariants.{TooManyChunks, FormTooLarge}
+use Rattle.dsdiff_spec.proofs.ByteLists.{length-index}
 use Rattle.dst_commands.specs.Passing.{chunks_on}
 use Rattle.dst_commands.specs.declared.chunks.Side.{Side}
 use Rattle.dst_commands.specs.declared.chunks.Side.TheVariants.{Before, Behind}
 use Rattle.dst_write.specs.CutLayout.{begins, ends, count, is_last, before, behind, kept, kept_by, kept_count, size_left, pad_left, side_of}
 use Rattle.dst_write.specs.CutLayout.{sound_size, form_size, sound_opening, front, padding, frames, index_bytes, entries_left, first_at, end, whole}
-use Rattle.dst_write.proofs.BySize.{even_chunk, length-padded, length-frte, length-index}
+use Rattle.dst_write.proofs.BySize.{even_chunk, length-padded, length-frte}
 use Rattle.dst_write.proofs.CutPlaces.{AreCutOut, length-left}
 
 -- ---- the chunk `KEPT`

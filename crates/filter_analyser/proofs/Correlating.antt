@@ -5,9 +5,9 @@ use Rattle.std.proofs.lemmas.Bool.{cases_lt}
 use Rattle.dst_spec.specs.Sample.{Shape, samples}
 use Rattle.dst_spec.specs.Guess.{signed}
 use Rattle.level_spec.specs.Correlation.{sum_over, sign, correlation}
+use Rattle.filter_refiner.proofs.Lengths.{test-true, test-false}
 use Rattle.filter_analyser.specs.Words.{bit_of, late, tally, differing, HasSamples}
 use Rattle.filter_analyser.proofs.Tallies.{tally-same, tally-append, tally-most, tally-none, sum_over-tally}
-use Rattle.filter_analyser.proofs.Differing.{test-true, test-false}
 
 -- samples that were moved twice
 pub late-late : (words behind : List ℕ) (m j n t : ℕ) → ((t : ℕ) → t < n → bit_of behind t ≡ late words m t) → t < n → late behind j t ≡ late words (m + j) t

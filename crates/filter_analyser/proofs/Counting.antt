@@ -4,7 +4,7 @@ use Rattle.std.proofs.Common.{◌∷◌, length, map, get_or, take, drop, refl, 
 use Rattle.std.proofs.lemmas.Bool.Decides.{nat_tests}
 use Rattle.std.proofs.lemmas.List.Sums.{count_by-le-length, sum_by-cons}
 use Rattle.std.proofs.lemmas.List.{drop-map, get_or-drop}
-use Rattle.std.proofs.lemmas.List.FromFn.{length-range_with_len, length-map-range_with_len, get_or-map-range_with_len}
+use Rattle.std.proofs.lemmas.List.FromFn.{length-range_with_len, get_or-map-range_with_len}
 use Rattle.std.specs.Int.{is_negative}
 use Rattle.std.specs.List.{range_with_len, count_by}
 use Rattle.dst_spec.specs.Sample.{Shape, sample, samples}
@@ -138,10 +138,6 @@ codes-small f sound c coefs first k d h =
     get_or-drop first (map (code_at f sound c coefs) (range_with_len 0 (samples f))) k d
     ∙ get_or-map-range_with_len (code_at f sound c coefs) 0 (samples f) t t d h (omega arith) in
     rw is (code-most (place f sound c coefs t) (cond (is_negative prediction) (not one) one) (omega arith))
-
-pub length-codes : (f : Shape) (sound : List ℕ) (c : ℕ) (coefs : List ℤ) → length (codes f sound c coefs) ≡ samples f
-unfolding codes
-length-codes f sound c coefs = length-map-range_with_len (code_at f sound c coefs) 0 (samples f)
 
 -- tables of the same numbers
 last_place-same : (P Q : ℕ → Bool) (n : ℕ) → ((p : ℕ) → p < n → P p ≡ Q p) → last_place P n ≡ last_place Q n

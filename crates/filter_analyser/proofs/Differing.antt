@@ -1,11 +1,11 @@
 -- How many samples of a channel differ from earlier ones, counted by bits of words.
-use Rattle.std.proofs.Common.{◌≡◌, ℕ, zero, suc, ◌+◌, ◌-◌, ◌*◌, ◌/◌, ◌%◌, ◌^◌, ◌<◌, ◌≤◌, bit_xor, count_ones, true, false, cond, nat_lt, List, get_or}
+use Rattle.std.proofs.Common.{◌≡◌, ℕ, zero, suc, ◌+◌, ◌-◌, ◌*◌, ◌/◌, ◌%◌, ◌^◌, ◌<◌, ◌≤◌, bit_xor, count_ones, cond, List, get_or}
 use Rattle.std.proofs.Common.{inl, inr, refl, ap, sym, ◌∙◌, arith}
 use Rattle.std.proofs.lemmas.Nat.{ones_cat, shr-shr, shr_split, xor_lt}
 use Rattle.std.proofs.lemmas.Nat.Bits.{bit_at_xor, bit_at-zero}
-use Rattle.std.proofs.lemmas.Bool.Decides.{nat_tests}
 use Rattle.std.proofs.lemmas.Bool.{cases_lt}
 use lib.Count.{ones}
+use Rattle.filter_refiner.proofs.Lengths.{test-true, test-false}
 use Rattle.filter_analyser.specs.Words.{bit_of, late, passed, tally}
 use Rattle.filter_analyser.proofs.Tallies.{tally-same, tally-moved}
 
@@ -59,12 +59,6 @@ bit_of-word words w i h =
 pub record IsBefore (words : List ℕ) (w before : ℕ) : Type 0 where
   pub none : w ≡ 0 → before ≡ 0
   pub some : 0 < w → before ≡ get_or words (w - 1) 0
-
-pub test-true : (a b : ℕ) → a < b → nat_lt a b ≡ true
-test-true a b h = grind (arith, nat_tests)
-
-pub test-false : (a b : ℕ) → b ≤ a → nat_lt a b ≡ false
-test-false a b h = grind (arith, nat_tests)
 
 late-here : (words : List ℕ) (w before lag i : ℕ) → lag ≤ i → i < 64 → passed (get_or words w 0) before lag i ≡ late words lag (64 * w + i)
 late-here words w before lag i near inside =

@@ -1,5 +1,5 @@
 -- Zeros behind the values of a solution.
-use Rattle.std.proofs.Common.{◌≡◌, ℕ, zero, suc, ◌+◌, ◌-◌, ◌≤◌, ℤ, pos, List, ◌++◌, length, get_or, replicate, append_assoc, refl, ap, sym, ◌∙◌, arith}
+use Rattle.std.proofs.Common.{◌≡◌, ℕ, suc, ◌+◌, ◌-◌, ◌≤◌, ℤ, pos, List, ◌++◌, length, replicate, append_assoc, refl, ap, sym, ◌∙◌, arith}
 use Rattle.std.proofs.lemmas.List.{replicate-append-replicate}
 use Rattle.level_spec.specs.Recursion.{begin, step, after, solution}
 use Rattle.level_spec.proofs.Steps.{length-after, after-stop}
@@ -30,8 +30,3 @@ one_more lags n = let e : suc n ≡ n + 1 = omega arith in ap (after lags) e
 
 pub stopped : (lags : List ℤ) (n to : ℕ) → n ≤ to → step lags (after lags n) ≡ after lags n → after lags n ≡ after lags to
 stopped lags n to h e = sym (after-stop lags n (to - n) e) ∙ ap (after lags) (omega arith)
-
-pub zeros-at : (n k : ℕ) → get_or (replicate n (pos 0)) k (pos 0) ≡ pos 0
-zeros-at zero k = refl
-zeros-at (suc n) zero = refl
-zeros-at (suc n) (suc k) = zeros-at n k

@@ -15,8 +15,8 @@ use Rattle.level_spec.specs.Laws.{AreCorrelations}
 use Rattle.level_spec.proofs.Bounds.{after-small}
 use Rattle.level_spec.proofs.Tables.{length-solution}
 use Rattle.frame_predictions.specs.Codes.{code_at}
+use Rattle.filter_refiner.proofs.Numbers.{each-most}
 use Rattle.filter_analyser.specs.Run.{padded}
-use Rattle.filter_analyser.proofs.Shares.{each-most}
 use Rattle.filter_analyser.proofs.Counting.{counted-is}
 
 pub zeros-small : (n m : ℕ) → AllByRecursion (λ a. nat_abs a ≤ m) (replicate n (pos 0))

@@ -1,16 +1,10 @@
 -- A step of the recursion with a ridge: where it stops, and where it goes on.
-use Rattle.std.proofs.Common.{◌≡◌, ℕ, ◌+◌, ◌^◌, ◌<◌, ◌≤◌, ℤ, int_lt, nat_abs, Bool, true, false, cond, ◌||◌, nat_lt, nat_le, List, [], ◌∷◌, length}
-use Rattle.std.proofs.Common.{refl, ap, sym, ◌∙◌, arith}
-use Rattle.std.proofs.lemmas.Bool.Decides.{nat_tests}
+use Rattle.std.proofs.Common.{◌≡◌, ◌+◌, ◌^◌, ◌<◌, ◌≤◌, ℤ, int_lt, nat_abs, Bool, cond, ◌||◌, nat_lt, nat_le, List, [], ◌∷◌, length}
+use Rattle.std.proofs.Common.{ap, sym, ◌∙◌, arith}
 use Rattle.std.specs.List.{list_any, AllByRecursion}
 use Rattle.level_spec.specs.Recursion.{State, lag, reflection, moved, fallen}
 use Rattle.level_spec.specs.Rows.{row_stops, next_row}
-
-le-true : (a b : ℕ) → a ≤ b → nat_le a b ≡ true
-le-true a b h = grind (arith, nat_tests)
-
-le-false : (a b : ℕ) → b < a → nat_le a b ≡ false
-le-false a b h = grind (arith, nat_tests)
+use Rattle.filter_refiner.proofs.Logarithms.{le-true, le-false}
 
 pub row-stop-by_value : (lags : List ℤ) (s : State) → 2 ^ 24 ≤ nat_abs (reflection lags s (length s.values + 1)) → next_row lags s ≡ s
 unfolding next_row row_stops
@@ -30,10 +24,6 @@ row-step-by_test lags s F b is small e =
     ap (λ f. cond (nat_le (2 ^ 24) (nat_abs f) || rest f) s (record { error = fallen s.error f; values = moved s.values f i })) (sym is)
     ∙ ap (λ t. cond (t || rest F) s (record { error = fallen s.error F; values = moved s.values F i })) (le-false (2 ^ 24) (nat_abs F) small)
     ∙ ap (λ t. cond t s (record { error = fallen s.error F; values = moved s.values F i })) (sym e)
-
-pub small-when : (a b : Bool) → (a || b) ≡ false → (a ≡ false) × (b ≡ false)
-small-when true b h = absurd (cc)
-small-when false b h = (refl, h)
 
 pub below-40 : (values : List ℤ) → AllByRecursion (λ a. nat_abs a ≤ 2 ^ 32) values → AllByRecursion (λ a. nat_abs a ≤ 2 ^ 40) values
 below-40 [] h = tt

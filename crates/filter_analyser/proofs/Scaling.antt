@@ -1,16 +1,16 @@
 -- Coefficients at a scale, and the last of them that isn't 0.
-use Rattle.std.proofs.Common.{◌≡◌, ℕ, zero, suc, ◌+◌, ◌*◌, ◌%◌, ◌^◌, ◌<◌, ◌≤◌, ℤ, pos, negsuc, ◌+ℤ◌, ◌*ℤ◌, nat_abs, to_z, of_z, Bool, true, false}
-use Rattle.std.proofs.Common.{not, cond, ◌==◌, List, [], ◌∷◌, length, map, get_or, refl, ap, sym, ◌∙◌, arith}
-use mir.Syntax.{w16, w64}
-use mir.Val.{SFits}
+use Rattle.std.proofs.Common.{◌≡◌, ℕ, ◌+◌, ◌*◌, ◌%◌, ◌^◌, ◌<◌, ◌≤◌, ℤ, pos, ◌+ℤ◌, ◌*ℤ◌, nat_abs, to_z, of_z, true}
+use Rattle.std.proofs.Common.{not, ◌==◌, ap, ◌∙◌, arith}
+use mir.Syntax.{w64}
 use lib.Signed.{shr_z}
 use Rattle.std.proofs.lemmas.Int.{ints}
 use Rattle.std.proofs.lemmas.Bool.Decides.{nat_tests}
 use Rattle.std.proofs.lemmas.Nat.{one_shl}
 use Rattle.std.proofs.Math.Nat.{pow-le-pow_right}
 use Rattle.level_spec.specs.Recursion.{whole}
-use Rattle.level_spec.specs.Scale.{coefficient, last_place}
-use Rattle.filter_analyser.proofs.Shares.{product-most, whole-most, same_64, shifted}
+use Rattle.level_spec.specs.Scale.{coefficient}
+use Rattle.filter_refiner.proofs.Numbers.{product-most, whole-most, same_64}
+use Rattle.filter_analyser.proofs.Shares.{shifted}
 
 pub scale-fits : (g : ℕ) → g ≤ 8 → 2 ^ g ≤ 256
 scale-fits g h = pow-le-pow_right {n = 2} (omega arith) h
@@ -41,23 +41,5 @@ coefficient-is a g h k =
     let bound : nat_abs (whole Y) ≤ 2 ^ 62 = whole-most Y (2 ^ 62) (omega (arith, ints)) in
     ap (λ z. to_z w64 (of_z w64 z)) cut ∙ same_64 (whole Y) bound
 
-pub last-next : (test : ℕ → Bool) (n : ℕ) → last_place test (n + 1) ≡ cond (test n) (n + 1) (last_place test n)
-unfolding last_place
-last-next test n = let e : n + 1 ≡ suc n = omega arith in ap (last_place test) e ∙ ap (λ k. cond (test n) k (last_place test n)) (sym e)
-
-pub get_or-mapped : (F : ℤ → ℤ) (xs : List ℤ) (k : ℕ) → k < length xs → get_or (map F xs) k (pos 0) ≡ F (get_or xs k (pos 0))
-get_or-mapped F [] k h = absurd (omega arith)
-get_or-mapped F (x ∷ xs) zero h = refl
-get_or-mapped F (x ∷ xs) (suc k) h = get_or-mapped F xs k (omega arith)
-
-pub zero_test : (z : ℤ) → SFits w16 z → of_z w16 z ≡ 0 → not (nat_abs z == 0) ≡ false
-zero_test (pos n) f h = ap (λ k. not (k == 0)) h
-zero_test (negsuc n) f h = absurd (let g = f.sfits in omega arith)
-
 positive_test : (n : ℕ) → 0 < n → not (n == 0) ≡ true
 positive_test n h = grind (arith, nat_tests)
-
-pub not_zero_test : (z : ℤ) → (of_z w16 z ≡ 0 → ⊥) → not (nat_abs z == 0) ≡ true
-not_zero_test (pos zero) h = absurd (h refl)
-not_zero_test (pos (suc n)) h = positive_test (suc n) (omega arith)
-not_zero_test (negsuc n) h = positive_test (suc n) (omega arith)

@@ -1,29 +1,16 @@
 -- How great products, sums and shares of small numbers can be.
-use Rattle.std.proofs.Common.{◌≡◌, ℕ, zero, suc, ◌+◌, ◌-◌, ◌*◌, ◌^◌, ◌≤◌, ℤ, pos, negsuc, ◌+ℤ◌, ◌-ℤ◌, ◌*ℤ◌, ◌≤ℤ◌, nat_abs, to_z, of_z, List, [], ◌∷◌}
+use Rattle.std.proofs.Common.{◌≡◌, ℕ, zero, suc, ◌+◌, ◌-◌, ◌*◌, ◌^◌, ◌≤◌, ℤ, pos, negsuc, ◌+ℤ◌, ◌-ℤ◌, ◌*ℤ◌, ◌≤ℤ◌, nat_abs, to_z, of_z, List}
 use Rattle.std.proofs.Common.{get_or, refl, ap, ◌∙◌, arith}
 use mir.Syntax.{w64, w128}
-use Rattle.std.proofs.lemmas.Int.{ints, unsigned_abs-mul}
-use Rattle.std.proofs.lemmas.Nat.{mul-le}
-use Rattle.std.specs.List.{AllByRecursion}
+use Rattle.std.proofs.lemmas.Int.{ints}
 use lib.Signed.{shr_z}
 use Rattle.level_spec.specs.Correlation.{sum_over}
 use Rattle.level_spec.specs.Recursion.{lag, value, whole}
 use Rattle.level_spec.specs.Laws.{AreCorrelations}
 use Rattle.level_spec.proofs.Sums.{sum_over-below}
-
-pub product-most : (a b : ℤ) (m n : ℕ) → nat_abs a ≤ m → nat_abs b ≤ n → nat_abs (a *ℤ b) ≤ m * n
-product-most a b m n h k = let e : nat_abs (a *ℤ b) ≡ nat_abs a * nat_abs b = unsigned_abs-mul a b in omega (arith, mul-le (nat_abs a) (nat_abs b) m n h k)
+use Rattle.filter_refiner.proofs.Numbers.{product-most, whole-most, same_64, same_128}
 
 -- a number of m whole parts has no greater whole part
-pub whole-most : (z : ℤ) (m : ℕ) → nat_abs z ≤ m * 2 ^ 24 → nat_abs (whole z) ≤ m
-whole-most (pos a) m h = omega arith
-whole-most (negsuc a) m h = omega arith
-
-pub each-most : (values : List ℤ) (m k : ℕ) → AllByRecursion (λ a. nat_abs a ≤ m) values → nat_abs (get_or values k (pos 0)) ≤ m
-each-most [] m k h = omega arith
-each-most (a ∷ values) m zero h = h.0
-each-most (a ∷ values) m (suc k) h = each-most values m k h.1
-
 -- what values of 40 bits leave of a correlation has at most 68
 pub left-most : (lags values : List ℤ) (i n : ℕ) → AreCorrelations lags → ((k : ℕ) → nat_abs (get_or values k (pos 0)) ≤ 2 ^ 40) → n ≤ 128 →
     nat_abs (lag lags i *ℤ pos (2 ^ 24) -ℤ sum_over (λ j. value values j *ℤ lag lags (i - j)) 1 n) ≤ 2 ^ 68
@@ -35,12 +22,6 @@ left-most lags values i n h small few =
     let sum = sum_over-below (λ j. value values j *ℤ lag lags (i - j)) 1 n (2 ^ 40 * 2 ^ 20)
     (λ j _ _. product-most (value values j) (lag lags (i - j)) (2 ^ 40) (2 ^ 20) (small (j - 1)) (each (i - j))) in
     omega (arith, ints)
-
-pub same_64 : (z : ℤ) → nat_abs z ≤ 2 ^ 62 → to_z w64 (of_z w64 z) ≡ z
-same_64 z h = omega (arith, ints)
-
-pub same_128 : (z : ℤ) → nat_abs z ≤ 2 ^ 126 → to_z w128 (of_z w128 z) ≡ z
-same_128 z h = omega (arith, ints)
 
 pub lags-most : (lags : List ℤ) (k : ℕ) → AreCorrelations lags → nat_abs (get_or lags k (pos 0)) ≤ 2 ^ 20
 lags-most lags k h =

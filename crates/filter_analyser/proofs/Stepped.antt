@@ -18,7 +18,7 @@ use Rattle.dst_spec.specs.Table.{filter_kind, prob_kind}
 use Rattle.level_spec.specs.Refining.{agreement, power, weight, pull, target, moved_by, gradient, next_filter, short_table, filter_size, Refined, refine}
 use Rattle.level_spec.proofs.Sums.{sum_over-same}
 use Rattle.frame_predictions.specs.Codes.{code_at}
-use Rattle.filter_analyser.proofs.Differing.{test-true, test-false}
+use Rattle.filter_refiner.proofs.Lengths.{test-true, test-false}
 use Rattle.filter_analyser.proofs.Counting.{total-codes, wrong-codes, counted-is}
 
 -- totals and wrong guesses by counts of codes

@@ -1,14 +1,8 @@
 -- A step of the recursion in its three ways.
-use Rattle.std.proofs.Common.{◌≡◌, ℕ, ◌+◌, ◌^◌, ◌<◌, ◌≤◌, ℤ, nat_abs, Bool, true, false, cond, ◌||◌, nat_lt, nat_le, List, length, ap, sym, ◌∙◌, arith}
-use Rattle.std.proofs.lemmas.Bool.Decides.{nat_tests}
+use Rattle.std.proofs.Common.{◌≡◌, ◌+◌, ◌^◌, ◌<◌, ◌≤◌, ℤ, nat_abs, Bool, cond, ◌||◌, nat_lt, nat_le, List, length, ap, sym, ◌∙◌}
 use Rattle.std.specs.List.{list_any}
 use Rattle.level_spec.specs.Recursion.{State, reflection, moved, stops, fallen, step}
-
-le-true : (a b : ℕ) → a ≤ b → nat_le a b ≡ true
-le-true a b h = grind (arith, nat_tests)
-
-le-false : (a b : ℕ) → b < a → nat_le a b ≡ false
-le-false a b h = grind (arith, nat_tests)
+use Rattle.filter_refiner.proofs.Logarithms.{le-true, le-false}
 
 pub stop-by_value : (lags : List ℤ) (s : State) → 2 ^ 24 ≤ nat_abs (reflection lags s (length s.values + 1)) → step lags s ≡ s
 unfolding step stops

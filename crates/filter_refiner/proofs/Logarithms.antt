@@ -25,10 +25,10 @@ last-at test (suc n) k h e others = elim (cases_lt k n) [
   | inr more ↦ let here : n ≡ k = omega arith in ap (λ b. cond b (suc n) (last_place test n)) (ap test here ∙ e) ∙ omega arith
 ]
 
-le-true : (a b : ℕ) → a ≤ b → nat_le a b ≡ true
+pub le-true : (a b : ℕ) → a ≤ b → nat_le a b ≡ true
 le-true a b h = grind (arith, nat_tests)
 
-le-false : (a b : ℕ) → b < a → nat_le a b ≡ false
+pub le-false : (a b : ℕ) → b < a → nat_le a b ≡ false
 le-false a b h = grind (arith, nat_tests)
 
 pub power-is : (x k : ℕ) → k < 8 → 2 ^ k ≤ x → x < 2 ^ (k + 1) → power_in x ≡ k

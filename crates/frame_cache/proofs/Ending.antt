@@ -9,6 +9,8 @@ use Rattle.dst_spec.specs.Sample.{Shape, IsShape, sound_bytes}
 use Rattle.dst_spec.specs.Means.{Means}
 use Rattle.dst_spec.specs.Offends.{Offends}
 use Rattle.dst_spec.specs.declared.faults.FrameFault.{FrameFault}
+use Rattle.dst_spec.proofs.Numbers.{length-range}
+use Rattle.dst_spec.proofs.SymbolsBefore.{range-more}
 use Rattle.dsdiff_spec.specs.Bytes.{bytes_at}
 use Rattle.dsdiff_spec.specs.Form.{Form, shape, sound_bytes_of, size_of_sound}
 use Rattle.dsdiff_spec.specs.Walk.{Entry, entry, entries, frame_at}
@@ -16,7 +18,7 @@ use Rattle.dsdiff_spec.specs.Ranges.{Sound, is_kept}
 use Rattle.frame_cache.specs.Slots.{Kept}
 use Rattle.frame_cache.specs.Reader.{Reader, HoldsTogether, order, frame_in, IsSame, IsReaderOf, KeepsSounds}
 use Rattle.frame_cache.specs.Reads.{HasWanted, IsPartWay, IsRefusedAt}
-use Rattle.frame_cache.proofs.Orders.{HasInFront, in_front_of, range-more, range-parts, few_decoded, length-wants}
+use Rattle.frame_cache.proofs.Orders.{HasInFront, in_front_of, range-parts, few_decoded}
 use Rattle.frame_cache.proofs.Sounding.{part_of_sound}
 use Rattle.frame_cache.proofs.Wanting.{wanted_then}
 
@@ -34,7 +36,7 @@ size_is_small r n h is most =
     omega (arith, product, whole, h.size_most)
 
 pub decoded_below : (r r' : Reader) (a m n : ℕ) (bytes : Option (List ℕ)) (g g' : ℕ) → HasWanted r r' (range_with_len a m) n bytes g g' → n ≤ m
-decoded_below r r' a m n bytes g g' w = omega (arith, w.decoded_is, few_decoded (order r) (range_with_len a m) r.capacity, length-wants a m)
+decoded_below r r' a m n bytes g g' w = omega (arith, w.decoded_is, few_decoded (order r) (range_with_len a m) r.capacity, length-range a m)
 
 pub one_decoded : (r r' : Reader) (k n : ℕ) (bytes : Option (List ℕ)) (g g' : ℕ) → HasWanted r r' (k ∷ []) n bytes g g' → n ≤ 1
 one_decoded r r' k n bytes g g' w = omega (arith, w.decoded_is, few_decoded (order r) (k ∷ []) r.capacity)

@@ -4,7 +4,6 @@ use Rattle.std.proofs.Common.{None, is_some, refl, sym, ap, subst, ◌∙◌, ar
 use Rattle.std.specs.Prelude.{sum, ◌≤◌, ◌<◌}
 use Rattle.std.specs.List.{AllByRecursion, range_with_len}
 use Rattle.std.proofs.lemmas.List.{take-map, map-append}
-use Rattle.std.proofs.lemmas.List.FromFn.{length-range_with_len}
 use Rattle.std.proofs.lemmas.List.Sums.{sum_by-append}
 use Rattle.dst_spec.proofs.Lists.{all_take, all_append}
 use Rattle.dsdiff_spec.specs.Ranges.{is_kept, without, keys, keys_after, decoded_of}
@@ -114,13 +113,6 @@ in_front_of ks order k (suc n) is some = go (is_kept order k) is
     go true is = first_of ks (without order k) is
     go false is = first_of ks (take n order) is
 
-pub range-more : (a m : ℕ) → range_with_len a (m + 1) ≡ range_with_len a m ++ (a + m) ∷ []
-range-more a zero = ap (λ k. k ∷ []) (omega arith)
-range-more a (suc m) =
-    let next : suc m + 1 ≡ suc (m + 1) = omega arith in
-    let last : a + 1 + m ≡ a + suc m = omega arith in
-    ap (range_with_len a) next ∙ ap (λ l. a ∷ l) (range-more (a + 1) m ∙ ap (λ k. range_with_len (a + 1) m ++ k ∷ []) last)
-
 pub range-parts : (a m j : ℕ) → range_with_len a (m + suc j) ≡ range_with_len a m ++ (a + m) ∷ range_with_len (a + m + 1) j
 range-parts a zero j =
     let same : zero + suc j ≡ suc j = omega arith in
@@ -131,9 +123,6 @@ range-parts a (suc m) j =
     let there : a + 1 + m ≡ a + suc m = omega arith in
     ap (range_with_len a) next
     ∙ ap (λ l. a ∷ l) (range-parts (a + 1) m j ∙ ap (λ k. range_with_len (a + 1) m ++ k ∷ range_with_len (k + 1) j) there)
-
-pub length-wants : (a m : ℕ) → length (range_with_len a m) ≡ m
-length-wants = length-range_with_len
 
 pub sum_of-append : (f : ℕ → ℕ) (xs ys : List ℕ) → sum (map f (xs ++ ys)) ≡ sum (map f xs) + sum (map f ys)
 sum_of-append f xs ys = ap sum (map-append f xs ys) ∙ sum_by-append (λ (x : ℕ). x) (map f xs) (map f ys)

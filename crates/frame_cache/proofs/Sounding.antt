@@ -1,33 +1,19 @@
 -- A part of a frame's sound is that part of the whole sound.
-use Rattle.std.proofs.Common.{◌≡◌, ◌⊎◌, inl, inr, ℕ, zero, suc, ◌+◌, ◌-◌, ◌*◌, ◌<◌, ◌≤◌, List, [], ◌∷◌, ◌++◌, length, take, drop, get_or, replicate}
+use Rattle.std.proofs.Common.{◌≡◌, ◌⊎◌, ℕ, zero, suc, ◌+◌, ◌-◌, ◌*◌, ◌<◌, ◌≤◌, List, [], ◌∷◌, ◌++◌, length, take, drop, get_or, replicate}
 use Rattle.std.proofs.Common.{refl, sym, ap, subst, ◌∙◌, arith, length-append, length-drop}
 use Rattle.std.specs.List.{AllZip, concat}
-use Rattle.std.proofs.lemmas.List.{take-append-le, drop-append-le, length-replicate, drop_at, drop-drop, length-map, get_or-map}
+use Rattle.std.proofs.lemmas.List.{take-append-le, drop-append-le, drop_at, drop-drop, length-map, get_or-map}
 use Rattle.dst_spec.specs.Sample.{Shape, IsShape, IsSound, sound_bytes}
 use Rattle.dst_spec.specs.Means.{Means}
-use Rattle.dst_spec.proofs.Unique.{tail_law}
+use Rattle.dst_spec.proofs.Unique.{one_meaning}
 use Rattle.dsdiff_spec.specs.Bytes.{bytes_at}
 use Rattle.dsdiff_spec.specs.Form.{Form, shape, sound_bytes_of, size_of_sound}
 use Rattle.dsdiff_spec.specs.Walk.{Entry, entry, entries, frame_at}
 use Rattle.dsdiff_spec.specs.Decoded.{frames_of}
 use Rattle.dsdiff_spec.specs.Ranges.{MeansOrZeros, Sound}
 use Rattle.dsdiff_spec.proofs.Pieces.{AreWhole}
+use Rattle.dsdiff_spec.proofs.Sounding.{one_of_both, long_of_both}
 use Rattle.chunk_view.proofs.InParts.{bytes_in_part}
-
-pub one_sound : (f : Shape) (w a b : List ℕ) → IsShape f → Means f w a → Means f w b → a ≡ b
-one_sound f w a b lawful m n =
-    let law = tail_law f w lawful in
-    let s = law.1 a m in
-    let t = law.1 b n in
-    (law.0 a b s.0 t.0 s.1 t.1).0
-
-one_of_both : (f : Shape) (w a b : List ℕ) → IsShape f → Means f w a → MeansOrZeros f w b → b ≡ a
-one_of_both f w a b lawful m (inl n) = one_sound f w b a lawful n m
-one_of_both f w a b lawful m (inr none) = absurd (none.0 a m)
-
-long_of_both : (f : Shape) (w b : List ℕ) → MeansOrZeros f w b → length b ≡ sound_bytes f
-long_of_both f w b (inl n) = n.0.long
-long_of_both f w b (inr none) = ap length none.1 ∙ length-replicate (sound_bytes f) 0
 
 whole_sounds : (f : Shape) (frames sounds : List (List ℕ)) → AllZip (MeansOrZeros f) frames sounds → AreWhole (sound_bytes f) sounds
 whole_sounds f [] [] z = tt

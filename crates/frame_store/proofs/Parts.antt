@@ -1,5 +1,5 @@
 -- Parts of a list that stand one behind the other.
-use Rattle.std.proofs.Common.{◌≡◌, ℕ, ◌+◌, ◌*◌, ◌<◌, ◌≤◌, List, ◌++◌, length, get_or, take, drop, sym, ◌∙◌, arith, length-append, length-drop}
+use Rattle.std.proofs.Common.{◌≡◌, ℕ, ◌+◌, ◌<◌, ◌≤◌, List, ◌++◌, length, get_or, take, drop, sym, ◌∙◌, arith, length-append, length-drop}
 use Rattle.std.proofs.Common.{length-take-le, get_or-take, get_or-drop}
 use Rattle.std.proofs.lemmas.List.{ext_get_or}
 use borrow.Rule.Slice.PartMut.{put_mid, post_of}
@@ -45,6 +45,3 @@ pub part-before : (a n m : ℕ) (xs ys : List ℕ) (k : ℕ) → length ys ≡ k
 part-before a n m xs ys k long le before =
     let whole = put-length a k xs ys long le in
     part-same (put_mid a k xs ys) xs m n whole (omega arith) (λ i lt. put_mid-below a k (m + i) xs ys (omega arith) (omega arith))
-
-pub rows-before : (i j n : ℕ) → i < j → i * n + n ≤ j * n
-rows-before i j n h = grind arith

@@ -1,7 +1,7 @@
 -- A form at the place of a chunk: what stops it there, and the rules on the chunk's head.
 use Rattle.std.proofs.Common.{◌≡◌, ℕ, zero, suc, ◌+◌, ◌-◌, ◌<◌, ◌≤◌, List, length, Bool, true, false, Option, Some, None, refl, sym, ap, ◌∙◌, arith, inl, inr}
 use Rattle.std.specs.Prelude.{if◌then◌else◌, nat_lt, option_map, min}
-use Rattle.std.proofs.lemmas.Bool.{le-ltb, lt-ltb, cases_order}
+use Rattle.std.proofs.lemmas.Bool.{lt-ltb, cases_order}
 use Rattle.dsdiff_spec.specs.Bytes.{◌is◌}
 use Rattle.dsdiff_spec.specs.Faults.{◌otherwise◌}
 use Rattle.dsdiff_spec.specs.Chunks.{Head, head_at, body_place, body_end, next_place, body_of}
@@ -11,6 +11,7 @@ use Rattle.dsdiff_spec.specs.Streams.{kept, ending_at_head, came_with, in_sound,
 use Rattle.dsdiff_spec.specs.Rules.{local_fault}
 use Rattle.dsdiff_spec.specs.declared.faults.FileFault.{FileFault}
 use Rattle.dsdiff_spec.specs.declared.faults.FileFault.TheVariants.{Overrun, TooManyChunks}
+use Rattle.dsdiff_spec.proofs.ManyOfStreams.{within, by_ids, unruled}
 use Rattle.dsdiff_spec.proofs.StreamSteps.{head_passes, reaches, falls_short, head_is_whole, form_ends, form_has_no_more, form_ends_at_head}
 use Rattle.dsdiff_spec.proofs.StreamSteps.{form_has_sound, form_has_chunk}
 
@@ -33,9 +34,6 @@ overruns_at w end chunks came place lt short few =
     (head_passes w end place (chunk_head_fault end came (head_at w place)) short)
 
 -- ---- rules on a chunk's head, by its id
-by_ids : Bool → Bool → Bool → Option FileFault → Option FileFault → Option FileFault → Option FileFault
-by_ids a b c x y z = if a then x else (if b then y else (if c then z else None))
-
 opened : (prop : Option (List ℕ)) (h : Head) →
     later_head_fault prop h
     ≡ by_ids (h.id is "PROP") (h.id is "DSD ") (h.id is "DST ") (prop_head_fault prop h) (plain_head_fault prop) (sound_head_fault prop h)
@@ -63,11 +61,6 @@ rules_of_sound prop h p q r =
     ∙ ap (λ a. by_ids a (h.id is "DSD ") (h.id is "DST ") (prop_head_fault prop h) (plain_head_fault prop) (sound_head_fault prop h)) p
     ∙ ap (λ b. by_ids false b (h.id is "DST ") (prop_head_fault prop h) (plain_head_fault prop) (sound_head_fault prop h)) q
     ∙ ap (λ c. by_ids false false c (prop_head_fault prop h) (plain_head_fault prop) (sound_head_fault prop h)) r
-
--- a body that ends before the end
-pub within : (fault : FileFault) (end place : ℕ) (later : Option FileFault) → place ≤ end →
-    ((if nat_lt end place then Some fault else None) otherwise later) ≡ later
-within fault end place later le = ap {A = Bool} (λ b. (if b then Some fault else None) otherwise later) (le-ltb end place le)
 
 pub passes : (fault : FileFault) (end place : ℕ) (later : Option FileFault) → end < place →
     ((if nat_lt end place then Some fault else None) otherwise later) ≡ Some fault
@@ -134,10 +127,6 @@ past w c body end later le = elim (cases_order (length w) body) [
   | inr (inl lt) ↦ falls_short w c body _ lt ∙ sym (falls_short w c end later (omega (arith, lt, le)))
   | inr (inr lt) ↦ reaches w c body _ (omega (arith, lt))
 ]
-
--- a chunk that isn't looked at
-unruled : (b : Bool) → b ≡ false → (fault : Option FileFault) (later : Stream) → kept (if b then fault else None) later ≡ later
-unruled b e fault later = ap (λ c. kept (if c then fault else None) later) e
 
 abbrev pub later_came : List ℕ → Option (List ℕ) → Came
 later_came version prop = record { version = Some version; prop = prop }

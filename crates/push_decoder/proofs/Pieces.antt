@@ -15,7 +15,7 @@ events_law d taken (begun front frames) has more =
       ap (λ s. take (length frames) s.frames) e ∙ take-append_seam frames _,
     )
 
-no_more_frames : (frames : List (List ℕ)) (ending : Ending) → frame_event frames ending ≡ None → frames ≡ []
+pub no_more_frames : (frames : List (List ℕ)) (ending : Ending) → frame_event frames ending ≡ None → frames ≡ []
 no_more_frames [] ending e = refl
 no_more_frames (f ∷ fs) ending e = absurd cc
 

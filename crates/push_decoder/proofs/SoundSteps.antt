@@ -13,6 +13,7 @@ use Rattle.dsdiff_spec.specs.Streams.{found_with, counted, frames_from, whole_en
 use Rattle.dsdiff_spec.specs.declared.faults.FileFault.{FileFault}
 use Rattle.dsdiff_spec.specs.declared.faults.FileFault.TheVariants.{Overrun, TooManyChunks, FrameRate, TooManyFrames}
 use Rattle.dsdiff_spec.proofs.StreamSteps.{head_passes, reaches, head_is_whole, sound_ends, sound_has_no_more, sound_ends_at_head, sound_has_chunk}
+use Rattle.dsdiff_spec.proofs.ManyOfStreams.{frameless}
 use Rattle.dsdiff_chunks.specs.Opening.{frte_fault}
 use Rattle.dsdiff_chunks.proofs.CodedParts.{frte_in_part, told_in_part}
 use Rattle.push_decoder.specs.declared.stage.SoundSoFar.{SoundSoFar}
@@ -102,9 +103,6 @@ from_behind w sound found h few e =
     ∙ ap (λ n. up_to w h.place (whole_end sound.end h) (frames_from w sound.channels sound.told sound.end n found (next_place h))) most
     ∙ ap (up_to w h.place (whole_end sound.end h))
     (next_is w sound.channels sound.told sound.end (4000000 - (sound.chunks + 1)) found (next_place h))
-
-frameless : (b : Bool) → b ≡ false → (frame : List ℕ) (later : Stream) → (if b then with_frame frame later else later) ≡ later
-frameless b e frame later = ap (λ c. if c then with_frame frame later else later) e
 
 framed : (b : Bool) → b ≡ true → (frame : List ℕ) (later : Stream) → (if b then with_frame frame later else later) ≡ with_frame frame later
 framed b e frame later = ap (λ c. if c then with_frame frame later else later) e

@@ -22,10 +22,10 @@ use Rattle.dsdiff_spec.specs.declared.faults.FileFault.TheVariants.{NotForm, For
 use Rattle.dsdiff_spec.specs.declared.faults.FileFault.TheVariants.{PropTooLong, PropType}
 use Rattle.dsdiff_spec.specs.declared.faults.FileFault.TheVariants.{SoundMissing, SoundTwice, Compression, FrameRate, TooManyFrames, KeptBad}
 use Rattle.dsdiff_spec.specs.declared.faults.FileFault.TheVariants.{CountDiffers, FrameTooLong, NotCoded}
-use Rattle.dsdiff_spec.proofs.Lawful.{first_gives_none, later_gives_none, when_not, left_is_false, right_is_false}
+use Rattle.dsdiff_spec.proofs.Lawful.{first_gives_none, later_gives_none, when_not, left_is_false, right_is_false, first_of}
 use Rattle.dsdiff_spec.proofs.CodedFiles.{no_rule_fails, kind_gives_none, is_coded_kind, count_is_right}
 use Rattle.dsdiff_spec.proofs.Steps.{fits_body, found_at_end, found_at_misfit, found_at_chunk}
-use Rattle.dsdiff_spec.proofs.Finding.{Stands, found_stand}
+use Rattle.dsdiff_spec.proofs.Finding.{Stands, found_stand, the_only}
 use Rattle.dsdiff_spec.proofs.StreamSteps.{reaches}
 use Rattle.dsdiff_spec.proofs.ManyOfStreams.{Begins, behind_version, version_of, first_chunk_passes}
 use Rattle.stream_spec.proofs.FramesCome.{AreShort, then_ended, frames_come}
@@ -39,11 +39,6 @@ is_not_true : (b : Bool) → b ≡ true → not b ≡ false
 is_not_true b q = ap not q
 
 -- ---- lists of one
-one_of : (hs : List Head) → length hs ≡ 1 → hs ≡ the_first hs ∷ []
-one_of [] e = absurd cc
-one_of (h ∷ []) e = refl
-one_of (h ∷ i ∷ hs) e = absurd cc
-
 one_is : (n : ℕ) → (n == 0) ≡ false → n ≤ 1 → n ≡ 1
 one_is zero e le = absurd cc
 one_is (suc zero) e le = refl
@@ -177,7 +172,7 @@ one_prop file none =
     let long = ltb-false (length (prop file)) 4
     (left_is_false (length (prop file) below 4) (not (bytes_at (prop file) 0 4 is "SND ")) (when_not PropType _ type_none)) in
     record {
-      one = one_of (all "PROP" file) (one_is (length (all "PROP" file)) a (ltb-false 1 (length (all "PROP" file)) b));
+      one = the_only (all "PROP" file) (one_is (length (all "PROP" file)) a (ltb-false 1 (length (all "PROP" file)) b));
       lawful = record { most = ltb-false 65536 h.size c; least = omega (arith, long, length-take h.size (drop (body_place h) file)); rules = of_body };
     }
 
@@ -202,7 +197,7 @@ one_sound file is_coded none of_coded =
     let n3 = later_gives_none (SoundTwice when length (sounds file) above 1) third n2 in
     let c = when_not Compression (not (bytes_eq (compression (prop file)) s.id)) (first_gives_none _ fourth n3) in
     let d = when_not PropMissing _ (later_gives_none (Compression when not (bytes_eq (compression (prop file)) s.id)) fourth n3) in
-    let one = one_of (sounds file) (one_is (length (sounds file)) a (ltb-false 1 (length (sounds file)) b)) in
+    let one = the_only (sounds file) (one_is (length (sounds file)) a (ltb-false 1 (length (sounds file)) b)) in
     let every = kept_by_filter (Stands file (form_end file) 16) is_sound (top_level file).heads (found_stand m file (form_end file) 1024 16) in
     let it = (subst (AllByRecursion (OfBoth (Stands file (form_end file) 16) is_sound)) one every).0 in
     let name = named_dst (s.id is "DSD ") (s.id is "DST ") it.1 (not_plain (s.id is "DSD ") is_coded) in
@@ -235,11 +230,7 @@ one_sound file is_coded none of_coded =
     named_dst false false either other = absurd cc
 
 -- ---- its frames
-first_of : Option FileFault → Option FileFault → Option FileFault
-first_of o later = elim o [ Some y ↦ Some y | None ↦ later ]
-
 short_heads : (form : Form) (n : ℕ) (hs : List Head) → first_some (frame_fault form) (enumerate_from n hs) ≡ None → AreShort (shape form) hs
-unfolding first_of
 short_heads form n [] none = tt
 short_heads form n (h ∷ hs) none =
     let both = parts (frame_fault form (n, h)) (first_some (frame_fault form) (enumerate_from (n + 1) hs)) none in

@@ -1,10 +1,9 @@
 -- A stream behind its `FVER`: where opening finds one `PROP` and behind it one sound, which is coded, the stream comes to that sound.
 use Rattle.std.proofs.Common.{◌≡◌, ℕ, zero, suc, ◌+◌, ◌<◌, ◌≤◌, Bool, true, false, List, [], ◌∷◌, length, Option, Some, None, refl, sym, ap, ◌∙◌, arith}
-use Rattle.std.specs.Prelude.{nat_lt, if◌then◌else◌, filter, option_map, codes, not, ◌||◌}
+use Rattle.std.specs.Prelude.{if◌then◌else◌, filter, option_map, codes, not, ◌||◌}
 use Rattle.std.proofs.lemmas.Bool.{le-ltb}
 use Rattle.std.proofs.lemmas.Slice.Eq.{bytes_eq-Decides}
 use Rattle.dsdiff_spec.specs.Bytes.{◌is◌}
-use Rattle.dsdiff_spec.specs.Faults.{◌otherwise◌}
 use Rattle.dsdiff_spec.specs.Chunks.{Head, Found, head_at, body_place, body_end, next_place, body_of, named, fits, chunks_from}
 use Rattle.dsdiff_spec.specs.Rules.{local_fault}
 use Rattle.dsdiff_spec.specs.Streams.{stopped, up_to, kept, whole_end, ending_at_head, chunk_head_fault, later_head_fault}
@@ -14,7 +13,7 @@ use Rattle.dsdiff_spec.specs.declared.faults.FileFault.TheVariants.{Overrun, Pro
 use Rattle.dsdiff_spec.proofs.Steps.{nothing, with_head, fits_body}
 use Rattle.dsdiff_spec.proofs.Finding.{found_by}
 use Rattle.dsdiff_spec.proofs.StreamSteps.{reaches, head_is_whole, form_has_sound, form_has_chunk}
-use Rattle.dsdiff_spec.proofs.ManyOfStreams.{behind_version, form_passes}
+use Rattle.dsdiff_spec.proofs.ManyOfStreams.{within, by_ids, behind_version, form_passes}
 
 abbrev pub is_sound : Head → Bool
 is_sound h = h.id is "DSD " || h.id is "DST "
@@ -35,20 +34,13 @@ no_prop_and_plain id p q =
     let f : false ≡ true = ap (λ i. i is "DSD ") e in
     absurd cc
 
-no_prop_and_coded : (id : List ℕ) → (id is "PROP") ≡ true → (id is "DST ") ≡ true → ⊥
+pub no_prop_and_coded : (id : List ℕ) → (id is "PROP") ≡ true → (id is "DST ") ≡ true → ⊥
 no_prop_and_coded id p q =
     let e = clash id (codes "PROP") (codes "DST ") ((bytes_eq-Decides id (codes "PROP")).0 p) ((bytes_eq-Decides id (codes "DST ")).0 q) in
     let f : false ≡ true = ap (λ i. i is "DST ") e in
     absurd cc
 
 -- ---- rules on a chunk's head, by its id
-within : (fault : FileFault) (end place : ℕ) (later : Option FileFault) → place ≤ end →
-    ((if nat_lt end place then Some fault else None) otherwise later) ≡ later
-within fault end place later le = ap {A = Bool} (λ b. (if b then Some fault else None) otherwise later) (le-ltb end place le)
-
-by_ids : Bool → Bool → Bool → Option FileFault → Option FileFault → Option FileFault → Option FileFault
-by_ids a b c x y z = if a then x else (if b then y else (if c then z else None))
-
 rules_by_ids : (prop : Option (List ℕ)) (h : Head) (a b c : Bool) → (h.id is "PROP") ≡ a → (h.id is "DSD ") ≡ b → (h.id is "DST ") ≡ c →
     later_head_fault prop h ≡ by_ids a b c (prop_head_fault prop h) (plain_head_fault prop) (sound_head_fault prop h)
 unfolding by_ids

@@ -1,9 +1,9 @@
 -- A stream in `DST `, whose chunks are all whole, with as many frames among them as are told and none too long: it has these frames, and ends
 -- behind the last of them.
-use Rattle.std.proofs.Common.{◌≡◌, ℕ, suc, ◌+◌, ◌*◌, ◌<◌, ◌≤◌, ◌==◌, Bool, true, false, List, ◌∷◌, length, map, Option, Some, None, refl, ap, ◌∙◌, arith}
-use Rattle.std.specs.Prelude.{nat_lt, if◌then◌else◌, option_map}
+use Rattle.std.proofs.Common.{◌≡◌, ℕ, suc, ◌+◌, ◌*◌, ◌<◌, ◌≤◌, ◌==◌, Bool, true, false, List, ◌∷◌, length, map, Some, None, refl, ap, ◌∙◌, arith}
+use Rattle.std.specs.Prelude.{if◌then◌else◌, option_map}
 use Rattle.std.specs.List.{AllByRecursion}
-use Rattle.std.proofs.lemmas.Bool.{le-ltb, eq-eqb, eqb-true}
+use Rattle.std.proofs.lemmas.Bool.{eq-eqb, eqb-true}
 use Rattle.dst_spec.specs.Sample.{Shape, sound_bytes}
 use Rattle.dsdiff_spec.specs.Bytes.{◌is◌, ◌above◌}
 use Rattle.dsdiff_spec.specs.Faults.{◌when◌, ◌otherwise◌}
@@ -14,6 +14,7 @@ use Rattle.dsdiff_spec.specs.declared.faults.FileFault.{FileFault}
 use Rattle.dsdiff_spec.specs.declared.faults.FileFault.TheVariants.{Overrun, FrameTooLong, TooManyFrames, CountDiffers}
 use Rattle.dsdiff_spec.proofs.Steps.{nothing, with_head, fits_body}
 use Rattle.dsdiff_spec.proofs.Finding.{found_by}
+use Rattle.dsdiff_spec.proofs.ManyOfStreams.{within}
 use Rattle.dsdiff_spec.proofs.StreamSteps.{reaches, head_is_whole, sound_ends, sound_has_chunk}
 
 -- the frames among some chunks, and then the end
@@ -25,11 +26,6 @@ then_ended frames = record { front = None; frames = frames; ending = ended }
 
 abbrev pub AreShort : Shape → List Head → Type 0
 AreShort f hs = AllByRecursion (λ (h : Head). h.size ≤ 2 * (sound_bytes f + 1)) hs
-
--- a rule that is kept
-within : (fault : FileFault) (end place : ℕ) (later : Option FileFault) → place ≤ end →
-    ((if nat_lt end place then Some fault else None) otherwise later) ≡ later
-within fault end place later le = ap {A = Bool} (λ b. (if b then Some fault else None) otherwise later) (le-ltb end place le)
 
 differs : (fault : FileFault) (a b : ℕ) → a < b → (if a == b then Some fault else None) ≡ None
 differs fault a b lt = go (a == b) refl

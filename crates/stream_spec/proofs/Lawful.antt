@@ -1,7 +1,7 @@
 -- What every stream has, whatever its bytes: followed chunk by chunk.
 use Rattle.std.proofs.Common.{◌≡◌, ℕ, zero, suc, ◌+◌, ◌*◌, ◌<◌, ◌≤◌, ◌==◌, Bool, true, false, List, length, drop, Option, Some, None, refl, sym, ap}
 use Rattle.std.proofs.Common.{subst, ◌∙◌, arith, inl, inr, ltb-false, eqb-true}
-use Rattle.std.specs.Prelude.{nat_lt, if◌then◌else◌, codes, not, ◌||◌, option_map}
+use Rattle.std.specs.Prelude.{nat_lt, if◌then◌else◌, codes, not, ◌||◌}
 use Rattle.std.specs.List.{AllByRecursion}
 use Rattle.std.proofs.lemmas.Bool.{and_parts, cases_lt, eq-eqb}
 use Rattle.std.proofs.lemmas.List.{length-take, length-take-le}
@@ -11,8 +11,8 @@ use Rattle.dst_spec.specs.Sample.{Shape, sound_bytes}
 use Rattle.dsdiff_spec.specs.Bytes.{number_at, ◌is◌, ◌above◌, ◌below◌}
 use Rattle.dsdiff_spec.specs.Faults.{◌when◌, ◌otherwise◌}
 use Rattle.dsdiff_spec.specs.Chunks.{Head, head_at, body_place, body_end, next_place, body_of}
-use Rattle.dsdiff_spec.specs.Parts.{form_end, in_prop}
-use Rattle.dsdiff_spec.specs.Rules.{local_fault, type_fault, rate_fault, channels_fault, compression_fault, moved, is_frte}
+use Rattle.dsdiff_spec.specs.Parts.{form_end}
+use Rattle.dsdiff_spec.specs.Rules.{local_fault, is_frte}
 use Rattle.dsdiff_spec.specs.Streams.{Stream, Ending, Front, ended, stopped, cut_off, nothing_but, with_front, with_frame, up_to, kept, whole_end, shape_in}
 use Rattle.dsdiff_spec.specs.Streams.{ending_at_head, frame_head_fault, with_frame_in, in_sound_chunk, found_with, counted, frames_from, Came, nothing_came}
 use Rattle.dsdiff_spec.specs.Streams.{version_head_fault, prop_head_fault, plain_head_fault, sound_head_fault, later_head_fault, chunk_head_fault}
@@ -20,7 +20,9 @@ use Rattle.dsdiff_spec.specs.Streams.{chunk_body_fault, frte_fault_at, in_sound,
 use Rattle.dsdiff_spec.specs.declared.faults.FileFault.{FileFault}
 use Rattle.dsdiff_spec.specs.declared.faults.FileFault.TheVariants.{NotForm, Overrun, Version, TooManyChunks, FrameTooLong, TooManyFrames}
 use Rattle.dsdiff_spec.specs.declared.faults.FileFault.TheVariants.{CountDiffers, PropTooLong, PropType, FrameRate}
-use Rattle.dsdiff_spec.proofs.Lawful.{first_gives_none, later_gives_none, when_not, moved_none}
+use Rattle.dsdiff_spec.proofs.Lawful.{first_gives_none, later_gives_none, when_not, rules_at_0}
+use Rattle.dsdiff_spec.proofs.ManyOfStreams.{by_ids}
+use Rattle.dsdiff_spec.proofs.StreamSteps.{by_tests}
 use Rattle.dsdiff_spec.proofs.StreamSteps.{sound_ends, sound_has_no_more, sound_ends_at_head, sound_has_chunk, form_ends, form_has_no_more}
 use Rattle.dsdiff_spec.proofs.StreamSteps.{form_ends_at_head, form_has_sound, form_has_chunk}
 use Rattle.stream_spec.specs.Lawful.{IsLawfulFront, IsShort, AreLawful, IsLawful, IsPartOf, LawfulStreamsLaw}
@@ -33,10 +35,6 @@ IsEarly (cut_off fault) = Unit {0}
 
 not_ended : (e : Ending) → IsEarly e → e ≡ ended → ⊥
 not_ended e early same = subst IsEarly same early
-
-by_tests : Bool → Bool → ℕ → Option FileFault → Option Ending
-by_tests a b place fault =
-    if a then Some (stopped (Overrun place)) else (if b then Some (cut_off (Overrun place)) else option_map stopped fault)
 
 tests_early : (a b : Bool) (place : ℕ) (fault : Option FileFault) (e : Ending) → by_tests a b place fault ≡ Some e → IsEarly e
 unfolding by_tests
@@ -173,18 +171,6 @@ record CameLawful (came : Came) : Type 0 where
 early_form : (w : List ℕ) (e : Ending) → IsEarly e → IsLawful w (nothing_but e)
 early_form w e early = record { front = λ f same. absurd cc; frames = λ f same. absurd cc; ended = λ same. absurd (not_ended e early same) }
 
--- the rules on a body don't depend on where it begins
-anywhere : (start : ℕ) (body : List ℕ) → local_fault start body ≡ None → local_fault 0 body ≡ None
-anywhere start body none =
-    let fields = rate_fault body otherwise channels_fault body otherwise compression_fault body in
-    let type_none = first_gives_none (type_fault body) (moved start (in_prop body).fault otherwise fields) none in
-    let rest = later_gives_none (type_fault body) (moved start (in_prop body).fault otherwise fields) none in
-    let whole = moved_none start (in_prop body).fault (first_gives_none (moved start (in_prop body).fault) fields rest) in
-    let last = later_gives_none (moved start (in_prop body).fault) fields rest in
-    ap (λ t. t otherwise moved 0 (in_prop body).fault otherwise fields) type_none
-    ∙ ap (λ f. moved 0 f otherwise fields) whole
-    ∙ last
-
 -- ---- `DST `, behind `FVER` and `PROP`
 lawful_front : (w : List ℕ) (front : Front) (s : Stream) → IsLawfulFront front → FramesAre w (shape_in front.prop) front.frames 0 s →
     IsLawful w (with_front front s)
@@ -247,9 +233,6 @@ is_version h none =
     let both = and_parts (h.id is "FVER") (h.size == 4) (is_not_false _ (when_not Version _ none)) in
     (both.0, eqb-true h.size 4 both.1)
 
-by_ids : Bool → Bool → Bool → Option FileFault → Option FileFault → Option FileFault → Option FileFault
-by_ids a b c x y z = if a then x else (if b then y else (if c then z else None))
-
 asked_by_ids : (prop : Option (List ℕ)) (h : Head) → later_head_fault prop h ≡ None →
     by_ids (h.id is "PROP") (h.id is "DSD ") (h.id is "DST ") (prop_head_fault prop h) (plain_head_fault prop) (sound_head_fault prop h) ≡ None
 unfolding by_ids
@@ -287,7 +270,7 @@ prop_came w v prop h true came there most none =
     record {
       version = came.version;
       most = λ p same. (let e : body_of w h ≡ p = cc in subst (λ x. length x ≤ 65536) e (let size = most refl in omega (arith, body_is w h there, size)));
-      rules = λ p same. (let e : body_of w h ≡ p = cc in subst (λ x. local_fault 0 x ≡ None) e (anywhere (body_place h) (body_of w h) none));
+      rules = λ p same. (let e : body_of w h ≡ p = cc in subst (λ x. local_fault 0 x ≡ None) e (rules_at_0 (body_place h) (body_of w h) none));
       none = λ same. absurd cc;
     }
 

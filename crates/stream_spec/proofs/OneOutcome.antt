@@ -11,7 +11,8 @@ use Rattle.dsdiff_spec.specs.Progress.{NotRefused, NoneOf}
 use Rattle.dsdiff_spec.specs.Outcome.{Answer, frame_refused}
 use Rattle.dsdiff_spec.specs.Streams.{Ending, ended, stopped, cut_off, Front, Stream, shape_in, stream, PipeOut, piped, piped_before}
 use Rattle.dsdiff_spec.proofs.Lawful.{prop_has_a_shape}
-use Rattle.dsdiff_spec.proofs.Verdicts.{IsAnswered, AreAnswered, frame_is_answered, StopsAt, verdict, one_stop, one_fault}
+use Rattle.dsdiff_spec.proofs.Verdicts.{IsAnswered, AreAnswered, StopsAt, verdict, one_stop, one_fault}
+use Rattle.dsdiff_spec.proofs.OneOutcome.{all_answered}
 use Rattle.stream_spec.specs.Outcome.{stream_refused, at_ending, IsStopped, IsThrough, IsEarly, OfStream, OneOutcomeLaw}
 use Rattle.stream_spec.specs.Lawful.{IsPartOf}
 use Rattle.stream_spec.proofs.Lawful.{streams_are_lawful}
@@ -123,10 +124,6 @@ parts_are_bytes w (x ∷ xs) bytes ((place, n, e), parts) =
 
 pub frames_are_bytes : (w : List ℕ) (front : Front) → AreBytes w → (stream w).front ≡ Some front → AllByRecursion AreBytes (stream w).frames
 frames_are_bytes w front bytes e = parts_are_bytes w (stream w).frames bytes ((streams_are_lawful w).frames front e).parts
-
-all_answered : (f : Shape) (frames : List (List ℕ)) → IsShape f → AllByRecursion AreBytes frames → AreAnswered decode f frames
-all_answered f [] lawful h = tt
-all_answered f (x ∷ xs) lawful h = (frame_is_answered f x lawful h.0, all_answered f xs lawful h.1)
 
 pub one_outcome : OneOutcomeLaw
 one_outcome w bytes = go (stream w).front refl

@@ -9,6 +9,7 @@ use Rattle.dsdiff_spec.specs.Form.{plain, coded}
 use Rattle.dsdiff_spec.specs.Parts.{channel_count, multiple}
 use Rattle.dsdiff_spec.specs.Rules.{local_fault, form_fault, kind_fault, form_of_kind, origin_in}
 use Rattle.dsdiff_spec.specs.declared.faults.FileFault.TheVariants.{KeptBad}
+use Rattle.dsdiff_spec.proofs.Lawful.{rules_at_0}
 use Rattle.dsdiff_chunks.specs.declared.lists.ChunkHead.{ChunkHead}
 use Rattle.dsdiff_chunks.specs.Lawful.{TileTo, IsOriginIfAny}
 use Rattle.dsdiff_chunks.specs.Opening.{is_sound, are_bad_origins}
@@ -18,7 +19,7 @@ use Rattle.dsdiff_chunks.specs.Seen.{head_seen, origin_seen}
 use Rattle.dsdiff_chunks.proofs.Chain.{form_is_accepted}
 use Rattle.dsdiff_chunks.proofs.Only.{only_within}
 use Rattle.dsdiff_chunks.proofs.Stopping.{Stops-in}
-use Rattle.dsdiff_chunks.proofs.Whole.{same_form, multiple_back, shape_back, channels_of, rules_at_0, coded_at_sound, count_by_parts, coded_past_sound}
+use Rattle.dsdiff_chunks.proofs.Whole.{same_form, multiple_back, shape_back, channels_of, coded_at_sound, count_by_parts, coded_past_sound}
 use Rattle.dsdiff_chunks.proofs.build.coded_form.Goals as goal
 
 pub read_frte-requires-clause-known : goal.read_frte-requires-clause-known

@@ -8,6 +8,7 @@ use Rattle.dsdiff_spec.specs.Chunks.{Head, fits, body_end}
 use Rattle.dsdiff_spec.specs.Form.{plain, coded, frames_for}
 use Rattle.dsdiff_spec.specs.Parts.{channel_count, multiple}
 use Rattle.dsdiff_spec.specs.Rules.{local_fault, form_fault, kind_fault, form_of_kind}
+use Rattle.dsdiff_spec.proofs.Lawful.{rules_at_0}
 use Rattle.dsdiff_chunks.specs.Lawful.{TileTo}
 use Rattle.dsdiff_chunks.specs.Opening.{may_lack_pad, is_sound}
 use Rattle.dsdiff_chunks.specs.Prepared.{heads_of}
@@ -16,7 +17,7 @@ use Rattle.dsdiff_chunks.specs.Seen.{head_seen}
 use Rattle.dsdiff_chunks.proofs.Chain.{form_is_accepted}
 use Rattle.dsdiff_chunks.proofs.Only.{passed_is_there}
 use Rattle.dsdiff_chunks.proofs.Stopping.{Stops-in}
-use Rattle.dsdiff_chunks.proofs.Whole.{same_form, multiple_back, shape_back, channels_of, rules_at_0, is_plain_id, next_fits, plain_by_parts, plain_frames}
+use Rattle.dsdiff_chunks.proofs.Whole.{same_form, multiple_back, shape_back, channels_of, is_plain_id, next_fits, plain_by_parts, plain_frames}
 use Rattle.dsdiff_chunks.proofs.Whole.{behind_by_parts}
 use Rattle.dsdiff_chunks.proofs.build.plain_form.Goals as goal
 

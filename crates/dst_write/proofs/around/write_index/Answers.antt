@@ -4,9 +4,10 @@ use Rattle.std.proofs.lemmas.List.{take_all}
 use Rattle.std.proofs.lemmas.List.Sums.{sum_by_more}
 use Rattle.byteorder.specs.Endian.{big_bytes}
 use Rattle.dsdiff_spec.specs.Written.{dsti}
+use Rattle.dsdiff_spec.proofs.ByteLists.{entry_bytes}
 use Rattle.dst_commands.proofs.Writing.{added, cut_off, adds_same, adds_then, stops_same, stops_first, stops_then, stops_in}
 use Rattle.dst_write.specs.Layout.{chunk_size, entries_by}
-use Rattle.dst_write.proofs.BySize.{begins_with_entries, dsti_head, dsti_is, entry_bytes, head_and_more}
+use Rattle.dst_write.proofs.BySize.{begins_with_entries, dsti_head, dsti_is, head_and_more}
 use Rattle.dst_write.proofs.around.write_index.Goals as goal
 
 pub returns-in_default-clause-written : goal.returns-in_default-clause-written

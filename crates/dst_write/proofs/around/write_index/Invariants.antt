@@ -3,8 +3,8 @@ use Rattle.std.proofs.Common.{◌≡◌, ◌+◌, ◌*◌, ◌^◌, ◌≤◌, �
 use Rattle.std.specs.Prelude.{codes}
 use Rattle.byteorder.specs.Endian.{big_bytes}
 use Rattle.dst_commands.specs.Writing.{Adds}
+use Rattle.dsdiff_spec.proofs.ByteLists.{entry_bytes}
 use Rattle.dst_write.specs.Layout.{entries_by, frames_size}
-use Rattle.dst_write.proofs.BySize.{entry_bytes}
 use Rattle.dst_write.proofs.around.write_index.Given as goal
 
 abbrev pub invariant-loop-size : goal.invariant-loop-size

@@ -2,12 +2,12 @@
 use Rattle.std.proofs.Common.{◌≡◌, ◌+◌, ◌<◌, ◌-◌, ◌++◌, List, ℕ, length, get_or, ap, sym, ◌∙◌, arith}
 use Rattle.byteorder.specs.Endian.{big_bytes}
 use Rattle.dsdiff_spec.specs.Walk.{Entry}
+use Rattle.dsdiff_spec.proofs.ByteLists.{entry_bytes}
 use Rattle.dsdiff_chunks.specs.Forms.{coded_seen}
 use Rattle.frame_index.specs.Entries.{entry_seen}
 use Rattle.dst_commands.proofs.Writing.{added, cut_off}
 use Rattle.dst_commands.proofs.InTurn.{one_more_part, stops_in_part, all_parts}
 use Rattle.dst_write.specs.CutLayout.{begins, count, moved, entries_left}
-use Rattle.dst_write.proofs.BySize.{entry_bytes}
 use Rattle.dst_write.proofs.CutPlaces.{are_cut_out, length-left, nth_left, none}
 use Rattle.dst_write.proofs.cut_parts.write_entries.Goals as goal
 

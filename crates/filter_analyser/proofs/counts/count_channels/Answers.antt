@@ -7,7 +7,8 @@ use Rattle.dst_spec.specs.Sample.{samples}
 use Rattle.dst_spec.proofs.Lists.{get_or-zeros}
 use Rattle.level_spec.specs.Counts.{count_from}
 use Rattle.frame_predictions.specs.Codes.{code_at, codes}
-use Rattle.filter_analyser.proofs.Counting.{count_from-next, count_from-most, count_by-codes, codes-small, length-codes}
+use Rattle.frame_predictions.proofs.Elements.{codes-length}
+use Rattle.filter_analyser.proofs.Counting.{count_from-next, count_from-most, count_by-codes, codes-small}
 use Rattle.filter_analyser.proofs.counts.count_channels.Goals as goal
 
 pub loop-member-init : goal.loop-member-init
@@ -24,11 +25,11 @@ count_codes-requires c =
     let ch = get_or c.args.members.now i 0 in
     let T = samples f in
     let short : T ≤ 150528 = omega (arith, c.requires.row, c.requires.short) in
-    let long : length c.write_codes.new.codes ≡ T = ap length c.write_codes.ensures ∙ length-codes f sound ch coefs in
+    let long : length c.write_codes.new.codes ≡ T = ap length c.write_codes.ensures ∙ codes-length f sound ch coefs in
     let part : take (length c.write_codes.new.codes - first) (drop first c.write_codes.new.codes) ≡ drop first (codes f sound ch coefs) =
     take_rest c.write_codes.new.codes first ∙ ap (drop first) c.write_codes.ensures in
     let many : length (drop first (codes f sound ch coefs)) ≡ T - first = length-drop first (codes f sound ch coefs)
-    ∙ ap (λ n. n - first) (length-codes f sound ch coefs) in
+    ∙ ap (λ n. n - first) (codes-length f sound ch coefs) in
     record {
       small = subst (λ xs. (k d : ℕ) → k < length xs → get_or xs k d < 128) (sym part) (λ k d h. codes-small f sound ch coefs first k d (omega arith));
       room = λ q h.
@@ -58,7 +59,7 @@ loop-member-preserved c =
           ∙ ap (λ n. get_or c.loop-member.counts q 0 + n) (ap (count_by (λ code. code == q)) part ∙ count_by-codes f sound ch coefs first q)
           ∙ ap (λ n. n + count_by (test ch) (range_with_len first (samples f - first))) (c.loop-member.invariant.1 q h)
           ∙ sym (count_from-next first f test c.args.members.now i c.loop-member-test.true),
-      ap length c.write_codes.ensures ∙ length-codes f sound ch coefs,
+      ap length c.write_codes.ensures ∙ codes-length f sound ch coefs,
     )
 
 pub returns : goal.returns

@@ -7,8 +7,7 @@ use Rattle.dst_spec.specs.Table.{prob_kind, IsTable}
 use Rattle.level_spec.specs.Scale.{last_place}
 use Rattle.level_spec.specs.Counts.{entry, table_of}
 use Rattle.level_spec.proofs.Tables.{last_place-most, IsTable-table_of}
-use Rattle.filter_analyser.proofs.Scaling.{last-next}
-use Rattle.filter_analyser.proofs.Differing.{test-true, test-false}
+use Rattle.filter_refiner.proofs.Lengths.{test-true, test-false, last-next}
 use Rattle.filter_analyser.proofs.counts.table_from.Goals as goal
 use Rattle.filter_analyser.proofs.counts.table_from.Goals.{then-total-gt0, else-total-gt0}
 

@@ -5,9 +5,9 @@ use Rattle.std.proofs.lemmas.Int.{ints}
 use Rattle.std.proofs.lemmas.Bool.{cases_lt}
 use Rattle.std.proofs.lemmas.Nat.Bits.{shr_and_one}
 use Rattle.level_spec.specs.Correlation.{correlation}
+use Rattle.filter_refiner.proofs.Lengths.{test-false}
 use Rattle.filter_analyser.specs.Words.{bit_of, late, tally}
 use Rattle.filter_analyser.proofs.Tallies.{tally-next, tally-most}
-use Rattle.filter_analyser.proofs.Differing.{test-false}
 use Rattle.filter_analyser.proofs.Correlating.{late-late, correlation-is, correlation-at_0, early-most}
 use Rattle.filter_analyser.proofs.lags.correlate_words.Goals as goal
 

@@ -2,8 +2,8 @@ use Rattle.std.proofs.Common.{◌≡◌, ℕ, zero, suc, ◌<◌, ◌≤◌, ℤ
 use Rattle.level_spec.specs.Correlation.{correlations}
 use Rattle.level_spec.specs.Recursion.{solution}
 use Rattle.level_spec.specs.Picks.{channels_of, per_channel, shared, orders, level_picks}
+use Rattle.filter_refiner.proofs.Numbers.{zeros-at}
 use Rattle.filter_analyser.specs.Run.{padded}
-use Rattle.filter_analyser.proofs.Padding.{zeros-at}
 use Rattle.filter_analyser.proofs.picker.pick_all.Goals as goal
 
 -- what a list of one for each order has at a place

@@ -3,7 +3,7 @@ use mir.Syntax.{w64}
 use Rattle.std.proofs.lemmas.Int.{ints}
 use Rattle.level_spec.specs.Recursion.{whole, fallen}
 use Rattle.level_spec.proofs.Bounds.{fallen-bounds}
-use Rattle.filter_analyser.proofs.Shares.{same_64}
+use Rattle.filter_refiner.proofs.Numbers.{same_64}
 use Rattle.filter_analyser.proofs.recursion.fallen.Goals as goal
 
 pub returns : goal.returns

@@ -4,7 +4,7 @@ use mir.Syntax.{w64}
 use Rattle.std.proofs.lemmas.Int.{ints}
 use Rattle.std.proofs.lemmas.Bool.{cases_lt}
 use Rattle.level_spec.specs.Recursion.{value, whole, moved}
-use Rattle.filter_analyser.proofs.Shares.{same_64}
+use Rattle.filter_refiner.proofs.Numbers.{same_64}
 use Rattle.filter_analyser.proofs.Moving.{moved-is}
 use Rattle.filter_analyser.proofs.recursion.fill_moved.Goals as goal
 

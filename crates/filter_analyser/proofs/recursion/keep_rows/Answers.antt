@@ -7,8 +7,8 @@ use Rattle.std.specs.List.{range_with_len}
 use Rattle.level_spec.specs.Recursion.{State}
 use Rattle.level_spec.specs.Rows.{first_row, row_after, next_row, rows, row_solution}
 use Rattle.level_spec.proofs.RowSteps.{row_after-stop, IsRow-after}
+use Rattle.filter_refiner.proofs.Numbers.{each-most}
 use Rattle.filter_analyser.specs.Run.{padded}
-use Rattle.filter_analyser.proofs.Shares.{each-most}
 use Rattle.filter_analyser.proofs.recursion.keep_rows.Goals as goal
 use Rattle.filter_analyser.proofs.recursion.keep_rows.Goals.{else-loop-step-test, then-loop-step-test+then-not-row_step}
 

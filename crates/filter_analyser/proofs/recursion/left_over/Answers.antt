@@ -3,7 +3,8 @@ use mir.Syntax.{w64, w128}
 use Rattle.std.proofs.lemmas.Int.{ints}
 use Rattle.level_spec.specs.Correlation.{sum_over}
 use Rattle.level_spec.specs.Recursion.{lag, value, left_over}
-use Rattle.filter_analyser.proofs.Shares.{left-most, left-next, product-most, same_64, lags-most}
+use Rattle.filter_refiner.proofs.Numbers.{product-most, same_64}
+use Rattle.filter_analyser.proofs.Shares.{left-most, left-next, lags-most}
 use Rattle.filter_analyser.proofs.recursion.left_over.Goals as goal
 
 pub loop-j-init : goal.loop-j-init

@@ -10,9 +10,8 @@ use Rattle.level_spec.specs.Refining.{refined_from, first_filter}
 use Rattle.level_spec.specs.Picks.{channels_of, refined_together}
 use Rattle.level_spec.specs.Laws.{AreCorrelations}
 use Rattle.level_spec.proofs.RowSteps.{IsRow-after}
-use Rattle.filter_analyser.proofs.Padding.{zeros-at}
+use Rattle.filter_refiner.proofs.Numbers.{zeros-at, each-most}
 use Rattle.filter_analyser.proofs.Picking.{zeros-small}
-use Rattle.filter_analyser.proofs.Shares.{each-most}
 use Rattle.filter_analyser.proofs.refined.refine_together.Goals as goal
 
 pub solve_channels-requires-clause-zeros : goal.solve_channels-requires-clause-zeros

@@ -8,7 +8,8 @@ use Rattle.level_spec.specs.Refining.{gradient, weight}
 use Rattle.level_spec.specs.Counts.{total, wrong, place, is_wrong}
 use Rattle.level_spec.proofs.Sizes.{are_correlations}
 use Rattle.frame_predictions.specs.Codes.{code_at}
-use Rattle.filter_analyser.proofs.Shares.{lags-most, same_64}
+use Rattle.filter_refiner.proofs.Numbers.{same_64}
+use Rattle.filter_analyser.proofs.Shares.{lags-most}
 use Rattle.filter_analyser.proofs.Pulled.{gradient-same}
 use Rattle.filter_analyser.proofs.Stepped.{agreement-is, power-is, moved-is, moved-none, moved-solved, target-cut, weights-are}
 use Rattle.filter_analyser.proofs.refining.next_filter.Goals as goal

@@ -7,8 +7,9 @@ use Rattle.level_spec.specs.Rows.{rows}
 use Rattle.level_spec.specs.Counts.{count_from}
 use Rattle.level_spec.specs.Refining.{Refined, next_filter, filter_size, refine, refined_from}
 use Rattle.frame_predictions.specs.Codes.{code_at}
+use Rattle.filter_refiner.proofs.Numbers.{same_64}
 use Rattle.filter_analyser.proofs.Stepped.{size-is, refine-none, refine-some, refine-zero, pick-best}
-use Rattle.filter_analyser.proofs.Shares.{lags-most, same_64}
+use Rattle.filter_analyser.proofs.Shares.{lags-most}
 use Rattle.level_spec.proofs.Sizes.{are_correlations}
 use Rattle.filter_analyser.proofs.refining.refine.Goals as goal
 use Rattle.filter_analyser.proofs.refining.refine.Goals.{then-size-least, else-size-least, else-loop-step-test, then-loop-step-test+in_default}

@@ -4,8 +4,8 @@ use mir.Syntax.{w16, w64}
 use Rattle.std.proofs.lemmas.Int.{ints}
 use Rattle.std.proofs.lemmas.List.{ext_get_or, get_or-take, length-map}
 use Rattle.level_spec.specs.Scale.{coefficient, bounded}
-use Rattle.filter_analyser.proofs.Scaling.{get_or-mapped}
-use Rattle.filter_analyser.proofs.Shares.{same_64}
+use Rattle.filter_refiner.proofs.Fitted.{get_or-mapped}
+use Rattle.filter_refiner.proofs.Numbers.{same_64}
 use Rattle.filter_analyser.proofs.scale.coefficients.Goals as goal
 
 pub loop-place-preserved : goal.loop-place-preserved

@@ -3,7 +3,7 @@ use mir.Syntax.{w16}
 use mir.Val.{SFits}
 use Rattle.level_spec.specs.Scale.{last_place}
 use Rattle.level_spec.proofs.Tables.{last_place-most}
-use Rattle.filter_analyser.proofs.Scaling.{last-next, zero_test, not_zero_test}
+use Rattle.filter_refiner.proofs.Lengths.{last-next, zero_test, not_zero_test}
 use Rattle.filter_analyser.proofs.scale.length_without_zeros.Goals as goal
 use Rattle.filter_analyser.proofs.scale.length_without_zeros.Goals.{then-coefs-place-ne0, else-coefs-place-ne0}
 

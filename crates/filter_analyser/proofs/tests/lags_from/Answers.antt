@@ -1,7 +1,7 @@
 use Rattle.std.proofs.Common.{◌≡◌, ◌^◌, ◌<◌, ◌≤ℤ◌, ℤ, pos, nat_abs, to_z, of_z, length, get_or, set, get_or-set_same, length-set, refl, arith}
 use mir.Syntax.{w64}
 use Rattle.std.proofs.lemmas.Int.{ints, clamps}
-use Rattle.filter_analyser.proofs.Padding.{zeros-at}
+use Rattle.filter_refiner.proofs.Numbers.{zeros-at}
 use Rattle.filter_analyser.proofs.Writing.{set-most}
 use Rattle.filter_analyser.proofs.tests.lags_from.Goals as goal
 

@@ -1,8 +1,8 @@
 use Rattle.std.proofs.Common.{◌^◌, ℤ, to_z, of_z, length-set, refl, arith}
 use mir.Syntax.{w64}
 use Rattle.std.proofs.lemmas.Int.{ints, clamps}
+use Rattle.filter_refiner.proofs.Numbers.{zeros-at}
 use Rattle.filter_analyser.proofs.Writing.{set-most}
-use Rattle.filter_analyser.proofs.Padding.{zeros-at}
 use Rattle.filter_analyser.proofs.tests.solution_from.Goals as goal
 
 pub loop-place-init : goal.loop-place-init

@@ -1,7 +1,7 @@
 use Rattle.std.proofs.Common.{◌-◌, ◌/◌, ◌%◌, ◌^◌, ◌<◌, cond, inl, inr, ap, sym, ◌∙◌, rules, arith}
 use Rattle.std.proofs.lemmas.Bool.{cases_lt}
+use Rattle.filter_refiner.proofs.Lengths.{test-true, test-false}
 use Rattle.filter_analyser.proofs.Bits.{moved-near, moved-far}
-use Rattle.filter_analyser.proofs.Differing.{test-true, test-false}
 use Rattle.filter_analyser.proofs.words.moved.Goals as goal
 
 pub returns : goal.returns

@@ -4,9 +4,10 @@ use Rattle.std.proofs.lemmas.List.{get_or_default}
 use borrow.Rule.Slice.PartMut.{put_mid}
 use Rattle.dst_spec.specs.Header.{Params}
 use Rattle.dst_spec.specs.Symbols.{reserved_probability, symbols}
+use Rattle.dst_spec.proofs.Decoding.{row_less}
 use Rattle.arith_encoder.specs.Lanes.{IsStep}
 use Rattle.frame_store.specs.Pairs.{all_pairs}
-use Rattle.frame_store.proofs.Parts.{put-length, part-written, part-before, rows-before}
+use Rattle.frame_store.proofs.Parts.{put-length, part-written, part-before}
 use Rattle.frame_store.proofs.measure.lay_out_each.Goals as goal
 
 pub loop-lane-preserved : goal.loop-lane-preserved
@@ -22,7 +23,7 @@ loop-lane-preserved c =
     let old = c.loop-lane.symbols in
     let new = c.lay_out.new.symbols in
     let eight : lane < 8 = omega (arith, c.requires.few, c.loop-lane-test.true) in
-    let row = rows-before lane 8 long eight in
+    let row = row_less lane 8 long eight in
     let many = v.many in
     let le : a + long ≤ length old = omega (arith, c.requires.many) in
     let is : k ≡ long = omega arith in
@@ -43,7 +44,7 @@ loop-lane-preserved c =
     subst₂ (λ p s. IsStep false p s) (c.reserved_probability.ensures ∙ ap reserved_probability (here other))
     (sym (get_or-set_same c.loop-lane.reserved lane x 0 room)) c.step_of.ensures in
     let l_below : (l : ℕ) → l < lane → L l = λ l lt other.
-    ap (all_pairs (get_or group l other)) (part-before a long (l * long) old new k same inside (rows-before l lane long lt)) ∙ v.laid_out l other lt in
+    ap (all_pairs (get_or group l other)) (part-before a long (l * long) old new k same inside (row_less l lane long lt)) ∙ v.laid_out l other lt in
     let l_here : L lane = λ other.
     subst (λ P. all_pairs P (take long (drop a (put_mid a k old new))) ≡ symbols f P sound false) (here other)
     (ap (all_pairs Q) (part-written a long old new k written is le) ∙ c.lay_out.ensures.symbols ∙ ap₂ (λ g s. symbols g Q s false) v.channels v.sound) in

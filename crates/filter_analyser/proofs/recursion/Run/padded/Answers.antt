@@ -2,8 +2,8 @@ use Rattle.std.proofs.Common.{◌≡◌, ℕ, ◌+◌, ◌-◌, ◌<◌, ◌≤�
 use Rattle.std.proofs.Common.{refl, ap, sym, ◌∙◌, arith}
 use Rattle.std.proofs.lemmas.List.{ext_get_or, get_or_append_left, get_or-append_right, length-replicate}
 use Rattle.std.proofs.lemmas.Bool.{cases_lt}
+use Rattle.filter_refiner.proofs.Numbers.{zeros-at}
 use Rattle.filter_analyser.specs.Run.{padded}
-use Rattle.filter_analyser.proofs.Padding.{zeros-at}
 use Rattle.filter_analyser.proofs.recursion.Run.padded.Goals as goal
 
 pub padded-is : (all values : List ℤ) → length all ≡ 128 → length values ≤ 128 → ((k : ℕ) → k < length values → get_or all k (pos 0) ≡ get_or values k (pos 0))

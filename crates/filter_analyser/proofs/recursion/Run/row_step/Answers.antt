@@ -3,10 +3,11 @@ use Rattle.std.proofs.Common.{sym, ◌∙◌, subst, arith}
 use mir.Syntax.{w64, w128}
 use Rattle.std.proofs.lemmas.Int.{ints}
 use Rattle.std.specs.List.{list_any}
+use Rattle.std.proofs.lemmas.Bool.{or_parts}
 use Rattle.level_spec.specs.Recursion.{State, lag, reflection, moved, fallen}
 use Rattle.level_spec.specs.Rows.{next_row}
 use Rattle.filter_analyser.proofs.Shares.{lags-most}
-use Rattle.filter_analyser.proofs.RowStepping.{row-stop-by_value, row-step-by_test, small-when, below-40}
+use Rattle.filter_analyser.proofs.RowStepping.{row-stop-by_value, row-step-by_test, below-40}
 use Rattle.level_spec.proofs.RowSteps.{none_above_32}
 use Rattle.filter_analyser.proofs.recursion.Run.row_step.Goals as goal
 
@@ -82,7 +83,7 @@ invariant_of-self c =
     let most = c.self.invariant.1.most in
     let positive = c.self.invariant.1.positive in
     let kept = take (c.self.inside.steps + 1) c.moved-next.result in
-    let past = small-when (int_lt (to_z w64 (of_z w64 c.fallen-error.result)) (to_z w64 (of_z w64 (get_or c.args.lags.now 0 (pos 0)))))
+    let past = or_parts (int_lt (to_z w64 (of_z w64 c.fallen-error.result)) (to_z w64 (of_z w64 (get_or c.args.lags.now 0 (pos 0)))))
     (list_any (λ b. nat_lt (2 ^ 32) (nat_abs b)) kept) (sym c.is_past.ensures ∙ c.if-is_past.false) in (
       omega arith,
       record {
