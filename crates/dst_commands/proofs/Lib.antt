@@ -3,3 +3,4 @@ pub mod Writing
 pub mod PassedOn
 pub mod InTurn
 pub mod Rooms
+pub mod Taken

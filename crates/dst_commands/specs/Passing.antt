@@ -1,5 +1,5 @@
 -- Chunks that are passed on from one form to another, one by one.
-use Rattle.std.specs.Prelude.{◌≡◌, ℕ, ◌≤◌, min, Bool, true, not, ◌&&◌, ◌||◌, if◌then◌else◌, List, length, map, Option, Some, None}
+use Rattle.std.specs.Prelude.{◌≡◌, ℕ, ◌-◌, ◌≤◌, min, Bool, true, not, ◌&&◌, ◌||◌, if◌then◌else◌, List, length, map, Option, Some, None}
 use Rattle.std.specs.List.{concat}
 use Rattle.std.specs.Option.{option_copied}
 use Rattle.dst_streams.specs.Causes.{Rose}
@@ -51,6 +51,11 @@ IsCmprIfAny (Some cmpr) = IsCmpr cmpr
 -- the place behind it
 abbrev pub whole_end : Form → Head → ℕ
 whole_end form h = min (next_place h) form.end
+
+-- the bytes of a form on one side of its sound: behind the form's type, and behind the sound's pad byte
+abbrev pub bytes_on : Side → Form → ℕ
+bytes_on Before form = form.sound.place - 16
+bytes_on Behind form = form.end - next_place form.sound
 
 -- the device that failed
 abbrev pub FailedBy : CopyFault → (source_before source_now sink_before sink_now : ℕ) → Type 0

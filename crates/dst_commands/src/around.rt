@@ -6,7 +6,7 @@ ghost use Rattle.dsdiff_spec.specs.Form.{coded};
 ghost use Rattle.dsdiff_spec.specs.Pieces.{decoded_front, decoded_end};
 ghost use Rattle.dsdiff_chunks.specs.Forms.{coded_seen};
 ghost use Rattle.dsdiff_chunks.specs.declared.copy.CopyFault.{CopyFault};
-ghost use Rattle.dst_commands.specs.Passing.{FailedBy};
+ghost use Rattle.dst_commands.specs.Passing.{bytes_on, FailedBy};
 ghost use Rattle.dst_commands.specs.Writing.{Adds, Stops};
 
 use crate::chunks::{FormRef, Passed, Side, cmpr_of, kept_of, pad_of, pass_chunks};
@@ -28,6 +28,7 @@ pub fn write_front<S: Source, K: Sink>(
     requires size { (n : ℕ) × (S.known source.old ≡ Some n) × (form.now.end ≤ n) }
     ensures bytes { S.bytes source.new ≡ S.bytes source.old }
     ensures stays { S.known source.new ≡ S.known source.old }
+    ensures given { S.given source.new ≤ S.given source.old + bytes_on Side.Before (coded_seen form.now) }
     ensures source_later { S.faults source.old ≤ S.faults source.new }
     ensures sink_later { K.faults sink.old ≤ K.faults sink.new }
     ensures cause { IfErr result (λ fault. FailedBy fault (S.faults source.old) (S.faults source.new) (K.faults sink.old) (K.faults sink.new)) }
@@ -77,6 +78,7 @@ pub fn write_end<S: Source, K: Sink>(
     requires buffer { 0 < length buffer.old }
     requires size { (n : ℕ) × (S.known source.old ≡ Some n) × (form.now.end ≤ n) }
     ensures bytes { S.bytes source.new ≡ S.bytes source.old }
+    ensures given { S.given source.new ≤ S.given source.old + bytes_on Side.Behind (coded_seen form.now) }
     ensures source_later { S.faults source.old ≤ S.faults source.new }
     ensures sink_later { K.faults sink.old ≤ K.faults sink.new }
     ensures cause { IfErr result (λ fault. FailedBy fault (S.faults source.old) (S.faults source.new) (K.faults sink.old) (K.faults sink.new)) }

@@ -1,5 +1,5 @@
 // The chunks that are passed on from one form to another.
-ghost use Rattle.std.specs.Prelude.{◌≡◌, ◌+◌, ◌<◌, ◌≤◌, ◌^◌, ℕ, List, length, map, filter, Contains, Option, Some, true, IfErr, OnOk, MatchResult};
+ghost use Rattle.std.specs.Prelude.{◌≡◌, ◌+◌, ◌-◌, ◌<◌, ◌≤◌, ◌^◌, ℕ, List, length, map, filter, Contains, Option, Some, true, IfErr, OnOk, MatchResult};
 ghost use Rattle.std.specs.Option.{option_copied};
 ghost use Rattle.dsdiff_spec.specs.Chunks.{body_end};
 ghost use Rattle.dsdiff_spec.specs.Decoded as decoding;
@@ -8,7 +8,7 @@ ghost use Rattle.dsdiff_chunks.specs.Forms.{coded_seen};
 ghost use Rattle.dsdiff_chunks.specs.Seen.{head_seen};
 ghost use Rattle.dsdiff_chunks.specs.declared.copy.CopyFault.{CopyFault};
 ghost use Rattle.dst_commands.specs.Passing as passing;
-ghost use Rattle.dst_commands.specs.Passing.{form_of, bytes_of, all_of, goes, ref_seen, whole_end, FailedBy, IsCmprIfAny};
+ghost use Rattle.dst_commands.specs.Passing.{form_of, bytes_of, all_of, bytes_on, goes, ref_seen, whole_end, FailedBy, IsCmprIfAny};
 ghost use Rattle.dst_commands.specs.Writing.{Adds, Stops};
 
 use dsdiff_chunks::{
@@ -201,6 +201,7 @@ fn pass_chunk<S: Source, K: Sink>(
     ensures loan { S.loan source.new ≡ S.loan source.old }
     ensures stays { S.known source.new ≡ S.known source.old }
     ensures source_later { S.faults source.old ≤ S.faults source.new }
+    ensures given { S.given source.new ≤ S.given source.old + (whole_end (form_of passed.now) (head_seen head.now) - (head_seen head.now).place) }
     ensures sink_later { K.faults sink.old ≤ K.faults sink.new }
     ensures appended { OnOk result ((file : List ℕ) → (form_of passed.now).end ≤ length file → K.appended sink.new ≡ K.appended sink.old + length (bytes_of file passed.now (head_seen head.now))) }
     ensures cause { IfErr result (λ fault. FailedBy fault (S.faults source.old) (S.faults source.new) (K.faults sink.old) (K.faults sink.new)) }
@@ -232,6 +233,7 @@ pub fn pass_chunks<S: Source, K: Sink>(
     ensures loan { S.loan source.new ≡ S.loan source.old }
     ensures stays { S.known source.new ≡ S.known source.old }
     ensures source_later { S.faults source.old ≤ S.faults source.new }
+    ensures given { S.given source.new ≤ S.given source.old + bytes_on side (form_of passed.now) }
     ensures sink_later { K.faults sink.old ≤ K.faults sink.new }
     ensures appended { OnOk result ((file : List ℕ) → (form_of passed.now).end ≤ length file → K.appended sink.new ≡ K.appended sink.old + length (all_of side file passed.now)) }
     ensures cause { IfErr result (λ fault. FailedBy fault (S.faults source.old) (S.faults source.new) (K.faults sink.old) (K.faults sink.new)) }
