@@ -2,7 +2,7 @@
 ghost use Rattle.std.specs.Prelude.{◌≡◌, ◌+◌, ◌-◌, ◌%◌, ◌^◌, ◌<◌, ◌≤◌};
 
 use super::*;
-use std::sync::atomic::{AtomicBool, AtomicU64, Ordering};
+use std::sync::atomic::{AtomicU64, Ordering};
 use std::test::Fail;
 use std::thread::Threads;
 
@@ -47,43 +47,70 @@ impl JobWork for AddOne {
 
 const ADD_ONE: InTurn<AddOne> = InTurn { each: AddOne };
 
-// Holds each job until all jobs have come.
+// Holds each job until as many jobs as workers were at the gate at once.
 #[derive(Drop)]
 struct Holding {
-    jobs: u64,
+    workers: u64,
     passes: AtomicU64,
-    ran_out: AtomicBool,
+    inside: AtomicU64,
+    most: AtomicU64,
+}
+
+impl Holding {
+    fn new(workers: u64) -> Holding {
+        Holding {
+            workers,
+            passes: AtomicU64::new(0),
+            inside: AtomicU64::new(0),
+            most: AtomicU64::new(0),
+        }
+    }
+
+    // Returns at last also where they don't come: the most that were there tell it.
+    fn wait(&self) {
+        for _ in 0..100_000_000u64 {
+            if self.most.load(Ordering::SeqCst) >= self.workers {
+                return;
+            }
+        }
+    }
 }
 
 impl Gate for Holding {
     fn pass(&self, _place: usize) {
         self.passes.fetch_add(1, Ordering::SeqCst);
-        for _ in 0..100_000_000u64 {
-            if self.passes.load(Ordering::SeqCst) >= self.jobs {
-                return;
-            }
-        }
-        self.ran_out.store(true, Ordering::SeqCst);
+        let others = self.inside.fetch_add(1, Ordering::SeqCst);
+        self.most
+            .fetch_max(others.wrapping_add(1), Ordering::SeqCst);
+        self.wait();
+        self.inside.fetch_sub(1, Ordering::SeqCst);
     }
 }
 
 #[test]
-fn sixteen_jobs_are_worked_at_once(rt: HostRuntime) -> Result<(), Fail> {
-    let gate = Holding {
-        jobs: 16,
-        passes: AtomicU64::new(0),
-        ran_out: AtomicBool::new(false),
-    };
-    let mut scratches = [IDLE; 16];
-    let mut jobs = [Number { value: 1 }; 16];
-    run_batch(&rt, &ADD_ONE, &gate, &mut scratches, &mut jobs);
-    assert!(rt; !gate.ran_out.load(Ordering::SeqCst));
-    assert_eq!(rt; gate.passes.load(Ordering::SeqCst), 16);
-    for job in &jobs {
-        assert_eq!(rt; job.value, 2);
-    }
-    for scratch in &scratches {
-        assert_eq!(rt; scratch.count, 1);
+fn as_many_jobs_as_workers_are_worked_at_once(rt: HostRuntime) -> Result<(), Fail> {
+    for workers in 2..17usize {
+        let gate = Holding::new(workers as u64);
+        let mut scratches = [IDLE; 16];
+        let mut jobs = [Number { value: 1 }; 48];
+        let count = 3 * workers;
+        run_batch(
+            &rt,
+            &ADD_ONE,
+            &gate,
+            &mut scratches[..workers],
+            &mut jobs[..count],
+        );
+        let passes = gate.passes.load(Ordering::SeqCst);
+        assert_eq!(rt; passes, count as u64, "{workers} workers");
+        let most = gate.most.load(Ordering::SeqCst);
+        assert_eq!(rt; most, workers as u64, "{workers} workers");
+        for job in &jobs[..count] {
+            assert_eq!(rt; job.value, 2, "{workers} workers");
+        }
+        for scratch in &scratches[..workers] {
+            assert_eq!(rt; scratch.count, 3, "{workers} workers");
+        }
     }
     Ok(())
 }
