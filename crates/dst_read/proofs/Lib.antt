@@ -14,3 +14,4 @@ pub mod Underway
 pub mod Viewed
 pub mod Working
 pub mod Lent
+pub mod Once

@@ -62,7 +62,7 @@ named_frame file form index k walked l = ap (λ es. frame_at file (entry es k)) 
     ∙ frame_of_entry file form k (omega (arith, l, count_is file form index walked))
 
 -- ---- so many frames are worked, and their unread bytes added
-module _ {S : Type 0} (bytes : S → Option (List ℕ)) (known : S → Option ℕ) (faults : S → ℕ) (form : Form) (f : Shape) (s0 : StoredFrames S) where
+module _ {S : Type 0} (bytes : S → Option (List ℕ)) (known : S → Option ℕ) (faults gave : S → ℕ) (form : Form) (f : Shape) (s0 : StoredFrames S) where
   pub record IsBegun : Type 0 where
     pub same : shape form ≡ f
     pub first : s0.next ≡ 0
@@ -71,7 +71,7 @@ module _ {S : Type 0} (bytes : S → Option (List ℕ)) (known : S → Option �
     pub walked : (file : List ℕ) → bytes s0.source.now ≡ Some file → entries file form ≡ s0.walked.now.index
 
   pub record IsSummed (n : ℕ) (s : StoredFrames S) (t : TailSum) : Type 0 where
-    pub feed : IsLater bytes known faults s0 s
+    pub feed : IsLater bytes known faults gave s0 s
     pub next : s.next ≡ n
     pub few : n ≤ length s0.walked.now.index
     pub small : t.unread ≤ n * 4294967296
@@ -80,27 +80,27 @@ module _ {S : Type 0} (bytes : S → Option (List ℕ)) (known : S → Option �
 
   begins : IsBegun → (t : TailSum) → t.unread ≡ 0 → IsSummed 0 s0 t
   begins b t none = record {
-    feed = fed.is_itself bytes known faults s0;
+    feed = fed.is_itself bytes known faults gave s0;
     next = b.first;
     few = omega arith;
     small = omega (arith, none);
     done = λ file told. ([], record { each = tt; none = tt }, none);
   }
 
-  goes_on : IsBegun → (n : ℕ) (s s' : StoredFrames S) (t t' : TailSum) (job worked : Job) → IsSummed n s t → GivesFrame bytes known faults s job s' →
+  goes_on : IsBegun → (n : ℕ) (s s' : StoredFrames S) (t t' : TailSum) (job worked : Job) → IsSummed n s t → GivesFrame bytes known faults gave s job s' →
       IsWorked f job worked → TakesTail t worked t' → IsSummed (n + 1) s' t'
   goes_on b n s s' t t' job worked p given work takes =
-      let within = fed.given_within bytes known faults s0 s s' job n p.feed p.next given in
+      let within = fed.given_within bytes known faults gave s0 s s' job n p.feed p.next given in
       let sum_is : t'.unread ≡ t.unread + takes.tail = takes.sum
       ∙ min-eq_left {n = t.unread + takes.tail} {m = 18446744073709551615} (omega (arith, p.small, takes.few, within, b.count, b.most)) in
       record {
-        feed = fed.later_on bytes known faults s0 s s' p.feed given.same;
+        feed = fed.later_on bytes known faults gave s0 s s' p.feed given.same;
         next = omega (arith, given.next, p.next);
         few = omega (arith, within);
         small = omega (arith, sum_is, p.small, takes.few);
         done = λ file told.
             let before = p.done file told in
-            let frame = fed.given_frame bytes known faults s0 s s' job n file p.feed p.next given told
+            let frame = fed.given_frame bytes known faults gave s0 s s' job n file p.feed p.next given told
             ∙ named_frame file form s0.walked.now.index n (b.walked file told) within in
             let here = subst (λ frame. IsHeard f frame worked.sound.items takes.tail) frame (heard f job worked takes.tail work takes.answer) in
             let shaped = subst (λ f. IsHeard f (get_or (frames_of file form) n []) worked.sound.items takes.tail) (sym b.same) here in
@@ -112,17 +112,17 @@ module _ {S : Type 0} (bytes : S → Option (List ℕ)) (known : S → Option �
       }
 
   abbrev gives : StoredFrames S → Job → StoredFrames S → Type 0
-  gives = GivesFrame bytes known faults
+  gives = GivesFrame bytes known faults gave
 
   abbrev feed_failed : StoredFrames S → Failed → StoredFrames S → Type 0
-  feed_failed = FailsToRead bytes known faults
+  feed_failed = FailsToRead bytes known faults gave
 
   ran_on : IsBegun → (s : StoredFrames S) (t0 t : TailSum) (count : ℕ) → t0.unread ≡ 0 → Ran gives TakesTail (IsWorked f) s0 s t0 t count → IsSummed count s t
   ran_on b s t0 t count none ran = Ran-keep gives TakesTail (IsWorked f) IsSummed (goes_on b) s0 s t0 t count ran (begins b t0 none)
 
   -- ---- how it ends
   pub sum_ended : IsBegun → (s : StoredFrames S) (t0 t : TailSum) (count : ℕ) → t0.unread ≡ 0 → Ran gives TakesTail (IsWorked f) s0 s t0 t count →
-      length s.walked.now.index ≤ s.next → HasSummed bytes known faults form s0 s (Ok t.unread)
+      length s.walked.now.index ≤ s.next → HasSummed bytes known faults gave form s0 s (Ok t.unread)
   sum_ended b s t0 t count none ran ended =
       let p = ran_on b s t0 t count none ran in
       record {
@@ -143,12 +143,12 @@ module _ {S : Type 0} (bytes : S → Option (List ℕ)) (known : S → Option �
       }
 
   pub sum_at_read : IsBegun → (s : StoredFrames S) (t0 t : TailSum) (e : Failed) → t0.unread ≡ 0 →
-      FailsAtFeed gives feed_failed TakesTail (IsWorked f) s0 s t0 t e → HasSummed bytes known faults form s0 s (Err (Source Read))
+      FailsAtFeed gives feed_failed TakesTail (IsWorked f) s0 s t0 t e → HasSummed bytes known faults gave form s0 s (Err (Source Read))
   sum_at_read b s t0 t e none stop =
       let p = ran_on b stop.feed_before t0 t stop.count none stop.ran in
       record {
-        feed = fed.later_on bytes known faults s0 stop.feed_before s p.feed stop.fails.same;
-        cause = fed.rose_since bytes known faults s0 stop.feed_before s e p.feed stop.fails;
+        feed = fed.later_on bytes known faults gave s0 stop.feed_before s p.feed stop.fails.same;
+        cause = fed.rose_since bytes known faults gave s0 stop.feed_before s e p.feed stop.fails;
         ends = λ file told. tt {0};
       }
 
@@ -158,9 +158,9 @@ module _ {S : Type 0} (bytes : S → Option (List ℕ)) (known : S → Option �
   refused_so b n s u t t' job worked (Frame k fault) before now p given work refuses = (
     tt {0},
     λ file told.
-        let within = fed.given_within bytes known faults s0 s u job n p.feed p.next given in
+        let within = fed.given_within bytes known faults gave s0 s u job n p.feed p.next given in
         let place : n ≡ k = omega (arith, refuses.number, work.number, given.number, p.next) in
-        let frame = fed.given_frame bytes known faults s0 s u job n file p.feed p.next given told
+        let frame = fed.given_frame bytes known faults gave s0 s u job n file p.feed p.next given told
         ∙ named_frame file form s0.walked.now.index n (b.walked file told) within in
         let here = subst (λ frame. Offends f frame fault) frame (refused f job worked fault work refuses.answer) in
         let shaped = subst (λ f. Offends f (get_or (frames_of file form) n []) fault) (sym b.same) here in
@@ -171,13 +171,13 @@ module _ {S : Type 0} (bytes : S → Option (List ℕ)) (known : S → Option �
 
   pub sum_at_job : IsBegun → (s : StoredFrames S) (t0 t : TailSum) (most : ℕ) (fault : CheckFault) → t0.unread ≡ 0 →
       FailsAtDrain gives feed_failed TakesTail FailsAtTail (IsWorked f) most s0 s t0 t fault →
-      HasSummed bytes known faults form s0 s (Err fault)
+      HasSummed bytes known faults gave form s0 s (Err fault)
   sum_at_job b s t0 t most fault none stop =
       let p = ran_on b stop.feed_before t0 stop.drain_before stop.place none stop.ran in
       let ends = refused_so b stop.place stop.feed_before stop.feed_after stop.drain_before t stop.job stop.worked fault (faults s0.source.now)
       (faults s.source.now) p stop.given stop.work stop.fails in
       record {
-        feed = fed.fed_ahead bytes known faults s0 stop.feed_before stop.feed_after stop.feed_ahead s stop.job stop.ahead p.feed stop.given stop.fed_ahead
+        feed = fed.fed_ahead bytes known faults gave s0 stop.feed_before stop.feed_after stop.feed_ahead s stop.job stop.ahead p.feed stop.given stop.fed_ahead
             stop.feed_left;
         cause = ends.0;
         ends = ends.1;

@@ -27,11 +27,11 @@ one_less size n whole =
     let same : (n + 1) * whole ≡ suc n * whole = ap (λ k. k * whole) (omega arith) in
     omega (arith, suc-mul n whole, same)
 
-module _ {S K : Type 0} (bytes : S → Option (List ℕ)) (known : S → Option ℕ) (faults : S → ℕ) (written : K → Option (List ℕ)) (room : K → Option ℕ)
+module _ {S K : Type 0} (bytes : S → Option (List ℕ)) (known : S → Option ℕ) (faults gave : S → ℕ) (written : K → Option (List ℕ)) (room : K → Option ℕ)
     (sink_faults : K → ℕ) (form : Form) (s0 : StoredFrames S) (t0 : SoundWriter K) where
   -- so many frames are worked and written
   pub record IsUnderway (n : ℕ) (s : StoredFrames S) (t : SoundWriter K) : Type 0 where
-    pub feed : feeding.IsLater bytes known faults s0 s
+    pub feed : feeding.IsLater bytes known faults gave s0 s
     pub drain : draining.IsLater sink_faults t0 t
     pub next : s.next ≡ n
     pub few : n ≤ length s0.walked.now.index
@@ -41,7 +41,7 @@ module _ {S K : Type 0} (bytes : S → Option (List ℕ)) (known : S → Option 
 
   pub begins : s0.next ≡ 0 → t0.left ≡ size_of_sound form → IsUnderway 0 s0 t0
   begins first left = record {
-    feed = fed.is_itself bytes known faults s0;
+    feed = fed.is_itself bytes known faults gave s0;
     drain = record { lent = refl; later = omega arith };
     next = first;
     few = omega arith;
@@ -53,21 +53,21 @@ module _ {S K : Type 0} (bytes : S → Option (List ℕ)) (known : S → Option 
   drained_on t u p q = record { lent = q.lent ∙ p.lent; later = omega (arith, p.later, q.later) }
 
   understood : (s : StoredFrames S) (t : SoundWriter K) (u : StoredFrames S) (job worked : Job) (n tail : ℕ) (file : List ℕ) → IsShape (shape form) →
-      IsUnderway n s t → feeding.GivesFrame bytes known faults s job u →
+      IsUnderway n s t → feeding.GivesFrame bytes known faults gave s job u →
       IsWorked (shape form) job worked → worked.answer ≡ Ok tail → bytes s0.source.now ≡ Some file →
       IsUnderstood (shape form) (frame_at file (entry s0.walked.now.index n)) worked.sound.items
   understood s t u job worked n tail file lawful p given work is told =
-      subst (λ frame. IsUnderstood (shape form) frame worked.sound.items) (fed.given_frame bytes known faults s0 s u job n file p.feed p.next given told)
+      subst (λ frame. IsUnderstood (shape form) frame worked.sound.items) (fed.given_frame bytes known faults gave s0 s u job n file p.feed p.next given told)
       (is_understood (shape form) (stored_in job) worked.sound.items tail lawful (heard (shape form) job worked tail work is))
 
   pub goes_on : IsShape (shape form) → (n : ℕ) (s s' : StoredFrames S) (t t' : SoundWriter K) (job worked : Job) → IsUnderway n s t →
-      feeding.GivesFrame bytes known faults s job s' → IsWorked (shape form) job worked →
+      feeding.GivesFrame bytes known faults gave s job s' → IsWorked (shape form) job worked →
       draining.TakesSound written room sink_faults t worked t' → IsUnderway (n + 1) s' t'
   goes_on lawful n s s' t t' job worked p given work takes =
-      let within = fed.given_within bytes known faults s0 s s' job n p.feed p.next given in
+      let within = fed.given_within bytes known faults gave s0 s s' job n p.feed p.next given in
       let long = (heard (shape form) job worked takes.tail work takes.answer).means.0.long in
       record {
-        feed = fed.later_on bytes known faults s0 s s' p.feed given.same;
+        feed = fed.later_on bytes known faults gave s0 s s' p.feed given.same;
         drain = drained_on t t' p.drain takes.same;
         next = omega (arith, given.next, p.next);
         few = omega (arith, within);
@@ -99,14 +99,14 @@ module _ {S K : Type 0} (bytes : S → Option (List ℕ)) (known : S → Option 
 
   pub ends_at_job : IsShape (shape form) → (n : ℕ) (s u : StoredFrames S) (t t' : SoundWriter K) (job worked : Job) (fault : DecodeFault) (file : List ℕ) →
       IsUnderway n s t → length s0.walked.now.index ≡ form.frames →
-      feeding.GivesFrame bytes known faults s job u → IsWorked (shape form) job worked → draining.EndsAt written room sink_faults t worked fault t' →
+      feeding.GivesFrame bytes known faults gave s job u → IsWorked (shape form) job worked → draining.EndsAt written room sink_faults t worked fault t' →
       bytes s0.source.now ≡ Some file → IsOpened file form s0.walked.now.index →
       FramesEnd {A = Unit {0}} (Err fault) file form (written t0.sink.now) (written t'.sink.now) (room t0.sink.now) (room t'.sink.now)
   ends_at_job lawful n s u t t' job worked (Frame k fault) file p count given work (refuses, same) told o =
       let before = p.done file told o in
-      let within = fed.given_within bytes known faults s0 s u job n p.feed p.next given in
+      let within = fed.given_within bytes known faults gave s0 s u job n p.feed p.next given in
       let place : n ≡ k = omega (arith, refuses.number, work.number, given.number, p.next) in
-      let offends = subst (λ frame. Offends (shape form) frame fault) (fed.given_frame bytes known faults s0 s u job n file p.feed p.next given told)
+      let offends = subst (λ frame. Offends (shape form) frame fault) (fed.given_frame bytes known faults gave s0 s u job n file p.feed p.next given told)
       (refused (shape form) job worked fault work refuses.answer) in (
         before.0,
         subst (λ k. StopsAt file form k fault before.0) place
@@ -115,7 +115,7 @@ module _ {S K : Type 0} (bytes : S → Option (List ℕ)) (known : S → Option 
       )
   ends_at_job lawful n s u t t' job worked Write file p count given work stop told o =
       let before = p.done file told o in
-      let within = fed.given_within bytes known faults s0 s u job n p.feed p.next given in
+      let within = fed.given_within bytes known faults gave s0 s u job n p.feed p.next given in
       let here = understood s t u job worked n stop.tail file lawful p given work stop.answer told in (
         n + 1,
         before.0 ++ worked.sound.items ∷ [],

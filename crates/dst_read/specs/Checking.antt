@@ -47,9 +47,9 @@ HasSourceCause (Source (Memory refused)) before now = ⊥
 HasSourceCause fault before now = Unit {0}
 
 -- the frames of a feed were worked, and their unread bytes added, up to the first cause to stop
-pub record HasSummed {S : Type 0} (bytes : S → Option (List ℕ)) (known : S → Option ℕ) (faults : S → ℕ) (form : Form) (s s' : StoredFrames S)
+pub record HasSummed {S : Type 0} (bytes : S → Option (List ℕ)) (known : S → Option ℕ) (faults gave : S → ℕ) (form : Form) (s s' : StoredFrames S)
     (result : Result ℕ CheckFault) : Type 0 where
-  pub feed : IsLater bytes known faults s s'
+  pub feed : IsLater bytes known faults gave s s'
   pub cause : IfErr result (λ fault. HasSourceCause fault (faults s.source.now) (faults s'.source.now))
   pub ends : (file : List ℕ) → bytes s.source.now ≡ Some file → TailsEnd result file form
 

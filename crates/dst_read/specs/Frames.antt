@@ -20,9 +20,10 @@ pub record HasRoomFor (f : Shape) (frames : ℕ) (w : Workspace) : Type 0 where
   pub buffer : length w.buffer.items ≡ 65536
 
 -- the frames of a feed were worked, and their sounds drained, up to the first cause to stop
-pub record HasRun {S K : Type 0} (bytes : S → Option (List ℕ)) (known : S → Option ℕ) (faults : S → ℕ) (written : K → Option (List ℕ)) (room : K → Option ℕ)
+pub record HasRun {S K : Type 0} (bytes : S → Option (List ℕ)) (known : S → Option ℕ) (faults gave : S → ℕ) (written : K → Option (List ℕ))
+    (room : K → Option ℕ)
     (sink_faults : K → ℕ) (form : Form) (s s' : StoredFrames S) (t t' : SoundWriter K) (result : Result (Unit {0}) DecodeFault) : Type 0 where
-  pub feed : feeding.IsLater bytes known faults s s'
+  pub feed : feeding.IsLater bytes known faults gave s s'
   pub drain : draining.IsLater sink_faults t t'
   pub cause : IfErr result (λ fault. HasItsCause fault (faults s.source.now) (faults s'.source.now) (sink_faults t.sink.now) (sink_faults t'.sink.now))
   pub ends : (file : List ℕ) → bytes s.source.now ≡ Some file →

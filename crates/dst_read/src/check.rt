@@ -1,5 +1,5 @@
 // Checking a file: nothing is written.
-ghost use Rattle.std.specs.Prelude.{◌≡◌, ◌<◌, ◌≤◌, ℕ, List, [], ◌∷◌, Option, Some, None, IfOk, OnOk, Ok, Err};
+ghost use Rattle.std.specs.Prelude.{◌≡◌, ◌+◌, ◌*◌, ◌<◌, ◌≤◌, ℕ, List, [], ◌∷◌, Option, Some, None, IfOk, OnOk, Ok, Err};
 ghost use Rattle.dst_spec.specs.declared.faults.FrameFault.{FrameFault};
 ghost use Rattle.dst_streams.specs.Causes.{Rose};
 ghost use Rattle.dsdiff_spec.specs.declared.faults.FileFault.{FileFault};
@@ -46,6 +46,9 @@ pub fn check_file<R: Threads + Sync, S: Source, G: Gate>(
         OutcomeOf words.check file (frame_refused k fault []) }
     // a source that failed
     ensures read { result ≡ Err (CheckFault.Source OpenFault.Read) → Rose (S.faults source.old) (S.faults source.new) }
+    // beside opening each stored byte is read once: those of the sound, or of the most and longest frames
+    ensures given { (file : List ℕ) → S.bytes source.old ≡ Some file → S.given source.new ≤ S.given source.old + 208948 + 48000000 + 12000000 + (rules.accepted file).sound.size }
+    ensures given_any { S.given source.new ≤ S.given source.old + 208948 + 48000000 + 12000000 + 1000000 * 225794 }
 {
     let opened = match open_file(alloc, source, &CheckedFile) {
         Ok(opened) => opened,
@@ -77,6 +80,8 @@ fn check_frames<R: Threads + Sync, S: Source, G: Gate>(
     ensures bytes { S.bytes source.new ≡ S.bytes source.old }
     ensures later { S.faults source.old ≤ S.faults source.new }
     ensures read { result ≡ Err (CheckFault.Source OpenFault.Read) → Rose (S.faults source.old) (S.faults source.new) }
+    ensures given { S.given source.new ≤ S.given source.old + walked.now.form.sound.size }
+    ensures given_any { S.given source.new ≤ S.given source.old + 1000000 * 225794 }
     ensures ends { (file : List ℕ) → S.bytes source.old ≡ Some file → CheckingEnds result file }
 {
     let form = &walked.form;

@@ -1,5 +1,5 @@
 // Decoding a coded file.
-ghost use Rattle.std.specs.Prelude.{◌≡◌, ◌⊎◌, ◌≤◌, ◌<◌, ℕ, true, List, length, Option, Some, IfOk, IfErr, OnOk, Err, ◌∷◌, []};
+ghost use Rattle.std.specs.Prelude.{◌≡◌, ◌⊎◌, ◌+◌, ◌^◌, ◌≤◌, ◌<◌, ℕ, true, List, length, Option, Some, IfOk, IfErr, OnOk, Err, ◌∷◌, []};
 ghost use Rattle.std.specs.declared.alloc.AllocError.{AllocError};
 ghost use Rattle.dst_spec.specs.declared.faults.FrameFault.{FrameFault};
 ghost use Rattle.dst_streams.specs.Causes.{Rose};
@@ -62,6 +62,9 @@ pub fn decode_file<R: Threads + Sync, S: Source, K: Sink, G: Gate>(
         (room : ℕ) → K.room sink.old ≡ Some room → length o.out ≤ room → ⊥ }
     // want of memory, before anything is written
     ensures memory { (refused : AllocError) → result ≡ Err (DecodeFault.Source (OpenFault.Memory refused)) → sink.new ≡ sink.old }
+    // beside opening each stored byte is read once: those of the form, or of the largest form
+    ensures given { (file : List ℕ) → S.bytes source.old ≡ Some file → S.given source.new ≤ S.given source.old + 208948 + 48000000 + (accepted file).end }
+    ensures given_any { S.given source.new ≤ S.given source.old + 208948 + 48000000 + (2 ^ 50 + 12) }
 {
     let walked = match open_file(alloc, source, &AllFrames) {
         Ok(walked) => walked,
@@ -90,6 +93,7 @@ fn write_decoded<R: Threads + Sync, S: Source, K: Sink, G: Gate>(
     ensures bytes { S.bytes source.new ≡ S.bytes source.old }
     ensures source_later { S.faults source.old ≤ S.faults source.new }
     ensures sink_later { K.faults sink.old ≤ K.faults sink.new }
+    ensures given { S.given source.new ≤ S.given source.old + walked.now.form.end }
     ensures cause { IfErr result (λ fault. HasItsCause fault (S.faults source.old) (S.faults source.new) (K.faults sink.old) (K.faults sink.new)) }
     ensures done { IfOk result (λ d. d ≡ record { frames = walked.now.form.frames; bytes = size_of_sound (coded_seen walked.now.form) }) }
     ensures settled { IfOk result (λ _. K.settled sink.new ≡ true) }

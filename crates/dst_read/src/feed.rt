@@ -28,11 +28,11 @@ impl<S: Source> Feed<Job> for StoredFrames<'_, S> {
 
     ghost shape = { λ s. feed_shape (S.known s.source.now) s.walked.now.index s.walked.now.form.channels };
 
-    ghost gives = { GivesFrame S.bytes S.known S.faults };
+    ghost gives = { GivesFrame S.bytes S.known S.faults S.given };
 
     ghost ended = { λ s. length s.walked.now.index ≤ s.next };
 
-    ghost failed = { FailsToRead S.bytes S.known S.faults };
+    ghost failed = { FailsToRead S.bytes S.known S.faults S.given };
 
     ghost bound = { λ s. length s.walked.now.index - s.next };
 
@@ -40,14 +40,15 @@ impl<S: Source> Feed<Job> for StoredFrames<'_, S> {
         if self.next >= self.walked.index.length() {
             return Ok(false);
         }
-        let entry = self.walked.index.entry(self.next);
+        let number = self.next;
+        let entry = self.walked.index.entry(number);
+        self.next += 1;
         match read_frame(self.source, entry, &mut job.frame) {
             Ok(()) => {}
             Err(failed) => return Err(failed),
         }
-        job.number = self.next;
+        job.number = number;
         job.size = entry.size;
-        self.next += 1;
         Ok(true)
     }
 }
@@ -59,6 +60,7 @@ fn read_frame<S: Source>(source: &mut S, entry: Entry, frame: &mut [u8]) -> Resu
     requires room { entry.size ≤ length frame.old }
     ensures bytes { S.bytes source.new ≡ S.bytes source.old }
     ensures stays { S.known source.new ≡ S.known source.old }
+    ensures given { S.given source.new ≤ S.given source.old + entry.size }
     ensures cause { HasCause (S.faults source.old) (S.faults source.new) result }
     ensures long { length frame.new ≡ length frame.old }
     ensures frame { OnOk result ((file : List ℕ) → S.bytes source.old ≡ Some file → take entry.size frame.new ≡ frame_at file (entry_seen entry)) }

@@ -1,12 +1,12 @@
 // The frames of a coded file, read, worked and written in order.
-ghost use Rattle.std.specs.Prelude.{◌≡◌, ◌<◌, ◌≤◌, ℕ, List, length, Some, IfOk, IfErr, OnOk};
+ghost use Rattle.std.specs.Prelude.{◌≡◌, ◌+◌, ◌<◌, ◌≤◌, ℕ, List, length, Some, IfOk, IfErr, OnOk};
 ghost use Rattle.dsdiff_spec.specs.Form.{size_of_sound};
 ghost use Rattle.dsdiff_chunks.specs.Forms.{coded_seen};
 ghost use Rattle.frame_crew.specs.Answers.{IfFeedFault, IfDrainFault};
 ghost use Rattle.frame_crew.specs.Runs.{Ran, FailsAtFeed, FailsAtDrain};
 ghost use Rattle.dst_commands.specs.Rooms.{shape_number};
 ghost use Rattle.dst_read.specs.Decoding.{IsOpened, FramesEnd, HasItsCause};
-ghost use Rattle.dst_read.specs.Feeding.{GivesFrame, FailsToRead};
+ghost use Rattle.dst_read.specs.Feeding.{GivesFrame, FailsToRead, bytes_left, frame_bytes};
 ghost use Rattle.dst_read.specs.Frames.{HasRoomFor, HasRun};
 ghost use Rattle.dst_read.specs.Jobs.{AreJobsFor, AreTablesFor, IsWorked};
 
@@ -72,6 +72,7 @@ pub(crate) fn write_frames<R: Threads + Sync, S: Source, K: Sink, G: Gate>(
     requires opened { (file : List ℕ) → S.bytes source.old ≡ Some file → IsOpened file (coded_seen walked.now.form) walked.now.index }
     ensures bytes { S.bytes source.new ≡ S.bytes source.old }
     ensures stays { S.known source.new ≡ S.known source.old }
+    ensures given { S.given source.new ≤ S.given source.old + frame_bytes walked.now.index }
     ensures source_later { S.faults source.old ≤ S.faults source.new }
     ensures sink_later { K.faults sink.old ≤ K.faults sink.new }
     ensures cause { IfErr result (λ fault. HasItsCause fault (S.faults source.old) (S.faults source.new) (K.faults sink.old) (K.faults sink.new)) }
@@ -93,7 +94,7 @@ pub(crate) fn write_frames<R: Threads + Sync, S: Source, K: Sink, G: Gate>(
 
 /// Decodes the stored frames, and drains what became of each, in order.
 ///
-/// There are as many workers as tables. What is drained is what one worker drains.
+/// There are as many workers as tables. What is drained is what one worker drains. No stored byte is read twice.
 pub fn decode_frames<R: Threads + Sync, S: Source, D: Drain<Job>, G: Gate>(
     rt: &R,
     feed: &mut StoredFrames<'_, S>,
@@ -106,11 +107,12 @@ pub fn decode_frames<R: Threads + Sync, S: Source, D: Drain<Job>, G: Gate>(
     requires tables { AreTablesFor feed.old.walked.now.form.channels tables.old }
     requires jobs { AreJobsFor feed.old.walked.now.form.channels jobs.old }
     requires drain_shape { D.shape drain.old ≡ shape_number feed.old.walked.now.form.channels }
-    ensures ran { IfOk result (λ count. Ran (GivesFrame S.bytes S.known S.faults) D.takes (IsWorked feed.old.walked.now.form.channels) feed.old feed.new drain.old drain.new count) }
+    ensures ran { IfOk result (λ count. Ran (GivesFrame S.bytes S.known S.faults S.given) D.takes (IsWorked feed.old.walked.now.form.channels) feed.old feed.new drain.old drain.new count) }
     ensures ended { OnOk result (length feed.new.walked.now.index ≤ feed.new.next) }
-    ensures feed_fault { IfFeedFault result (λ fault. FailsAtFeed (GivesFrame S.bytes S.known S.faults) (FailsToRead S.bytes S.known S.faults) D.takes (IsWorked feed.old.walked.now.form.channels)
+    ensures once { S.given feed.new.source.now ≤ S.given feed.old.source.now + bytes_left feed.old }
+    ensures feed_fault { IfFeedFault result (λ fault. FailsAtFeed (GivesFrame S.bytes S.known S.faults S.given) (FailsToRead S.bytes S.known S.faults S.given) D.takes (IsWorked feed.old.walked.now.form.channels)
         feed.old feed.new drain.old drain.new fault) }
-    ensures drain_fault { IfDrainFault result (λ fault. FailsAtDrain (GivesFrame S.bytes S.known S.faults) (FailsToRead S.bytes S.known S.faults) D.takes D.failed (IsWorked feed.old.walked.now.form.channels)
+    ensures drain_fault { IfDrainFault result (λ fault. FailsAtDrain (GivesFrame S.bytes S.known S.faults S.given) (FailsToRead S.bytes S.known S.faults S.given) D.takes D.failed (IsWorked feed.old.walked.now.form.channels)
         (length jobs.old) feed.old feed.new drain.old drain.new fault) }
 {
     let work = FrameDecoder {
@@ -135,7 +137,7 @@ fn run_frames<R: Threads + Sync, S: Source, K: Sink, G: Gate>(
     requires opened { (file : List ℕ) → S.bytes feed.old.source.now ≡ Some file → IsOpened file (coded_seen feed.old.walked.now.form) feed.old.walked.now.index }
     requires drain_channels { drain.old.channels ≡ feed.old.walked.now.form.channels }
     requires left { drain.old.left ≡ size_of_sound (coded_seen feed.old.walked.now.form) }
-    ensures { HasRun S.bytes S.known S.faults K.written K.room K.faults (coded_seen feed.old.walked.now.form)
+    ensures { HasRun S.bytes S.known S.faults S.given K.written K.room K.faults (coded_seen feed.old.walked.now.form)
         feed.old feed.new drain.old drain.new result }
 {
     match decode_frames(rt, feed, drain, gate, tables, jobs) {

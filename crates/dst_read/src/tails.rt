@@ -1,7 +1,8 @@
 // The frames of a coded file, read and worked in order for their unread bytes.
-ghost use Rattle.std.specs.Prelude.{◌≡◌, ◌<◌, ◌≤◌, ℕ, List, Some, IfErr};
+ghost use Rattle.std.specs.Prelude.{◌≡◌, ◌+◌, ◌<◌, ◌≤◌, ℕ, List, Some, IfErr};
 ghost use Rattle.dsdiff_spec.specs.Walk.{entries};
 ghost use Rattle.dsdiff_chunks.specs.Forms.{coded_seen};
+ghost use Rattle.dst_read.specs.Feeding.{frame_bytes};
 ghost use Rattle.dst_read.specs.Jobs.{AreJobsFor, AreTablesFor};
 ghost use Rattle.dst_read.specs.Checking.{HasSourceCause, TailsEnd, HasSummed};
 
@@ -31,6 +32,7 @@ pub(crate) fn sum_tails<R: Threads + Sync, S: Source, G: Gate>(
     requires walked { (file : List ℕ) → S.bytes source.old ≡ Some file → entries file (coded_seen walked.now.form) ≡ walked.now.index }
     ensures bytes { S.bytes source.new ≡ S.bytes source.old }
     ensures later { S.faults source.old ≤ S.faults source.new }
+    ensures given { S.given source.new ≤ S.given source.old + frame_bytes walked.now.index }
     ensures cause { IfErr result (λ fault. HasSourceCause fault (S.faults source.old) (S.faults source.new)) }
     ensures summed { (file : List ℕ) → S.bytes source.old ≡ Some file → TailsEnd result file (coded_seen walked.now.form) }
 {
@@ -62,7 +64,7 @@ fn run_tails<R: Threads + Sync, S: Source, G: Gate>(
     requires entries { (file : List ℕ) → S.bytes feed.old.source.now ≡ Some file → entries file (coded_seen feed.old.walked.now.form) ≡ feed.old.walked.now.index }
     requires drain_channels { drain.old.channels ≡ feed.old.walked.now.form.channels }
     requires none { drain.old.unread ≡ 0 }
-    ensures { HasSummed S.bytes S.known S.faults (coded_seen feed.old.walked.now.form) feed.old feed.new result }
+    ensures { HasSummed S.bytes S.known S.faults S.given (coded_seen feed.old.walked.now.form) feed.old feed.new result }
 {
     let work = FrameDecoder {
         channels: feed.walked.form.channels,

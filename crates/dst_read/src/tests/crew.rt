@@ -1,4 +1,6 @@
 // Frames that several workers decode and check.
+ghost use Rattle.std.specs.Prelude.{◌<◌, ◌≤◌};
+
 use crate::{CheckFault, Checked, DecodeFault, Decoded, check_file, decode_file};
 use dsdiff_chunks::{FileFault, OpenFault};
 use dst_spec::{FrameFault, Reason};
@@ -6,39 +8,107 @@ use dst_streams::{HonestSource, MemorySink};
 use example_files::{SILENT, chunk, coded, frame, odd_plain, one_frame, two_frames, with_bytes};
 use frame_crew::{Gate, OpenGate};
 use std::alloc::{AllocError, Global};
-use std::sync::atomic::{AtomicBool, Ordering};
+use std::process::Abort;
+use std::sync::atomic::{AtomicU64, Ordering};
 use std::test::Fail;
 use std::thread::Threads;
 
-// Holds the first job until the second has passed.
+// Holds each job until as many jobs as workers were at the gate at once.
 #[derive(Drop)]
 struct Holding {
-    second: AtomicBool,
-    ran_out: AtomicBool,
+    workers: u64,
+    passes: AtomicU64,
+    inside: AtomicU64,
+    most: AtomicU64,
 }
 
 impl Holding {
-    fn new() -> Holding {
+    fn new(workers: u32) -> Holding {
         Holding {
-            second: AtomicBool::new(false),
-            ran_out: AtomicBool::new(false),
+            workers: u64::from(workers),
+            passes: AtomicU64::new(0),
+            inside: AtomicU64::new(0),
+            most: AtomicU64::new(0),
         }
+    }
+
+    // Returns at last also where they don't come: the most that were there tell it.
+    fn wait(&self) {
+        for _ in 0..100_000_000u64 {
+            if self.most.load(Ordering::SeqCst) >= self.workers {
+                return;
+            }
+        }
+    }
+
+    // How often it was passed, and the most that were there at once.
+    fn seen(&self) -> (u64, u64) {
+        (
+            self.passes.load(Ordering::SeqCst),
+            self.most.load(Ordering::SeqCst),
+        )
     }
 }
 
 impl Gate for Holding {
-    fn pass(&self, place: usize) {
-        if place == 1 {
-            self.second.store(true, Ordering::SeqCst);
-            return;
-        }
-        for _ in 0..100_000_000u64 {
-            if self.second.load(Ordering::SeqCst) {
-                return;
-            }
-        }
-        self.ran_out.store(true, Ordering::SeqCst);
+    fn pass(&self, _place: usize) {
+        self.passes.fetch_add(1, Ordering::SeqCst);
+        let others = self.inside.fetch_add(1, Ordering::SeqCst);
+        self.most
+            .fetch_max(others.wrapping_add(1), Ordering::SeqCst);
+        self.wait();
+        self.inside.fetch_sub(1, Ordering::SeqCst);
     }
+}
+
+// A coded file of so many frames, each the same sound as it is.
+fn frames_alike(alloc: Global, count: u32) -> Result<Vec<u8>, AllocError> {
+    let frame = frame(alloc, &[b"\0", &[0x69; 4704]])?;
+    let mut frames = Vec::new(alloc);
+    for _ in 0..count {
+        frames.extend_from_slice(&frame)?;
+    }
+    coded(alloc, count, &[&frames], &[])
+}
+
+// Two frames for each worker are decoded, and checked: each passes the gate, and as many as workers are there at once.
+fn all_work(
+    rt: &(impl Abort + Threads + Sync),
+    alloc: Global,
+    workers: u32,
+) -> Result<(), AllocError>
+    requires { (0 < workers) × (workers ≤ 16) }
+{
+    let frames = 2 * workers;
+    let all = (u64::from(frames), u64::from(workers));
+    let file = frames_alike(alloc, frames)?;
+    let mut source = HonestSource::new(&file);
+    let mut sink = MemorySink::new(alloc, 200_000, &[])?;
+    let gate = Holding::new(workers);
+    let decoded = decode_file(rt, alloc, &mut source, &mut sink, workers, &gate);
+    let done = Decoded {
+        frames,
+        bytes: 4704 * u64::from(frames),
+    };
+    assert_eq!(rt; decoded, Ok(done), "{workers} workers");
+    assert_eq!(rt; gate.seen(), all, "{workers} workers decode");
+    let gate = Holding::new(workers);
+    let checked = check_file(rt, alloc, &mut source, workers, &gate);
+    let sound = Checked { frames, unread: 0 };
+    assert_eq!(rt; checked, Ok(sound), "{workers} workers");
+    assert_eq!(rt; gate.seen(), all, "{workers} workers check");
+    Ok(())
+}
+
+#[test]
+fn as_many_frames_as_workers_are_worked_at_once(rt: HostRuntime) -> Result<(), Fail> {
+    let alloc = rt.alloc();
+    all_work(&rt, alloc, 2)?;
+    all_work(&rt, alloc, 3)?;
+    all_work(&rt, alloc, 4)?;
+    all_work(&rt, alloc, 8)?;
+    all_work(&rt, alloc, 16)?;
+    Ok(())
 }
 
 #[test]
@@ -46,7 +116,7 @@ fn two_frames_are_decoded_and_checked_at_once(rt: HostRuntime) -> Result<(), Fai
     let alloc = rt.alloc();
     let file = two_frames(alloc)?;
     let whole = odd_plain(alloc)?;
-    let gate = Holding::new();
+    let gate = Holding::new(2);
     let mut source = HonestSource::new(&file);
     let mut sink = MemorySink::new(alloc, 10_000, &[])?;
     let decoded = decode_file(&rt, alloc, &mut source, &mut sink, 2, &gate);
@@ -56,15 +126,15 @@ fn two_frames_are_decoded_and_checked_at_once(rt: HostRuntime) -> Result<(), Fai
     };
     assert_eq!(rt; decoded, Ok(done));
     assert!(rt; sink.written() == whole.as_slice());
-    assert!(rt; !gate.ran_out.load(Ordering::SeqCst));
-    let gate = Holding::new();
+    assert_eq!(rt; gate.seen(), (2, 2));
+    let gate = Holding::new(2);
     let checked = check_file(&rt, alloc, &mut source, 2, &gate);
     let sound = Checked {
         frames: 2,
         unread: 0,
     };
     assert_eq!(rt; checked, Ok(sound));
-    assert!(rt; !gate.ran_out.load(Ordering::SeqCst));
+    assert_eq!(rt; gate.seen(), (2, 2));
     Ok(())
 }
 

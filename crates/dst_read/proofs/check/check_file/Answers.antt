@@ -1,5 +1,5 @@
 -- Clause by clause what checking comes to.
-use Rattle.std.proofs.Common.{◌≡◌, ℕ, List, [], ◌∷◌, Option, Some, Result, Ok, Err, IfOk, ap, refl, sym, subst, ◌∙◌}
+use Rattle.std.proofs.Common.{◌≡◌, ℕ, List, [], ◌∷◌, Option, Some, Result, Ok, Err, IfOk, ap, refl, sym, subst, ◌∙◌, arith}
 use Rattle.dsdiff_spec.specs.Form.{Form}
 use Rattle.dsdiff_spec.specs.Rules.{accepted}
 use Rattle.dsdiff_spec.specs.Refusal.{form_refusal}
@@ -73,3 +73,8 @@ returns-in-Coded-clause-file g c fault e file told = subst (λ r. CheckingEnds r
 
 pub returns-in-Coded-clause-frame : goal.returns-in-Coded-clause-frame
 returns-in-Coded-clause-frame g c k fault e file told = subst (λ r. CheckingEnds r file) e (c.check_frames.ensures.ends file (c.in-Ok.ensures.bytes ∙ told))
+
+pub returns-in-Coded-clause-given : goal.returns-in-Coded-clause-given
+returns-in-Coded-clause-given g c file told =
+    let is = subst (IsAny file) c.in-Coded.is (c.in-Ok.ensures.opened file told) in
+    omega (arith, c.in-Ok.ensures.given, c.check_frames.ensures.given, ap (λ (f : Form). f.sound.size) is.form_is)

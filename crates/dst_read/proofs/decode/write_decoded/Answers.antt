@@ -1,5 +1,5 @@
 -- In front of the sound, the sound, behind it.
-use Rattle.std.proofs.Common.{◌≡◌, Err, refl, sym, subst, ◌∙◌}
+use Rattle.std.proofs.Common.{◌≡◌, Err, refl, sym, subst, ◌∙◌, arith}
 use Rattle.dsdiff_spec.specs.Pieces.{decoded_front, decoded_end}
 use Rattle.dsdiff_chunks.specs.Forms.{coded_seen}
 use Rattle.dsdiff_chunks.specs.declared.copy.CopyFault.{CopyFault}
@@ -7,6 +7,8 @@ use Rattle.dst_read.specs.Decoding.{DecodingEnds}
 use Rattle.dst_commands.specs.Writing.{Adds, Stops}
 use Rattle.dst_read.proofs.Stopping.{head_of, head_is_front, ends_at_device}
 use Rattle.dst_read.proofs.Ending.{ends_in_frames, ends_at_end, ends_unsettled, ends_done}
+use Rattle.dst_commands.proofs.Taken.{parts_of_form}
+use Rattle.dst_read.proofs.Once.{stored_in_sound}
 use Rattle.dst_read.proofs.decode.write_decoded.Goals as goal
 
 pub returns-in-Err-clause-written : goal.returns-in-Err-clause-written
@@ -84,3 +86,27 @@ returns-clause-written g c file told =
           c.sound_size-size.result;
     }) file form c.args.walked.now.index frames.0 _ _ _ _ _ _ _ _ _ (c.requires.opened file told) frames.1 front frames.2 behind
     c.finish.ensures.written refl c.sound_size-size.ensures.size
+
+-- ---- what is read: each part once
+pub returns-in-Err-clause-given : goal.returns-in-Err-clause-given
+returns-in-Err-clause-given g c = omega (arith, c.write_front.ensures.given, parts_of_form (coded_seen c.args.walked.now.form) c.args.walked.now.form.lawful)
+
+pub returns-in-Err-write_frames-clause-given : goal.returns-in-Err-write_frames-clause-given
+returns-in-Err-write_frames-clause-given g c =
+    let parts = parts_of_form (coded_seen c.args.walked.now.form) c.args.walked.now.form.lawful in
+    omega (arith, c.write_front.ensures.given, c.write_frames.ensures.given, parts, stored_in_sound c.args.walked.now)
+
+pub returns-in-Err-write_end-clause-given : goal.returns-in-Err-write_end-clause-given
+returns-in-Err-write_end-clause-given g c =
+    let parts = parts_of_form (coded_seen c.args.walked.now.form) c.args.walked.now.form.lawful in
+    omega (arith, c.write_front.ensures.given, c.write_frames.ensures.given, c.write_end.ensures.given, parts, stored_in_sound c.args.walked.now)
+
+pub returns-in_default-finish-clause-given : goal.returns-in_default-finish-clause-given
+returns-in_default-finish-clause-given g c =
+    let parts = parts_of_form (coded_seen c.args.walked.now.form) c.args.walked.now.form.lawful in
+    omega (arith, c.write_front.ensures.given, c.write_frames.ensures.given, c.write_end.ensures.given, parts, stored_in_sound c.args.walked.now)
+
+pub returns-clause-given : goal.returns-clause-given
+returns-clause-given g c =
+    let parts = parts_of_form (coded_seen c.args.walked.now.form) c.args.walked.now.form.lawful in
+    omega (arith, c.write_front.ensures.given, c.write_frames.ensures.given, c.write_end.ensures.given, parts, stored_in_sound c.args.walked.now)
