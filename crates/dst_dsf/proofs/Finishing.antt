@@ -18,7 +18,7 @@ use Rattle.dst_dsf.specs.Rows.{rows_of}
 use Rattle.dst_dsf.specs.Gathering.{HasTaken}
 use Rattle.dst_dsf.specs.Frames.{RowsEnd, FramesEnd, IsStoppedInRows, HasRun, HasWritten}
 
-module _ {S K : Type 0} (bytes : S → Option (List ℕ)) (known : S → Option ℕ) (faults : S → ℕ) (written : K → Option (List ℕ)) (room : K → Option ℕ)
+module _ {S K : Type 0} (bytes : S → Option (List ℕ)) (known : S → Option ℕ) (faults gave : S → ℕ) (written : K → Option (List ℕ)) (room : K → Option ℕ)
     (sink_faults : K → ℕ) (form : Form) (s s' : StoredFrames S) (t t' : RowWriter K) where
   -- it stopped in the frames
   rows_stopped : (fault : DecodeFault) (file : List ℕ) (old : Option (List ℕ)) (before : Option ℕ) → t'.row.form ≡ t.row.form →
@@ -46,8 +46,8 @@ module _ {S K : Type 0} (bytes : S → Option (List ℕ)) (known : S → Option 
         (written t'.sink.now) before) same stop),
   )
 
-  pub stopped : (fault : DecodeFault) → HasRun bytes known faults written room sink_faults form s s' t t' (Err fault) →
-      HasWritten bytes known faults written room sink_faults form s s' t t' (Err fault)
+  pub stopped : (fault : DecodeFault) → HasRun bytes known faults gave written room sink_faults form s s' t t' (Err fault) →
+      HasWritten bytes known faults gave written room sink_faults form s s' t t' (Err fault)
   stopped fault h = record {
     feed = h.feed;
     lent = h.drain.lent;
@@ -57,11 +57,11 @@ module _ {S K : Type 0} (bytes : S → Option (List ℕ)) (known : S → Option 
   }
 
   -- all frames are gathered, and the last row is written, or the sink fails at it
-  pub finished : (u : RowWriter K) → HasRun bytes known faults written room sink_faults form s s' t t' (Ok tt) → u.sink.ghost_name ≡ t'.sink.ghost_name →
+  pub finished : (u : RowWriter K) → HasRun bytes known faults gave written room sink_faults form s s' t t' (Ok tt) → u.sink.ghost_name ≡ t'.sink.ghost_name →
       sink_faults t'.sink.now ≤ sink_faults u.sink.now →
       ((sound : List ℕ) (old : Option (List ℕ)) (before : Option ℕ) → HasTaken written room sound old before t' →
       Adds (rows_of (dsf_seen t'.row.form) sound (rows (dsf_seen t'.row.form))) old (written u.sink.now) before (room u.sink.now)) →
-      HasWritten bytes known faults written room sink_faults form s s' t u (Ok tt)
+      HasWritten bytes known faults gave written room sink_faults form s s' t u (Ok tt)
   finished u h lent later adds = record {
     feed = h.feed;
     lent = lent ∙ h.drain.lent;
@@ -77,11 +77,11 @@ module _ {S K : Type 0} (bytes : S → Option (List ℕ)) (known : S → Option 
         );
   }
 
-  pub unfinished : (u : RowWriter K) → HasRun bytes known faults written room sink_faults form s s' t t' (Ok tt) → u.sink.ghost_name ≡ t'.sink.ghost_name →
+  pub unfinished : (u : RowWriter K) → HasRun bytes known faults gave written room sink_faults form s s' t t' (Ok tt) → u.sink.ghost_name ≡ t'.sink.ghost_name →
       sink_faults t'.sink.now ≤ sink_faults u.sink.now → Rose (sink_faults t'.sink.now) (sink_faults u.sink.now) →
       ((sound : List ℕ) (old : Option (List ℕ)) (before : Option ℕ) → HasTaken written room sound old before t' →
       Stops (Unit {0}) (rows_of (dsf_seen t'.row.form) sound (rows (dsf_seen t'.row.form))) old (written u.sink.now) before) →
-      HasWritten bytes known faults written room sink_faults form s s' t u (Err Write)
+      HasWritten bytes known faults gave written room sink_faults form s s' t u (Err Write)
   unfinished u h lent later rose stops = record {
     feed = h.feed;
     lent = lent ∙ h.drain.lent;

@@ -51,7 +51,7 @@ sound_in_frames form lawful = go form.origin (coded_parts (coded_seen form) form
     go (Some o) h = (needed (sound_bytes_of (coded_seen form)) o.sound form.frames
         (some_bytes (shape (coded_seen form)) (subst IsShape (sym form.shape) lawful)) h.count).0
 
-module _ {S K : Type 0} (bytes : S → Option (List ℕ)) (known : S → Option ℕ) (faults : S → ℕ) (written : K → Option (List ℕ)) (room : K → Option ℕ)
+module _ {S K : Type 0} (bytes : S → Option (List ℕ)) (known : S → Option ℕ) (faults gave : S → ℕ) (written : K → Option (List ℕ)) (room : K → Option ℕ)
     (sink_faults : K → ℕ) (form : Form) (s0 : StoredFrames S) (t0 : RowWriter K) where
   -- so many frames are decoded and gathered
   pub record AreGathered (file : List ℕ) (n : ℕ) (sounds : List (List ℕ)) (t : RowWriter K) : Type 0 where
@@ -59,7 +59,7 @@ module _ {S K : Type 0} (bytes : S → Option (List ℕ)) (known : S → Option 
     pub taken : HasTaken written room (sound_of form sounds) (written t0.sink.now) (room t0.sink.now) t
 
   pub record IsUnderway (n : ℕ) (s : StoredFrames S) (t : RowWriter K) : Type 0 where
-    pub feed : feeding.IsLater bytes known faults s0 s
+    pub feed : feeding.IsLater bytes known faults gave s0 s
     pub drain : draining.IsLater sink_faults t0 t
     pub next : s.next ≡ n
     pub few : n ≤ length s0.walked.now.index
@@ -70,7 +70,7 @@ module _ {S K : Type 0} (bytes : S → Option (List ℕ)) (known : S → Option 
 
   pub begins : s0.next ≡ 0 → t0.row.size ≡ size_of_sound form → HasTaken written room [] (written t0.sink.now) (room t0.sink.now) t0 → IsUnderway 0 s0 t0
   begins first size h = record {
-    feed = fed.is_itself bytes known faults s0;
+    feed = fed.is_itself bytes known faults gave s0;
     drain = record { lent = refl; form_is = refl; size_is = refl; later = omega arith };
     next = first;
     few = omega arith;
@@ -99,11 +99,11 @@ module _ {S K : Type 0} (bytes : S → Option (List ℕ)) (known : S → Option 
   }
 
   understood : (s : StoredFrames S) (t : RowWriter K) (u : StoredFrames S) (job worked : Job) (n tail : ℕ) (file : List ℕ) → IsShape (shape form) →
-      IsUnderway n s t → feeding.GivesFrame bytes known faults s job u →
+      IsUnderway n s t → feeding.GivesFrame bytes known faults gave s job u →
       IsWorked (shape form) job worked → worked.answer ≡ Ok tail → bytes s0.source.now ≡ Some file →
       IsUnderstood (shape form) (frame_at file (entry s0.walked.now.index n)) worked.sound.items
   understood s t u job worked n tail file lawful p given work answered told =
-      subst (λ frame. IsUnderstood (shape form) frame worked.sound.items) (fed.given_frame bytes known faults s0 s u job n file p.feed p.next given told)
+      subst (λ frame. IsUnderstood (shape form) frame worked.sound.items) (fed.given_frame bytes known faults gave s0 s u job n file p.feed p.next given told)
       (is_understood (shape form) (stored_in job) worked.sound.items tail lawful (heard (shape form) job worked tail work answered))
 
   -- the part of one more sound
@@ -115,14 +115,14 @@ module _ {S K : Type 0} (bytes : S → Option (List ℕ)) (known : S → Option 
       ∙ sym (sound_of_frame file form n sounds worked.sound.items h (omega (arith, few, count_is file form s0.walked.now.index o)))
 
   pub goes_on : IsShape (shape form) → (n : ℕ) (s s' : StoredFrames S) (t t' : RowWriter K) (job worked : Job) → IsUnderway n s t →
-      feeding.GivesFrame bytes known faults s job s' → IsWorked (shape form) job worked →
+      feeding.GivesFrame bytes known faults gave s job s' → IsWorked (shape form) job worked →
       draining.TakesSound written room sink_faults t worked t' → IsUnderway (n + 1) s' t'
   goes_on lawful n s s' t t' job worked p given work takes =
-      let within = fed.given_within bytes known faults s0 s s' job n p.feed p.next given in
+      let within = fed.given_within bytes known faults gave s0 s s' job n p.feed p.next given in
       let long : length worked.sound.items ≡ sound_bytes_of form = (heard (shape form) job worked takes.tail work takes.answer).means.0.long in
       let part = length-take (t.row.size - t.row.taken) worked.sound.items in
       record {
-        feed = fed.later_on bytes known faults s0 s s' p.feed given.same;
+        feed = fed.later_on bytes known faults gave s0 s s' p.feed given.same;
         drain = drained_on t t' p.drain takes.same;
         next = omega (arith, given.next, p.next);
         few = omega (arith, within);
@@ -181,15 +181,15 @@ module _ {S K : Type 0} (bytes : S → Option (List ℕ)) (known : S → Option 
 
   pub ends_at_job : IsShape (shape form) → (n : ℕ) (s u : StoredFrames S) (t t' : RowWriter K) (job worked : Job) (fault : DecodeFault) (file : List ℕ) →
       IsUnderway n s t → length s0.walked.now.index ≡ form.frames →
-      feeding.GivesFrame bytes known faults s job u → IsWorked (shape form) job worked → draining.IsLater sink_faults t t' →
+      feeding.GivesFrame bytes known faults gave s job u → IsWorked (shape form) job worked → draining.IsLater sink_faults t t' →
       draining.EndsAt written room sink_faults t worked fault t' →
       bytes s0.source.now ≡ Some file → IsOpened file form s0.walked.now.index →
       RowsEnd written room (Err fault) file form (written t0.sink.now) (room t0.sink.now) t'
   ends_at_job lawful n s u t t' job worked (Frame k fault) file p count given work later (refuses, same) told o =
       let before = p.done file told o in
-      let within = fed.given_within bytes known faults s0 s u job n p.feed p.next given in
+      let within = fed.given_within bytes known faults gave s0 s u job n p.feed p.next given in
       let place : n ≡ k = omega (arith, refuses.number, work.number, given.number, p.next) in
-      let offends = subst (λ frame. Offends (shape form) frame fault) (fed.given_frame bytes known faults s0 s u job n file p.feed p.next given told)
+      let offends = subst (λ frame. Offends (shape form) frame fault) (fed.given_frame bytes known faults gave s0 s u job n file p.feed p.next given told)
       (refused (shape form) job worked fault work refuses.answer) in (
         before.0,
         subst (λ k. StopsAt file form k fault before.0) place
@@ -202,7 +202,7 @@ module _ {S K : Type 0} (bytes : S → Option (List ℕ)) (known : S → Option 
       )
   ends_at_job lawful n s u t t' job worked Write file p count given work later stop told o =
       let before = p.done file told o in
-      let within = fed.given_within bytes known faults s0 s u job n p.feed p.next given in
+      let within = fed.given_within bytes known faults gave s0 s u job n p.feed p.next given in
       let here = understood s t u job worked n stop.tail file lawful p given work stop.answer told in
       let fails = subst (λ w. FailsAtRow (dsf_seen t.row.form) w (written t0.sink.now) (written t'.sink.now) (room t0.sink.now))
       (part_is t worked n file before.0 p.few p.left o before.1.decoded)

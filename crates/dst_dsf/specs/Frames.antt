@@ -36,9 +36,10 @@ RowsEnd written room (Err fault) file form old before t =
     × IsStoppedInRows (fault ≡ Write) (dsf_seen t.row.form) (sound_of form sounds) old (written t.sink.now) before
 
 -- the frames of a feed were decoded, and their sounds drained, up to the first cause to stop
-pub record HasRun {S K : Type 0} (bytes : S → Option (List ℕ)) (known : S → Option ℕ) (faults : S → ℕ) (written : K → Option (List ℕ)) (room : K → Option ℕ)
+pub record HasRun {S K : Type 0} (bytes : S → Option (List ℕ)) (known : S → Option ℕ) (faults gave : S → ℕ) (written : K → Option (List ℕ))
+    (room : K → Option ℕ)
     (sink_faults : K → ℕ) (form : Form) (s s' : StoredFrames S) (t t' : RowWriter K) (result : Result (Unit {0}) DecodeFault) : Type 0 where
-  pub feed : feeding.IsLater bytes known faults s s'
+  pub feed : feeding.IsLater bytes known faults gave s s'
   pub drain : draining.IsLater sink_faults t t'
   pub all : OnOk result (t'.row.taken ≡ t'.row.size)
   pub cause : IfErr result (λ fault. HasItsCause fault (faults s.source.now) (faults s'.source.now) (sink_faults t.sink.now) (sink_faults t'.sink.now))
@@ -58,9 +59,10 @@ FramesEnd (Err fault) file form d old new room left =
     ⊎ ((k ≡ form.frames) × Stops (fault ≡ Write) (rows_of d (sound_of form sounds) (rows d)) old new room))
 
 -- and so of a feed and a drain
-pub record HasWritten {S K : Type 0} (bytes : S → Option (List ℕ)) (known : S → Option ℕ) (faults : S → ℕ) (written : K → Option (List ℕ)) (room : K → Option ℕ)
+pub record HasWritten {S K : Type 0} (bytes : S → Option (List ℕ)) (known : S → Option ℕ) (faults gave : S → ℕ) (written : K → Option (List ℕ))
+    (room : K → Option ℕ)
     (sink_faults : K → ℕ) (form : Form) (s s' : StoredFrames S) (t t' : RowWriter K) (result : Result (Unit {0}) DecodeFault) : Type 0 where
-  pub feed : feeding.IsLater bytes known faults s s'
+  pub feed : feeding.IsLater bytes known faults gave s s'
   pub lent : t'.sink.ghost_name ≡ t.sink.ghost_name
   pub later : sink_faults t.sink.now ≤ sink_faults t'.sink.now
   pub cause : IfErr result (λ fault. HasItsCause fault (faults s.source.now) (faults s'.source.now) (sink_faults t.sink.now) (sink_faults t'.sink.now))

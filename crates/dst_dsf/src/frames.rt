@@ -65,7 +65,7 @@ fn run_rows<R: Threads + Sync, S: Source, K: Sink, G: Gate>(
     requires drain_channels { drain.old.row.form.channels ≡ feed.old.walked.now.form.channels }
     requires drain_size { drain.old.row.size ≡ size_of_sound (coded_seen feed.old.walked.now.form) }
     requires begins { HasTaken K.written K.room [] (K.written drain.old.sink.now) (K.room drain.old.sink.now) drain.old }
-    ensures { HasWritten S.bytes S.known S.faults K.written K.room K.faults (coded_seen feed.old.walked.now.form)
+    ensures { HasWritten S.bytes S.known S.faults S.given K.written K.room K.faults (coded_seen feed.old.walked.now.form)
         feed.old feed.new drain.old drain.new result }
 {
     if let Err(fault) = run_frames(rt, feed, drain, gate, tables, jobs) {
@@ -94,7 +94,7 @@ fn run_frames<R: Threads + Sync, S: Source, K: Sink, G: Gate>(
     requires drain_channels { drain.old.row.form.channels ≡ feed.old.walked.now.form.channels }
     requires drain_size { drain.old.row.size ≡ size_of_sound (coded_seen feed.old.walked.now.form) }
     requires begins { HasTaken K.written K.room [] (K.written drain.old.sink.now) (K.room drain.old.sink.now) drain.old }
-    ensures { HasRun S.bytes S.known S.faults K.written K.room K.faults (coded_seen feed.old.walked.now.form)
+    ensures { HasRun S.bytes S.known S.faults S.given K.written K.room K.faults (coded_seen feed.old.walked.now.form)
         feed.old feed.new drain.old drain.new result }
 {
     match decode_frames(rt, feed, drain, gate, tables, jobs) {

@@ -8,7 +8,7 @@ use Rattle.dst_dsf.proofs.frames.run_frames.Goals as goal
 pub returns-in-Ok : goal.returns-in-Ok
 returns-in-Ok g c =
     let walked = c.args.feed.now.walked.now in
-    run_ended g.S.Source.bytes g.S.Source.known g.S.Source.faults g.K.Sink.written g.K.Sink.room g.K.Sink.faults
+    run_ended g.S.Source.bytes g.S.Source.known g.S.Source.faults g.S.Source.given g.K.Sink.written g.K.Sink.room g.K.Sink.faults
     (coded_seen walked.form) walked.form.channels c.args.feed.now c.args.drain.now
     (record {
       same = walked.form.shape;
@@ -26,7 +26,7 @@ returns-in-Ok g c =
 pub returns-in-Err-Feed : goal.returns-in-Err-Feed
 returns-in-Err-Feed g c =
     let walked = c.args.feed.now.walked.now in
-    run_at_read g.S.Source.bytes g.S.Source.known g.S.Source.faults g.K.Sink.written g.K.Sink.room g.K.Sink.faults
+    run_at_read g.S.Source.bytes g.S.Source.known g.S.Source.faults g.S.Source.given g.K.Sink.written g.K.Sink.room g.K.Sink.faults
     (coded_seen walked.form) walked.form.channels c.args.feed.now c.args.drain.now
     (record {
       same = walked.form.shape;
@@ -45,7 +45,7 @@ returns-in-Err-Feed g c =
 pub returns-in-Err-Drain : goal.returns-in-Err-Drain
 returns-in-Err-Drain g c =
     let walked = c.args.feed.now.walked.now in
-    run_at_job g.S.Source.bytes g.S.Source.known g.S.Source.faults g.K.Sink.written g.K.Sink.room g.K.Sink.faults
+    run_at_job g.S.Source.bytes g.S.Source.known g.S.Source.faults g.S.Source.given g.K.Sink.written g.K.Sink.room g.K.Sink.faults
     (coded_seen walked.form) walked.form.channels c.args.feed.now c.args.drain.now
     (record {
       same = walked.form.shape;
