@@ -32,6 +32,7 @@ pub record AreCutOut (form : Form) (es : List Entry) (first last : ℕ) : Type 0
   pub some : 30 ≤ (entry es first).offset
   pub order : begins es first ≤ ends es form last
   pub inside : ends es form last ≤ form.end
+  pub short : ends es form last - begins es first ≤ form.sound.size
   pub most : form.end ≤ 2 ^ 50 + 12
   pub from : (k : ℕ) → first ≤ k → k < length es → (entry es first).offset ≤ (entry es k).offset
   pub to : (k : ℕ) → k < length es → (entry es k).offset ≤ form.end
@@ -48,20 +49,22 @@ are_cut_out form es first last lawful h order there =
       long = l;
       some = omega (arith, here.behind);
       order = stops.0;
-      inside = stops.1;
+      inside = omega (arith, stops.1, sound);
+      short = omega (arith, stops.1, here.behind);
       most = lawful.end;
       from = λ k le within. rises form es h (k - first) first k (omega (arith, le)) within;
       to = λ k within. omega (arith, (h.inside k within).before, sound);
     }
   where
     go : last < length es → first < length es → body_end form.sound ≤ form.end → (b : Bool) → is_last form last ≡ b →
-        (begins es first ≤ (if b then body_end form.sound else begins es (last + 1))) × ((if b then body_end form.sound else begins es (last + 1)) ≤ form.end)
-    go l f sound true e = (omega (arith, (h.inside first f).before), sound)
+        (begins es first ≤ (if b then body_end form.sound else begins es (last + 1)))
+        × ((if b then body_end form.sound else begins es (last + 1)) ≤ body_end form.sound)
+    go l f sound true e = (omega (arith, (h.inside first f).before), omega arith)
     go l f sound false e =
         let not_last = eqb-false form.frames (last + 1) e in
         let next : last + 1 < length es = omega (arith, l, h.count, not_last) in (
           omega (arith, rises form es h (last + 1 - first) first (last + 1) (omega (arith, order)) next),
-          omega (arith, (h.inside (last + 1) next).before, sound),
+          omega (arith, (h.inside (last + 1) next).before),
         )
 
 -- ---- the entries of the frames that are cut out

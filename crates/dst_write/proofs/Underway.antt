@@ -25,7 +25,7 @@ use Rattle.dst_write.specs.Draining as draining
 use Rattle.dst_write.proofs.Feeding as fed
 use Rattle.dst_write.proofs.Coding.{frames_in, frame_for, frame_at_number, length-frames, one_more_size}
 
-module _ {S K : Type 0} (bytes : S → Option (List ℕ)) (known : S → Option ℕ) (loan : S → Loan) (faults : S → ℕ) (written : K → Option (List ℕ))
+module _ {S K : Type 0} (bytes : S → Option (List ℕ)) (known : S → Option ℕ) (loan : S → Loan) (faults gave : S → ℕ) (written : K → Option (List ℕ))
     (appended : K → ℕ) (room : K → Option ℕ) (sink_faults : K → ℕ) (picks : Picks) (s0 : SoundPieces S) (t0 : FrameWriter K) where
   abbrev form : PlainForm
   form = s0.form.now
@@ -37,7 +37,7 @@ module _ {S K : Type 0} (bytes : S → Option (List ℕ)) (known : S → Option 
 
   -- so many pieces are stored and written
   pub record IsUnderway (n : ℕ) (s : SoundPieces S) (t : FrameWriter K) : Type 0 where
-    pub feed : feeding.IsLater bytes known loan faults s0 s
+    pub feed : feeding.IsLater bytes known loan faults gave s0 s
     pub drain : draining.IsLater appended sink_faults t0 t
     pub next : s.next ≡ n
     pub few : n ≤ form.frames
@@ -46,7 +46,7 @@ module _ {S K : Type 0} (bytes : S → Option (List ℕ)) (known : S → Option 
 
   pub begins : s0.next ≡ 0 → IsUnderway 0 s0 t0
   begins first = record {
-    feed = fed.is_itself bytes known loan faults s0;
+    feed = fed.is_itself bytes known loan faults gave s0;
     drain = record { lent = refl; sizes_lent = refl; long = refl; grows = omega arith; later = omega arith };
     next = first;
     few = omega arith;
@@ -66,29 +66,29 @@ module _ {S K : Type 0} (bytes : S → Option (List ℕ)) (known : S → Option 
 
   -- what the work left of a piece is the frame of its number
   stored_frame : (n : ℕ) (s u : SoundPieces S) (t : FrameWriter K) (job worked : Job) (file : List ℕ) → IsUnderway n s t →
-      feeding.GivesPiece bytes known loan faults s job u → IsStored form.channels picks job worked →
+      feeding.GivesPiece bytes known loan faults gave s job u → IsStored form.channels picks job worked →
       bytes s0.source.now ≡ Some file → form.end ≤ length file → frame_in worked ≡ get_or (frames_in picks file form) n []
   stored_frame n s u t job worked file p given work told whole =
-      let within = fed.given_within bytes known loan faults s0 s u job n p.feed p.next given in
-      work.frame ∙ ap (frame_for picks form.channels) (fed.given_piece bytes known loan faults s0 s u job n file p.feed p.next given told)
+      let within = fed.given_within bytes known loan faults gave s0 s u job n p.feed p.next given in
+      work.frame ∙ ap (frame_for picks form.channels) (fed.given_piece bytes known loan faults gave s0 s u job n file p.feed p.next given told)
       ∙ sym (frame_at_number picks file form n whole within)
 
   numbered : (n : ℕ) (s u : SoundPieces S) (t : FrameWriter K) (job worked : Job) → IsUnderway n s t →
-      feeding.GivesPiece bytes known loan faults s job u → IsStored form.channels picks job worked → worked.number ≡ n
+      feeding.GivesPiece bytes known loan faults gave s job u → IsStored form.channels picks job worked → worked.number ≡ n
   numbered n s u t job worked p given work = work.number ∙ given.number ∙ p.next
 
   pub goes_on : length t0.sizes.now ≡ form.frames → (n : ℕ) (s s' : SoundPieces S) (t t' : FrameWriter K) (job worked : Job) → IsUnderway n s t →
-      feeding.GivesPiece bytes known loan faults s job s' →
+      feeding.GivesPiece bytes known loan faults gave s job s' →
       IsStored form.channels picks job worked → draining.TakesFrame written appended room sink_faults t worked t' → IsUnderway (n + 1) s' t'
   goes_on count n s s' t t' job worked p given work takes =
-      let within = fed.given_within bytes known loan faults s0 s s' job n p.feed p.next given in
+      let within = fed.given_within bytes known loan faults gave s0 s s' job n p.feed p.next given in
       let inside : n < length t.sizes.now = omega (arith, within, count, p.drain.long) in
       let noted : t'.sizes.now ≡ set t.sizes.now n worked.size = takes.noted
       ∙ ap (λ k. set t.sizes.now k worked.size) (numbered n s s' t job worked p given work) in
       let more : take (n + 1) t'.sizes.now ≡ take n t.sizes.now ++ worked.size ∷ [] = ap (take (n + 1)) noted
       ∙ take_more_set t.sizes.now n worked.size inside in
       record {
-        feed = fed.later_on bytes known loan faults s0 s s' p.feed given.same;
+        feed = fed.later_on bytes known loan faults gave s0 s s' p.feed given.same;
         drain = drained_on t t' p.drain takes.same;
         next = omega (arith, given.next, p.next);
         few = omega (arith, within);
@@ -136,13 +136,13 @@ module _ {S K : Type 0} (bytes : S → Option (List ℕ)) (known : S → Option 
       (stops_behind (Source Read ≡ Write) (flat_map dstf (take n frames)) _ _ _ _ (λ e. absurd cc) (p.done file told whole).adds)
 
   pub ends_at_write : (n : ℕ) (s u : SoundPieces S) (t t' : FrameWriter K) (job worked : Job) (fault : EncodeFault) (file : List ℕ) →
-      IsUnderway n s t → feeding.GivesPiece bytes known loan faults s job u →
+      IsUnderway n s t → feeding.GivesPiece bytes known loan faults gave s job u →
       IsStored form.channels picks job worked → draining.FailsAtFrame written appended room sink_faults t worked fault t' →
       bytes s0.source.now ≡ Some file → form.end ≤ length file →
       FramesEnd (Err fault) (frames_in picks file form) t'.sizes.now (written t0.sink.now) (written t'.sink.now) (room t0.sink.now) (room t'.sink.now)
   ends_at_write n s u t t' job worked fault file p given work fails told whole =
       let frames = frames_in picks file form in
-      let within = fed.given_within bytes known loan faults s0 s u job n p.feed p.next given in
+      let within = fed.given_within bytes known loan faults gave s0 s u job n p.feed p.next given in
       let l : n < length frames = omega (arith, within, length-frames picks file form whole) in
       let is = stored_frame n s u t job worked file p given work told whole in
       stops_in_part (fault ≡ Write) dstf frames n [] (dstf (frame_in worked)) _ _ _ _ _ l (ap dstf is) (p.done file told whole).adds

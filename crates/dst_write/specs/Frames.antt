@@ -23,10 +23,10 @@ pub record HasRoomFor (f : Shape) (frames : ℕ) (w : Workspace) : Type 0 where
   pub buffer : length w.buffer.items ≡ 65536
 
 -- the pieces of a feed were stored, and drained as frames, up to the first cause to stop
-pub record HasRun {S K : Type 0} (bytes : S → Option (List ℕ)) (known : S → Option ℕ) (loan : S → Loan) (faults : S → ℕ)
+pub record HasRun {S K : Type 0} (bytes : S → Option (List ℕ)) (known : S → Option ℕ) (loan : S → Loan) (faults gave : S → ℕ)
     (written : K → Option (List ℕ)) (appended : K → ℕ) (room : K → Option ℕ) (sink_faults : K → ℕ)
     (picks : Picks) (s s' : SoundPieces S) (t t' : FrameWriter K) (result : Result (Unit {0}) EncodeFault) : Type 0 where
-  pub feed : feeding.IsLater bytes known loan faults s s'
+  pub feed : feeding.IsLater bytes known loan faults gave s s'
   pub drain : draining.IsLater appended sink_faults t t'
   pub short : OnOk result (All (λ n. n ≤ 1 + sound_bytes s.form.now.channels) t'.sizes.now)
   pub cause : IfErr result (λ fault. HasItsCause fault (faults s.source.now) (faults s'.source.now) (sink_faults t.sink.now) (sink_faults t'.sink.now))

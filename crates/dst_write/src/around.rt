@@ -6,7 +6,7 @@ ghost use Rattle.dsdiff_spec.specs.Coded.{origin_of_plain};
 ghost use Rattle.dsdiff_spec.specs.Written.{dsti, frte};
 ghost use Rattle.dsdiff_chunks.specs.Forms.{plain_seen};
 ghost use Rattle.dsdiff_chunks.specs.declared.copy.CopyFault.{CopyFault};
-ghost use Rattle.dst_commands.specs.Passing.{FailedBy};
+ghost use Rattle.dst_commands.specs.Passing.{bytes_on, FailedBy};
 ghost use Rattle.dst_commands.specs.Writing.{Adds, Stops};
 ghost use Rattle.dst_write.specs.Layout as layout;
 
@@ -30,6 +30,7 @@ pub(crate) fn write_front<S: Source, K: Sink>(
     ensures bytes { S.bytes source.new ≡ S.bytes source.old }
     ensures loan { S.loan source.new ≡ S.loan source.old }
     ensures stays { S.known source.new ≡ S.known source.old }
+    ensures given { S.given source.new ≤ S.given source.old + bytes_on Side.Before (plain_seen form.now) }
     ensures source_later { S.faults source.old ≤ S.faults source.new }
     ensures sink_later { K.faults sink.old ≤ K.faults sink.new }
     ensures appended { OnOk result ((file : List ℕ) → form.now.end ≤ length file → K.appended sink.new ≡ K.appended sink.old + length (layout.front file (plain_seen form.now))) }
@@ -79,6 +80,7 @@ pub(crate) fn write_end<S: Source, K: Sink>(
     ensures bytes { S.bytes source.new ≡ S.bytes source.old }
     ensures loan { S.loan source.new ≡ S.loan source.old }
     ensures stays { S.known source.new ≡ S.known source.old }
+    ensures given { S.given source.new ≤ S.given source.old + bytes_on Side.Behind (plain_seen form.now) }
     ensures source_later { S.faults source.old ≤ S.faults source.new }
     ensures sink_later { K.faults sink.old ≤ K.faults sink.new }
     ensures appended { OnOk result (K.appended sink.old ≤ K.appended sink.new) }

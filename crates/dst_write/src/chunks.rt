@@ -3,7 +3,7 @@ ghost use Rattle.std.specs.Prelude.{◌≡◌, ◌+◌, ◌≤◌, ◌<◌, ◌^
 ghost use Rattle.dsdiff_spec.specs.Written.{cmpr_coded};
 ghost use Rattle.dsdiff_chunks.specs.Forms.{plain_seen};
 ghost use Rattle.dsdiff_chunks.specs.declared.copy.CopyFault.{CopyFault};
-ghost use Rattle.dst_commands.specs.Passing.{chunks_on, FailedBy};
+ghost use Rattle.dst_commands.specs.Passing.{bytes_on, chunks_on, FailedBy};
 ghost use Rattle.dst_commands.specs.Writing.{Adds, Stops};
 
 use dsdiff_chunks::{CopyFault, PlainForm};
@@ -38,6 +38,7 @@ pub(crate) fn write_side<S: Source, K: Sink>(
     ensures bytes { S.bytes source.new ≡ S.bytes source.old }
     ensures loan { S.loan source.new ≡ S.loan source.old }
     ensures stays { S.known source.new ≡ S.known source.old }
+    ensures given { S.given source.new ≤ S.given source.old + bytes_on side (plain_seen form.now) }
     ensures source_later { S.faults source.old ≤ S.faults source.new }
     ensures sink_later { K.faults sink.old ≤ K.faults sink.new }
     ensures appended { OnOk result ((file : List ℕ) → form.now.end ≤ length file → K.appended sink.new ≡ K.appended sink.old + length (chunks_on side (Some cmpr_coded) file (plain_seen form.now))) }

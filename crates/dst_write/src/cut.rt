@@ -1,11 +1,12 @@
 // Cutting frames out of a coded file.
-ghost use Rattle.std.specs.Prelude.{◌≡◌, ◌⊎◌, ◌≤◌, ◌<◌, ℕ, List, length, true, Option, Some, IfOk, IfErr, OnOk, Err, ◌∷◌, []};
+ghost use Rattle.std.specs.Prelude.{◌≡◌, ◌⊎◌, ◌+◌, ◌^◌, ◌≤◌, ◌<◌, ℕ, List, length, true, Option, Some, IfOk, IfErr, OnOk, Err, ◌∷◌, []};
 ghost use Rattle.std.specs.declared.alloc.AllocError.{AllocError};
 ghost use Rattle.dst_streams.specs.Causes.{Rose};
 ghost use Rattle.dst_streams.specs.Told.{IsCutShort, and_then};
 ghost use Rattle.dsdiff_spec.specs.declared.faults.FileFault.{FileFault};
 ghost use Rattle.dsdiff_spec.specs.Lines.{cut_line};
 ghost use Rattle.dsdiff_spec.specs.Words as words;
+ghost use Rattle.dsdiff_spec.specs.Rules.{accepted};
 ghost use Rattle.dsdiff_spec.specs.Refusal.{refusal};
 ghost use Rattle.dsdiff_spec.specs.Outcome.{Answer, done};
 ghost use Rattle.dsdiff_spec.specs.Walk.{entries};
@@ -72,6 +73,9 @@ pub fn cut_file<S: Source, K: Sink>(
         (room : ℕ) → K.room sink.old ≡ Some room → length o.out ≤ room → ⊥ }
     // want of memory, before anything is written
     ensures memory { (refused : AllocError) → result ≡ Err (CutFault.Source (OpenFault.Memory refused)) → sink.new ≡ sink.old }
+    // beside opening each stored byte is read once: those of the form, or of the largest form
+    ensures given { (file : List ℕ) → S.bytes source.old ≡ Some file → S.given source.new ≤ S.given source.old + 208948 + 48000000 + (accepted file).end }
+    ensures given_any { S.given source.new ≤ S.given source.old + 208948 + 48000000 + (2 ^ 50 + 12) }
 {
     let rules = CutFrames { first, last };
     let cut = match open_file(alloc, source, &rules) {
@@ -100,6 +104,7 @@ fn write_cut<S: Source, K: Sink>(
     requires buffer { length buffer.old ≡ 65536 }
     requires size { (n : ℕ) × (S.known source.old ≡ Some n) × (cut.now.form.end ≤ n) }
     ensures bytes { S.bytes source.new ≡ S.bytes source.old }
+    ensures given { S.given source.new ≤ S.given source.old + cut.now.form.end }
     ensures source_later { S.faults source.old ≤ S.faults source.new }
     ensures sink_later { K.faults sink.old ≤ K.faults sink.new }
     ensures cause { IfErr result (λ fault. HasItsCause fault (S.faults source.old) (S.faults source.new) (K.faults sink.old) (K.faults sink.new)) }

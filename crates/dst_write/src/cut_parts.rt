@@ -1,10 +1,10 @@
 // The parts of a cut file, in the order in which they are written.
-ghost use Rattle.std.specs.Prelude.{◌≡◌, ◌≤◌, ◌<◌, ◌^◌, ℕ, List, length, Some, IfErr, MatchResult};
+ghost use Rattle.std.specs.Prelude.{◌≡◌, ◌+◌, ◌≤◌, ◌<◌, ◌^◌, ℕ, List, length, Some, IfErr, MatchResult};
 ghost use Rattle.dst_streams.specs.Causes.{HasCause};
 ghost use Rattle.dsdiff_spec.specs.Written.{dsti};
 ghost use Rattle.dsdiff_chunks.specs.Forms.{coded_seen};
 ghost use Rattle.dsdiff_chunks.specs.declared.copy.CopyFault.{CopyFault};
-ghost use Rattle.dst_commands.specs.Passing.{FailedBy};
+ghost use Rattle.dst_commands.specs.Passing.{bytes_on, FailedBy};
 ghost use Rattle.dst_commands.specs.Writing.{Adds, Stops};
 ghost use Rattle.dst_write.specs.CutLayout as layout;
 
@@ -24,6 +24,7 @@ pub(crate) fn write_front<S: Source, K: Sink>(
     requires size { (n : ℕ) × (S.known source.old ≡ Some n) × (cut.now.form.end ≤ n) }
     ensures bytes { S.bytes source.new ≡ S.bytes source.old }
     ensures stays { S.known source.new ≡ S.known source.old }
+    ensures given { S.given source.new ≤ S.given source.old + bytes_on Side.Before (coded_seen cut.now.form) }
     ensures source_later { S.faults source.old ≤ S.faults source.new }
     ensures sink_later { K.faults sink.old ≤ K.faults sink.new }
     ensures cause { IfErr result (λ fault. FailedBy fault (S.faults source.old) (S.faults source.new) (K.faults sink.old) (K.faults sink.new)) }
@@ -55,6 +56,7 @@ fn pass_side<S: Source, K: Sink>(
     requires size { (n : ℕ) × (S.known source.old ≡ Some n) × (cut.now.form.end ≤ n) }
     ensures bytes { S.bytes source.new ≡ S.bytes source.old }
     ensures stays { S.known source.new ≡ S.known source.old }
+    ensures given { S.given source.new ≤ S.given source.old + bytes_on side (coded_seen cut.now.form) }
     ensures source_later { S.faults source.old ≤ S.faults source.new }
     ensures sink_later { K.faults sink.old ≤ K.faults sink.new }
     ensures cause { IfErr result (λ fault. FailedBy fault (S.faults source.old) (S.faults source.new) (K.faults sink.old) (K.faults sink.new)) }
@@ -93,6 +95,7 @@ pub(crate) fn write_frames<S: Source, K: Sink>(
     requires size { (n : ℕ) × (S.known source.old ≡ Some n) × (cut.now.form.end ≤ n) }
     ensures bytes { S.bytes source.new ≡ S.bytes source.old }
     ensures stays { S.known source.new ≡ S.known source.old }
+    ensures given { S.given source.new ≤ S.given source.old + cut.now.form.sound.size }
     ensures source_later { S.faults source.old ≤ S.faults source.new }
     ensures sink_later { K.faults sink.old ≤ K.faults sink.new }
     ensures cause { IfErr result (λ fault. FailedBy fault (S.faults source.old) (S.faults source.new) (K.faults sink.old) (K.faults sink.new)) }
@@ -120,6 +123,7 @@ pub(crate) fn write_end<S: Source, K: Sink>(
     requires size { (n : ℕ) × (S.known source.old ≡ Some n) × (cut.now.form.end ≤ n) }
     ensures bytes { S.bytes source.new ≡ S.bytes source.old }
     ensures stays { S.known source.new ≡ S.known source.old }
+    ensures given { S.given source.new ≤ S.given source.old + bytes_on Side.Behind (coded_seen cut.now.form) }
     ensures source_later { S.faults source.old ≤ S.faults source.new }
     ensures sink_later { K.faults sink.old ≤ K.faults sink.new }
     ensures cause { IfErr result (λ fault. FailedBy fault (S.faults source.old) (S.faults source.new) (K.faults sink.old) (K.faults sink.new)) }

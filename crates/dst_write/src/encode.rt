@@ -1,5 +1,5 @@
 // Encoding a plain file.
-ghost use Rattle.std.specs.Prelude.{◌≡◌, ◌⊎◌, ◌≤◌, ◌<◌, ℕ, List, length, true, Some, None, IfOk, IfErr, OnOk, Err};
+ghost use Rattle.std.specs.Prelude.{◌≡◌, ◌⊎◌, ◌+◌, ◌^◌, ◌≤◌, ◌<◌, ℕ, List, length, true, Some, None, IfOk, IfErr, OnOk, Err};
 ghost use Rattle.std.specs.declared.alloc.AllocError.{AllocError};
 ghost use Rattle.dst_streams.specs.Causes.{Rose};
 ghost use Rattle.dst_streams.specs.Told.{and_then};
@@ -67,6 +67,9 @@ pub fn encode_file<R: Threads + Sync, S: Source, K: Sink, P: Picker + Sync, G: G
     // want of memory, before anything is written; and so it is of a file that is refused, whatever fails
     ensures memory { (refused : AllocError) → result ≡ Err (EncodeFault.Source (OpenFault.Memory refused)) → sink.new ≡ sink.old }
     ensures refused { (file : List ℕ) → S.bytes source.old ≡ Some file → (level : ℕ) (fault : FileFault) → refusal (encode level) file ≡ Some fault → sink.new ≡ sink.old }
+    // beside opening each stored byte is read once: those of the form, or of the largest form
+    ensures given { (file : List ℕ) → S.bytes source.old ≡ Some file → S.given source.new ≤ S.given source.old + 208948 + (accepted file).end }
+    ensures given_any { S.given source.new ≤ S.given source.old + 208948 + (2 ^ 50 + 12) }
 {
     let form = match open_file(alloc, source, &PlainFile) {
         Ok(form) => form,
@@ -93,6 +96,7 @@ fn write_encoded<R: Threads + Sync, S: Source, K: Sink, P: Picker + Sync, G: Gat
     requires room { HasRoomFor form.now.channels form.now.frames workspace.old }
     ensures bytes { S.bytes source.new ≡ S.bytes source.old }
     ensures loan { S.loan source.new ≡ S.loan source.old }
+    ensures given { S.given source.new ≤ S.given source.old + form.now.end }
     ensures source_later { S.faults source.old ≤ S.faults source.new }
     ensures sink_later { K.faults sink.old ≤ K.faults sink.new }
     ensures cause { IfErr result (λ fault. HasItsCause fault (S.faults source.old) (S.faults source.new) (K.faults sink.old) (K.faults sink.new)) }

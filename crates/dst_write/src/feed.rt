@@ -1,5 +1,5 @@
 // Where the jobs come from: the pieces of a plain form's sound, in order.
-ghost use Rattle.std.specs.Prelude.{◌≡◌, ◌-◌, ◌<◌, ◌≤◌, ◌++◌, ℕ, List, length, take, replicate, Some, OnOk};
+ghost use Rattle.std.specs.Prelude.{◌≡◌, ◌+◌, ◌-◌, ◌*◌, ◌<◌, ◌≤◌, ◌++◌, ℕ, min, List, length, take, replicate, Some, OnOk};
 ghost use Rattle.dst_spec.specs.Sample.{sound_bytes};
 ghost use Rattle.dst_streams.specs.Causes.{HasCause};
 ghost use Rattle.dsdiff_spec.specs.Chunks.{body_of};
@@ -28,11 +28,11 @@ impl<S: Source> Feed<Job> for SoundPieces<'_, S> {
 
     ghost shape = { λ s. feed_shape (S.known s.source.now) s.form.now.end s.form.now.channels };
 
-    ghost gives = { GivesPiece S.bytes S.known S.loan S.faults };
+    ghost gives = { GivesPiece S.bytes S.known S.loan S.faults S.given };
 
     ghost ended = { λ s. s.form.now.frames ≤ s.next };
 
-    ghost failed = { FailsToRead S.bytes S.known S.loan S.faults };
+    ghost failed = { FailsToRead S.bytes S.known S.loan S.faults S.given };
 
     ghost bound = { λ s. s.form.now.frames - s.next };
 
@@ -40,12 +40,13 @@ impl<S: Source> Feed<Job> for SoundPieces<'_, S> {
         if self.next >= self.form.frames {
             return Ok(false);
         }
-        match read_piece(self.source, self.form, self.next, &mut job.sound) {
+        let number = self.next;
+        self.next += 1;
+        match read_piece(self.source, self.form, number, &mut job.sound) {
             Ok(()) => {}
             Err(failed) => return Err(failed),
         }
-        job.number = self.next;
-        self.next += 1;
+        job.number = number;
         Ok(true)
     }
 }
@@ -63,6 +64,7 @@ fn read_piece<S: Source>(
     ensures bytes { S.bytes source.new ≡ S.bytes source.old }
     ensures loan { S.loan source.new ≡ S.loan source.old }
     ensures stays { S.known source.new ≡ S.known source.old }
+    ensures given { S.given source.new ≤ S.given source.old + min (form.now.sound.size - number * length sound.old) (length sound.old) }
     ensures cause { HasCause (S.faults source.old) (S.faults source.new) result }
     ensures long { length sound.new ≡ length sound.old }
     ensures piece { OnOk result ((file : List ℕ) → S.bytes source.old ≡ Some file →

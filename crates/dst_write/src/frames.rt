@@ -74,6 +74,7 @@ pub(crate) fn write_frames<R: Threads + Sync, S: Source, K: Sink, P: Picker + Sy
     ensures bytes { S.bytes source.new ≡ S.bytes source.old }
     ensures loan { S.loan source.new ≡ S.loan source.old }
     ensures stays { S.known source.new ≡ S.known source.old }
+    ensures given { S.given source.new ≤ S.given source.old + form.now.sound.size }
     ensures source_later { S.faults source.old ≤ S.faults source.new }
     ensures sink_later { K.faults sink.old ≤ K.faults sink.new }
     ensures appended { K.appended sink.old ≤ K.appended sink.new }
@@ -112,7 +113,7 @@ fn run_frames<R: Threads + Sync, S: Source, K: Sink, P: Picker + Sync, G: Gate>(
     requires jobs { AreJobsFor feed.old.form.now.channels jobs.old }
     requires drain_channels { drain.old.channels ≡ feed.old.form.now.channels }
     requires sizes { length drain.old.sizes.now ≡ feed.old.form.now.frames }
-    ensures { HasRun S.bytes S.known S.loan S.faults K.written K.appended K.room K.faults (P.picks picker.now)
+    ensures { HasRun S.bytes S.known S.loan S.faults S.given K.written K.appended K.room K.faults (P.picks picker.now)
         feed.old feed.new drain.old drain.new result }
 {
     let each = FrameStorer {

@@ -1,5 +1,6 @@
 -- Each answer is one of opening, or one of writing.
-use Rattle.std.proofs.Common.{◌≡◌, inl, inr, ℕ, List, length, Option, Some, None, Result, Ok, Err, refl, ap, sym, subst, ◌∙◌}
+use Rattle.std.proofs.Common.{◌≡◌, inl, inr, ℕ, List, length, Option, Some, None, Result, Ok, Err, refl, ap, sym, subst, ◌∙◌, arith}
+use Rattle.dsdiff_spec.specs.Form.{Form}
 use Rattle.dsdiff_spec.specs.Refusal.{form_refusal}
 use Rattle.dsdiff_spec.specs.Words as words
 use Rattle.dsdiff_chunks.specs.declared.open.OpenFault.{OpenFault}
@@ -56,3 +57,19 @@ returns-clause-sure g c e file told =
     let ends = c.in-Err-write_cut.ensures.written file (c.in-Ok.ensures.bytes ∙ told) is.entries_are in
     cut_lacks (c.in-Err-write_cut.fault ≡ Write) file c.args.first c.args.last cut (g.K.Sink.written c.args.sink.now)
     (g.K.Sink.written c.write_cut.new.sink) (g.K.Sink.room c.args.sink.now) none is (of_fault c.in-Err-write_cut.fault Write e) ends
+
+pub returns-in-Ok-write_cut-clause-given : goal.returns-in-Ok-write_cut-clause-given
+returns-in-Ok-write_cut-clause-given g c file told =
+    let end = ap (λ (f : Form). f.end) (c.in-Ok.ensures.opened file told).form_is in
+    omega (arith, c.in-Ok.ensures.given, c.write_cut.ensures.given, end)
+
+pub returns-in-Ok-write_cut-clause-given_any : goal.returns-in-Ok-write_cut-clause-given_any
+returns-in-Ok-write_cut-clause-given_any g c = omega (arith, c.in-Ok.ensures.given, c.write_cut.ensures.given, c.in-Ok.cut.form.lawful.end)
+
+pub returns-clause-given : goal.returns-clause-given
+returns-clause-given g c file told =
+    let end = ap (λ (f : Form). f.end) (c.in-Ok.ensures.opened file told).form_is in
+    omega (arith, c.in-Ok.ensures.given, c.write_cut.ensures.given, end)
+
+pub returns-clause-given_any : goal.returns-clause-given_any
+returns-clause-given_any g c = omega (arith, c.in-Ok.ensures.given, c.write_cut.ensures.given, c.in-Ok.cut.form.lawful.end)

@@ -8,6 +8,7 @@ use Rattle.dst_write.specs.CutLayout.{front, frames, end, whole}
 use Rattle.dst_write.specs.Cutting.{cut_bytes}
 use Rattle.dst_write.specs.declared.cut.CutFault.{CutFault}
 use Rattle.dst_write.specs.declared.cut.CutFault.TheVariants.{Write}
+use Rattle.dst_commands.proofs.Taken.{parts_of_form}
 use Rattle.dst_write.proofs.CutOutcome.{of_write, parts_are}
 use Rattle.dst_write.proofs.cut.write_cut.Goals as goal
 
@@ -94,3 +95,25 @@ returns-in-Err-finish-clause-written g c file told is =
     stops_same P (a ++ b ++ d) (cut_bytes file cut) _ _ _ (parts_are file cut is fits)
     (stops_for (Unit {0}) P (a ++ b ++ d) _ _ _ (λ e. tt {0})
     (stops_unsettled (a ++ b ++ d) _ _ _ _ _ all c.in-Err-finish.ensures.written c.in-Err-finish.ensures.sure))
+
+pub returns-in-Err-clause-given : goal.returns-in-Err-clause-given
+returns-in-Err-clause-given g c = omega (arith, parts_of_form (coded_seen c.args.cut.now.form) c.args.cut.now.form.lawful, c.write_front.ensures.given)
+
+pub returns-in-Err-write_frames-clause-given : goal.returns-in-Err-write_frames-clause-given
+returns-in-Err-write_frames-clause-given g c =
+    omega (arith, parts_of_form (coded_seen c.args.cut.now.form) c.args.cut.now.form.lawful, c.write_front.ensures.given, c.write_frames.ensures.given)
+
+pub returns-in-Err-write_end-clause-given : goal.returns-in-Err-write_end-clause-given
+returns-in-Err-write_end-clause-given g c =
+    omega (arith, parts_of_form (coded_seen c.args.cut.now.form) c.args.cut.now.form.lawful, c.write_front.ensures.given, c.write_frames.ensures.given,
+    c.write_end.ensures.given)
+
+pub returns-in-Ok-clause-given : goal.returns-in-Ok-clause-given
+returns-in-Ok-clause-given g c =
+    omega (arith, parts_of_form (coded_seen c.args.cut.now.form) c.args.cut.now.form.lawful, c.write_front.ensures.given, c.write_frames.ensures.given,
+    c.write_end.ensures.given)
+
+pub returns-in-Err-finish-clause-given : goal.returns-in-Err-finish-clause-given
+returns-in-Err-finish-clause-given g c =
+    omega (arith, parts_of_form (coded_seen c.args.cut.now.form) c.args.cut.now.form.lawful, c.write_front.ensures.given, c.write_frames.ensures.given,
+    c.write_end.ensures.given)

@@ -65,3 +65,21 @@ returns-in-Err-write_pad-clause-written g c file told =
     (c.in_default.ensures.copied file told) c.in_default.ensures.sure))
     (stops_same P (padding c.sound_size.result) _ _ _ _ (ap padding c.sound_size.ensures.size)
     (stops_for (Unit {0}) P (padding c.sound_size.result) _ _ _ (λ e. tt {0}) c.in-Err-write_pad.ensures.written))
+
+pub returns-in-Err-clause-given : goal.returns-in-Err-clause-given
+returns-in-Err-clause-given g c =
+    let cut = c.args.cut.now in
+    let a = are_cut_out (coded_seen cut.form) cut.index cut.first cut.last cut.form.lawful cut.fits cut.order cut.there in
+    omega (arith, c.copy_range.ensures.given, c.begins.ensures, c.ends.ensures, a.short)
+
+pub returns-in-Ok-clause-given : goal.returns-in-Ok-clause-given
+returns-in-Ok-clause-given g c =
+    let cut = c.args.cut.now in
+    let a = are_cut_out (coded_seen cut.form) cut.index cut.first cut.last cut.form.lawful cut.fits cut.order cut.there in
+    omega (arith, c.copy_range.ensures.given, c.begins.ensures, c.ends.ensures, a.short)
+
+pub returns-in-Err-write_pad-clause-given : goal.returns-in-Err-write_pad-clause-given
+returns-in-Err-write_pad-clause-given g c =
+    let cut = c.args.cut.now in
+    let a = are_cut_out (coded_seen cut.form) cut.index cut.first cut.last cut.form.lawful cut.fits cut.order cut.there in
+    omega (arith, c.copy_range.ensures.given, c.begins.ensures, c.ends.ensures, a.short)

@@ -1,5 +1,5 @@
 -- Each answer is one of opening, or one of writing.
-use Rattle.std.proofs.Common.{◌≡◌, inl, inr, ℕ, List, Option, Some, None, Result, Ok, Err, IfOk, refl, sym, subst, ◌∙◌}
+use Rattle.std.proofs.Common.{◌≡◌, inl, inr, ℕ, List, Option, Some, None, Result, Ok, Err, IfOk, ap, refl, sym, subst, ◌∙◌, arith}
 use Rattle.dsdiff_spec.specs.Form.{Form}
 use Rattle.dsdiff_spec.specs.Coded.{Picks, coded, stored_bytes}
 use Rattle.dsdiff_spec.specs.Refusal.{form_refusal, refusal}
@@ -103,3 +103,12 @@ returns-clause-refused g c file told level fault e =
 
 pub returns-clause-write_accepted : goal.returns-clause-write_accepted
 returns-clause-write_accepted g c e file told level = rules_of_encode level file ∙ c.in-Ok.ensures.accepted file told
+
+-- what is read
+pub returns-clause-given : goal.returns-clause-given
+returns-clause-given g c file told =
+    let end = ap (λ (f : Form). f.end) (c.in-Ok.ensures.opened file told) in
+    omega (arith, c.in-Ok.ensures.given, c.write_encoded.ensures.given, end)
+
+pub returns-clause-given_any : goal.returns-clause-given_any
+returns-clause-given_any g c = omega (arith, c.in-Ok.ensures.given, c.write_encoded.ensures.given, c.in-Ok.form.lawful.end)

@@ -11,6 +11,7 @@ use Rattle.dst_commands.proofs.Writing.{adds_then, stops_for, stops_first, stops
 use Rattle.dst_write.specs.Encoding.{of_device}
 use Rattle.dst_write.specs.Layout.{end, form_size, front, sound_size}
 use Rattle.dst_write.specs.declared.faults.EncodeFault.TheVariants.{Write}
+use Rattle.dst_commands.proofs.Taken.{parts_of_form}
 use Rattle.dst_write.proofs.Pieces.{some_file}
 use Rattle.dst_write.proofs.Sized.{length-front}
 use Rattle.dst_write.proofs.Ending.{all_added, sizes_as, stored_count, stopped_short, stopped_at_sizes, ended_whole}
@@ -134,3 +135,25 @@ returns-in-Err-write_sizes-clause-written g c file told =
     (c.form_size.ensures file fits ∙ ap (λ (w : List ℕ). form_size w file form) sizes)
     c.in-Err-write_sizes.ensures.written)
     c.in-Err-write_sizes.ensures.sure
+
+pub returns-in-Err-clause-given : goal.returns-in-Err-clause-given
+returns-in-Err-clause-given g c = omega (arith, parts_of_form (plain_seen c.args.form.now) c.args.form.now.lawful, c.write_front.ensures.given)
+
+pub returns-in-Err-write_frames-clause-given : goal.returns-in-Err-write_frames-clause-given
+returns-in-Err-write_frames-clause-given g c =
+    omega (arith, parts_of_form (plain_seen c.args.form.now) c.args.form.now.lawful, c.write_front.ensures.given, c.write_frames.ensures.given)
+
+pub returns-in-Err-write_end-clause-given : goal.returns-in-Err-write_end-clause-given
+returns-in-Err-write_end-clause-given g c =
+    omega (arith, parts_of_form (plain_seen c.args.form.now) c.args.form.now.lawful, c.write_front.ensures.given, c.write_frames.ensures.given,
+    c.write_end.ensures.given)
+
+pub returns-in-Ok-clause-given : goal.returns-in-Ok-clause-given
+returns-in-Ok-clause-given g c =
+    omega (arith, parts_of_form (plain_seen c.args.form.now) c.args.form.now.lawful, c.write_front.ensures.given, c.write_frames.ensures.given,
+    c.write_end.ensures.given)
+
+pub returns-in-Err-write_sizes-clause-given : goal.returns-in-Err-write_sizes-clause-given
+returns-in-Err-write_sizes-clause-given g c =
+    omega (arith, parts_of_form (plain_seen c.args.form.now) c.args.form.now.lawful, c.write_front.ensures.given, c.write_frames.ensures.given,
+    c.write_end.ensures.given)

@@ -58,3 +58,13 @@ returns-clause-piece g c = λ file told.
     ∙ piece_read n f.sound.size place k count file (omega (arith, at.begins)) (omega (arith, whole, at.ends, size.2)) c.min-count.ensures
     ∙ ap (λ n. piece_of n (body_of file (head_seen f.sound)) k) c.requires.room
     ∙ ap (piece_of (sound_bytes f.channels) (body_of file (head_seen f.sound))) c.from.ensures
+
+pub returns-in-Err-clause-given : goal.returns-in-Err-clause-given
+returns-in-Err-clause-given g c =
+    let place = ap (λ k. k * length c.args.sound.now) c.from.ensures in
+    omega (arith, c.read_range.ensures.given, length-take c.min-count.result c.args.sound.now, c.min-count.ensures, place)
+
+pub returns-clause-given : goal.returns-clause-given
+returns-clause-given g c =
+    let place = ap (λ k. k * length c.args.sound.now) c.from.ensures in
+    omega (arith, c.read_range.ensures.given, length-take c.min-count.result c.args.sound.now, c.min-count.ensures, place)

@@ -8,7 +8,8 @@ pub returns-in-Ok : goal.returns-in-Ok
 returns-in-Ok g c =
     let size = c.requires.size in
     let source = c.args.feed.now.source.now in
-    run_ended g.S.Source.bytes g.S.Source.known g.S.Source.loan g.S.Source.faults g.K.Sink.written g.K.Sink.appended g.K.Sink.room g.K.Sink.faults
+    run_ended g.S.Source.bytes g.S.Source.known g.S.Source.loan g.S.Source.faults g.S.Source.given g.K.Sink.written g.K.Sink.appended g.K.Sink.room
+    g.K.Sink.faults
     (g.P.Picker.picks c.args.picker.now) c.args.feed.now c.args.drain.now
     (record {
       first = c.requires.first;
@@ -22,7 +23,8 @@ pub returns-in-Err-Feed : goal.returns-in-Err-Feed
 returns-in-Err-Feed g c =
     let size = c.requires.size in
     let source = c.args.feed.now.source.now in
-    run_at_read g.S.Source.bytes g.S.Source.known g.S.Source.loan g.S.Source.faults g.K.Sink.written g.K.Sink.appended g.K.Sink.room g.K.Sink.faults
+    run_at_read g.S.Source.bytes g.S.Source.known g.S.Source.loan g.S.Source.faults g.S.Source.given g.K.Sink.written g.K.Sink.appended g.K.Sink.room
+    g.K.Sink.faults
     (g.P.Picker.picks c.args.picker.now) c.args.feed.now c.args.drain.now
     (record {
       first = c.requires.first;
@@ -37,7 +39,8 @@ pub returns-in-Err-Drain : goal.returns-in-Err-Drain
 returns-in-Err-Drain g c =
     let size = c.requires.size in
     let source = c.args.feed.now.source.now in
-    run_at_job g.S.Source.bytes g.S.Source.known g.S.Source.loan g.S.Source.faults g.K.Sink.written g.K.Sink.appended g.K.Sink.room g.K.Sink.faults
+    run_at_job g.S.Source.bytes g.S.Source.known g.S.Source.loan g.S.Source.faults g.S.Source.given g.K.Sink.written g.K.Sink.appended g.K.Sink.room
+    g.K.Sink.faults
     (g.P.Picker.picks c.args.picker.now) c.args.feed.now c.args.drain.now
     (record {
       first = c.requires.first;
