@@ -12,17 +12,17 @@ use Rattle.dsdiff_spec.specs.Form.{sound_bytes_of}
 use Rattle.dsdiff_spec.specs.Rules.{accepted}
 use Rattle.dsdiff_spec.specs.Words.{Command, encode, decode, cut, frame, check, show, show_frame, index, make, make_run, encode_dsf, decode_dsf, range}
 use Rattle.dsdiff_spec.specs.Refusal.{refusal}
-use Rattle.dsdiff_spec.specs.Lines.{Line, report}
+use Rattle.dsdiff_spec.specs.Lines.{Line, report, memory_line}
 use Rattle.dsdiff_spec.specs.Outcome.{Answer, done, file_refused, frame_refused, OfCommand}
 use Rattle.dsdiff_spec.proofs.Stopping.{One}
 use Rattle.dsdiff_spec.proofs.OneAnswer.{HasOutcome, command_has_one_outcome}
 use Rattle.dst_tool.specs.declared.answers.Numbers.{Numbers}
 use Rattle.dst_tool.specs.declared.answers.Fault.{Fault}
 use Rattle.dst_tool.specs.declared.answers.Fault.TheVariants.{Read, Write, Memory, Report, File, Frame}
-use Rattle.dst_tool.specs.Answers.{status_of, done_line, fault_line, line_of}
+use Rattle.dst_tool.specs.Answers.{status_of, done_line, fault_line, line_of, TellsOneLine}
 use Rattle.dst_commands.specs.Commands.{OutcomeOf}
 use Rattle.dst_tool.specs.Runs.{WholeOf, PartOf, EndsAsOne, EndsBy, Reports, WritesNowhere, ReadsNothing, WritesFile, most_given, longest_sound}
-use Rattle.dst_tool.specs.Runs.{Counts, Held, IsRun}
+use Rattle.dst_tool.specs.Runs.{Counts, Held, IsCaused, IsRun}
 use Rattle.dst_tool.proofs.Statuses.{status_is_done, status_is_read, status_is_write, status_is_memory, status_is_file, status_is_frame}
 use Rattle.dst_tool.proofs.Statuses.{status_is_not_words, status_is_below}
 use Rattle.dst_commands.proofs.Writing.{and_then-nothing}
@@ -134,6 +134,7 @@ pub record TellsLine (status : ℕ) (line : Line) (result : ℕ) (counts : Count
   pub whole : result ≡ status → told.new ≡ and_then told.old (report (line ∷ []))
   pub cut_short : result ≡ 7 → IsCutShort told.old (report (line ∷ [])) told.new
   pub cause : result ≡ 7 → Rose counts.before counts.now
+  pub later : counts.before ≤ counts.now
   pub sure : result ≡ 7 → (n : ℕ) → told.room ≡ Some n → length (report (line ∷ [])) ≤ n → ⊥
 
 -- ---- the run
@@ -143,7 +144,10 @@ IsNoFileFault r =
     (r ≡ Err Read → ⊥) × ((fault : FileFault) → r ≡ Err (File fault) → ⊥) × ((k : ℕ) (fault : FrameFault) → r ≡ Err (Frame k fault) → ⊥)
 
 pub record HasCauses (c : Command) (r : Result Numbers Fault) (bytes : Option (List ℕ)) (source sink given : Counts) (written : Held)
-    (Same Settled Unread : Type 0) : Type 0 where
+    (Same Settled Unread Kept : Type 0) : Type 0 where
+  pub bytes_stay : Kept
+  pub later_source : source.before ≤ source.now
+  pub later_sink : sink.before ≤ sink.now
   pub read : r ≡ Err Read → Rose source.before source.now
   pub write : r ≡ Err Write → Rose sink.before sink.now
   pub sure : r ≡ Err Write → (file : List ℕ) → bytes ≡ Some file → (o : Answer) → OutcomeOf c file o → (n : ℕ) → written.room ≡ Some n → length o.out ≤ n → ⊥
@@ -158,17 +162,27 @@ pub record HasCauses (c : Command) (r : Result Numbers Fault) (bytes : Option (L
   pub any_source : (k : ℕ) → c ≡ frame k true → given.now ≤ given.before + most_given longest_sound
   pub no_report : r ≡ Err Report → ⊥
 
+-- a read fault and a write fault of an answer have their cause
+caused : (c : Command) (r : Result Numbers Fault) (bytes : Option (List ℕ)) (source sink given : Counts) (written : Held)
+    (Same Settled Unread Kept : Type 0) → HasCauses c r bytes source sink given written Same Settled Unread Kept →
+    IsCaused (status_of r) source.before source.now sink.before sink.now
+caused c r bytes source sink given written Same Settled Unread Kept h = record {
+  read = λ e. h.read (status_is_read r e);
+  write = λ e. h.write (status_is_write r e);
+}
+
 pub run_of_answer : (c : Command) (r : Result Numbers Fault) (result : ℕ) (bytes : Option (List ℕ)) (source sink counts given : Counts)
-    (written told : Held) (Same Settled Unread : Type 0) → HasOutcome c →
+    (written told : Held) (Same Settled Unread Kept Silent : Type 0) → HasOutcome c → TellsOneLine c →
     ((file : List ℕ) → bytes ≡ Some file → AreBytes file) → ((file : List ℕ) → bytes ≡ Some file → IsAnswer c r file written.old written.new) →
     (ReadsNothing c → IsAnswer c r [] written.old written.new) →
-    HasCauses c r bytes source sink given written Same Settled Unread → TellsLine (status_of r) (line_of c r) result counts told →
-    IsRun c result bytes source sink counts given written told Same Settled Unread
-run_of_answer c r result bytes source sink counts given written told Same Settled Unread reads are answer made h t = record {
+    HasCauses c r bytes source sink given written Same Settled Unread Kept → TellsLine (status_of r) (line_of c r) result counts told →
+    IsRun c result bytes source sink counts given written told Same Settled Unread Kept Silent
+run_of_answer c r result bytes source sink counts given written told Same Settled Unread Kept Silent reads one are answer made h t = record {
   ends = λ file e. (
     status_of r,
     line_of c r ∷ [],
     answer_ends c r file written.old written.new (answer file e),
+    caused c r bytes source sink given written Same Settled Unread Kept h,
     reports_line (status_of r) result
         (line_of c r) told.old told.new t.reported t.whole t.cut_short,
   );
@@ -176,6 +190,7 @@ run_of_answer c r result bytes source sink counts given written told Same Settle
     status_of r,
     line_of c r ∷ [],
     answer_ends c r [] written.old written.new (made w),
+    caused c r bytes source sink given written Same Settled Unread Kept h,
     reports_line (status_of r) result (line_of c r)
         told.old told.new t.reported t.whole t.cut_short,
   );
@@ -187,7 +202,16 @@ run_of_answer c r result bytes source sink counts given written told Same Settle
   sure_report = λ file e o is no_read no_write n room least fits seven.
       t.sure seven n room (line_fits c r file written.old written.new o n reads (are file e) (answer file e) is (λ q. no_read (h.read q))
       (λ q. no_write (h.write q)) least fits);
+  bytes_stay = h.bytes_stay;
+  later_source = h.later_source;
+  later_sink = h.later_sink;
+  later_report = t.later;
   memory = λ e. let f = status_is_memory r (status_told (status_of r) result 4 t.reported e (omega arith)) in h.memory f.0 f.1;
+  memory_told = λ e.
+      let status = status_told (status_of r) result 4 t.reported e (omega arith) in
+      let f = status_is_memory r status in
+      subst (λ q. told.new ≡ and_then told.old (report (line_of c q ∷ []))) f.1 (t.whole (e ∙ sym status));
+  silent = λ e. absurd (subst TellsOneLine e one);
   file_refused = λ e. let f = status_is_file r (status_told (status_of r) result 5 t.reported e (omega arith)) in h.untouched f.0 f.1;
   idle = h.idle;
   no_write = λ w e. h.no_write w (status_is_write r (status_told (status_of r) result 3 t.reported e (omega arith)));
@@ -210,10 +234,10 @@ run_of_answer c r result bytes source sink counts given written told Same Settle
 
 -- a run of one command is a run of the same one
 pub same_run : {a c : Command} {result : ℕ} {bytes : Option (List ℕ)} {source sink counts given : Counts} {written told : Held}
-    {Same Settled Unread : Type 0} → a ≡ c → IsRun c result bytes source sink counts given written told Same Settled Unread →
-    IsRun a result bytes source sink counts given written told Same Settled Unread
-same_run {a} {c} {result} {bytes} {source} {sink} {counts} {given} {written} {told} {Same} {Settled} {Unread} e h =
-    subst (λ c. IsRun c result bytes source sink counts given written told Same Settled Unread) (sym e) h
+    {Same Settled Unread Kept Silent : Type 0} → a ≡ c → IsRun c result bytes source sink counts given written told Same Settled Unread Kept Silent →
+    IsRun a result bytes source sink counts given written told Same Settled Unread Kept Silent
+same_run {a} {c} {result} {bytes} {source} {sink} {counts} {given} {written} {told} {Same} {Settled} {Unread} {Kept} {Silent} e h =
+    subst (λ c. IsRun c result bytes source sink counts given written told Same Settled Unread Kept Silent) (sym e) h
 
 pub encoding_is_no_frame : (level k : ℕ) → encode level ≡ frame k true → ⊥
 encoding_is_no_frame level k e = absurd cc

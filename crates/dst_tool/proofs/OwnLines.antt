@@ -7,9 +7,10 @@ use Rattle.dst_spec.specs.declared.faults.FrameFault.{FrameFault}
 use Rattle.dst_streams.specs.Causes.{Rose}
 use Rattle.dst_streams.specs.Told.{and_then, IsCutShort}
 use Rattle.dsdiff_spec.specs.declared.faults.FileFault.{FileFault}
-use Rattle.dsdiff_spec.specs.Words.{Command, frame}
+use Rattle.dsdiff_spec.specs.Rules.{accepted}
+use Rattle.dsdiff_spec.specs.Words.{Command, frame, index}
 use Rattle.dsdiff_spec.specs.Refusal.{refusal}
-use Rattle.dsdiff_spec.specs.Lines.{Line, report}
+use Rattle.dsdiff_spec.specs.Lines.{Line, report, memory_line}
 use Rattle.dsdiff_spec.specs.Outcome.{Answer, done, file_refused, frame_refused}
 use Rattle.dsdiff_spec.proofs.OneAnswer.{HasOutcome}
 use Rattle.dst_tool.specs.declared.answers.Numbers.{Numbers}
@@ -17,8 +18,8 @@ use Rattle.dst_tool.specs.declared.answers.Fault.{Fault}
 use Rattle.dst_tool.specs.declared.answers.Fault.TheVariants.{Read, Write, Memory, Report, File, Frame}
 use Rattle.dst_tool.specs.Answers.{status_of, fault_line}
 use Rattle.dst_commands.specs.Commands.{OutcomeOf}
-use Rattle.dst_tool.specs.Runs.{DidNotRise, EndsBy, Reports, WritesNowhere, ReadsNothing, Counts, Held, IsRun}
-use Rattle.dst_tool.proofs.Statuses.{status_is_read, status_is_write, status_is_not_words}
+use Rattle.dst_tool.specs.Runs.{DidNotRise, EndsBy, Reports, WritesNowhere, ReadsNothing, Counts, Held, IsCaused, IsRun}
+use Rattle.dst_tool.proofs.Statuses.{status_is_done, status_is_read, status_is_write, status_is_memory, status_is_not_words}
 use Rattle.dst_tool.proofs.OneLine.{refusal_is, whole_of, nothing_of, not_both_kinds, same_lines, reports_line, status_told}
 use Rattle.dst_commands.proofs.Writing.{and_then-nothing}
 
@@ -32,6 +33,7 @@ pub record IsListing (c : Command) (r : Result Numbers Fault) (file : List ℕ) 
 
 -- whatever the source tells
 pub record Lists (r : Result Numbers Fault) (source counts middle : Counts) (told mid : Held) : Type 0 where
+  pub later : (source.before ≤ source.now) × (counts.before ≤ middle.before)
   pub read : r ≡ Err Read → Rose source.before source.now
   pub no_write : r ≡ Err Write → ⊥
   pub reported : r ≡ Err Report → Rose counts.before middle.before
@@ -45,6 +47,7 @@ pub record TellsFault (r : Result Numbers Fault) (result : ℕ) (middle : Counts
   pub whole : (fault : Fault) → r ≡ Err fault → fault ≢ Report → result ≡ status_of r → mid.new ≡ and_then mid.old (report (fault_line fault ∷ []))
   pub cut_short : (fault : Fault) → r ≡ Err fault → fault ≢ Report → result ≡ 7 → IsCutShort mid.old (report (fault_line fault ∷ [])) mid.new
   pub cause : (fault : Fault) → r ≡ Err fault → fault ≢ Report → result ≡ 7 → Rose middle.before middle.now
+  pub later : middle.before ≤ middle.now
   pub sure : (fault : Fault) → r ≡ Err fault → fault ≢ Report → result ≡ 7 → (n : ℕ) → mid.room ≡ Some n → length (report (fault_line fault ∷ [])) ≤ n → ⊥
 
 -- ---- how it ends
@@ -60,9 +63,14 @@ IsTold Report = ⊥
 not_report : (fault : Fault) → IsTold fault → fault ≢ Report
 not_report fault h e = subst IsTold e h
 
-abbrev EndsListing : Command → List ℕ → ℕ → Option (List ℕ) → Held → Type 0
-EndsListing c file result written told = (wanted : ℕ) × (lines : List Line) × EndsBy (OutcomeOf c file) (Some c) file ⊤ wanted lines written written
-    × Reports wanted lines result told.old told.new
+abbrev EndsListing : Command → List ℕ → ℕ → Option (List ℕ) → Counts → Counts → Held → Type 0
+EndsListing c file result written source sink told =
+    (wanted : ℕ) × (lines : List Line) × EndsBy (OutcomeOf c file) (Some c) file ⊤ wanted lines written written
+    × IsCaused wanted source.before source.now sink.before sink.now × Reports wanted lines result told.old told.new
+
+-- a status that no device has
+done_is_caused : (source sink : Counts) → IsCaused 0 source.before source.now sink.before sink.now
+done_is_caused source sink = record { read = λ e. absurd (omega arith); write = λ e. absurd (omega arith) }
 
 fault_ends : (c : Command) (fault : Fault) (file : List ℕ) (written : Option (List ℕ)) (told mid : Option (List ℕ)) → WritesNowhere c → IsTold fault →
     IsListing c (Err fault) file told mid →
@@ -83,49 +91,54 @@ fault_ends c (Frame k fault) file written told mid w h l =
 fault_ends c Write file written told mid w h l = absurd h
 fault_ends c Report file written told mid w h l = absurd h
 
-told_ends : (c : Command) (fault : Fault) (result : ℕ) (file : List ℕ) (written : Option (List ℕ)) (source counts middle : Counts) (told mid : Held) →
+told_ends : (c : Command) (fault : Fault) (result : ℕ) (file : List ℕ) (written : Option (List ℕ)) (source sink counts middle : Counts)
+    (told mid : Held) →
     WritesNowhere c → IsTold fault → mid.new ≡ told.new →
     IsListing c (Err fault) file told.old mid.old → Lists (Err fault) source counts middle told mid → TellsFault (Err fault) result middle mid →
-    EndsListing c file result written told
-told_ends c fault result file written source counts middle told mid w h last l s t =
+    EndsListing c file result written source sink told
+told_ends c fault result file written source sink counts middle told mid w h last l s t =
     let other = not_report fault h in
     let same = (s.untouched fault refl other).0 in (
       status_of (Err fault),
       fault_line fault ∷ [],
       fault_ends c fault file written told.old mid.old w h l,
+      record { read = λ e. s.read (status_is_read (Err fault) e); write = λ e. absurd (s.no_write (status_is_write (Err fault) e)) },
       reports_line (status_of (Err fault)) result (fault_line fault) told.old told.new t.reported
           (λ e. sym last ∙ t.whole fault refl other e ∙ ap (λ w. and_then w (report (fault_line fault ∷ []))) same)
           (λ e. subst (λ w. IsCutShort told.old (report (fault_line fault ∷ [])) w) last
           (subst (λ w. IsCutShort w (report (fault_line fault ∷ [])) mid.new) same (t.cut_short fault refl other e))),
     )
 
-listing_ends : (c : Command) (r : Result Numbers Fault) (result : ℕ) (file : List ℕ) (written : Option (List ℕ)) (source counts middle : Counts)
+listing_ends : (c : Command) (r : Result Numbers Fault) (result : ℕ) (file : List ℕ) (written : Option (List ℕ)) (source sink counts middle : Counts)
     (told mid : Held) → WritesNowhere c → mid.new ≡ told.new →
-    IsListing c r file told.old mid.old → Lists r source counts middle told mid → TellsFault r result middle mid → EndsListing c file result written told
-listing_ends c (Ok s) result file written source counts middle told mid w last l h t =
+    IsListing c r file told.old mid.old → Lists r source counts middle told mid → TellsFault r result middle mid →
+    EndsListing c file result written source sink told
+listing_ends c (Ok s) result file written source sink counts middle told mid w last l h t =
     let d = t.done s refl in (
       0,
       l.lines.0,
       inr (inr (inr (done [] l.lines.0, l.lines.1, refl, refl, whole_of c [] written written (sym (and_then-nothing written))))),
+      done_is_caused source sink,
       inl (d.0, sym last ∙ d.1 ∙ l.lines.2),
     )
-listing_ends c (Err Report) result file written source counts middle told mid w last l h t =
+listing_ends c (Err Report) result file written source sink counts middle told mid w last l h t =
     let f = t.failed refl in
     let cut = l.cut_short refl in (
       0,
       cut.0,
       inr (inr (inr (done [] cut.0, cut.1, refl, refl, whole_of c [] written written (sym (and_then-nothing written))))),
+      done_is_caused source sink,
       inr (f.0, subst (λ w. IsCutShort told.old (report cut.0) w) (sym f.1 ∙ last) cut.2),
     )
-listing_ends c (Err Read) result file written source counts middle told mid w last l h t =
-    told_ends c Read result file written source counts middle told mid w tt last l h t
-listing_ends c (Err (Memory refused)) result file written source counts middle told mid w last l h t =
-    told_ends c (Memory refused) result file written source counts middle told mid w tt last l h t
-listing_ends c (Err (File fault)) result file written source counts middle told mid w last l h t =
-    told_ends c (File fault) result file written source counts middle told mid w tt last l h t
-listing_ends c (Err (Frame k fault)) result file written source counts middle told mid w last l h t =
-    told_ends c (Frame k fault) result file written source counts middle told mid w tt last l h t
-listing_ends c (Err Write) result file written source counts middle told mid w last l h t = absurd (h.no_write refl)
+listing_ends c (Err Read) result file written source sink counts middle told mid w last l h t =
+    told_ends c Read result file written source sink counts middle told mid w tt last l h t
+listing_ends c (Err (Memory refused)) result file written source sink counts middle told mid w last l h t =
+    told_ends c (Memory refused) result file written source sink counts middle told mid w tt last l h t
+listing_ends c (Err (File fault)) result file written source sink counts middle told mid w last l h t =
+    told_ends c (File fault) result file written source sink counts middle told mid w tt last l h t
+listing_ends c (Err (Frame k fault)) result file written source sink counts middle told mid w last l h t =
+    told_ends c (Frame k fault) result file written source sink counts middle told mid w tt last l h t
+listing_ends c (Err Write) result file written source sink counts middle told mid w last l h t = absurd (h.no_write refl)
 
 -- ---- causes
 moved : (counts middle : Counts) → middle.before ≡ counts.before → middle.now ≡ counts.now → Rose middle.before middle.now → Rose counts.before counts.now
@@ -205,23 +218,38 @@ at_most (Err (File fault)) result (inl e) = omega arith
 at_most (Err (Frame k fault)) result (inl e) = omega arith
 
 pub run_of_listing : (c : Command) (r : Result Numbers Fault) (result : ℕ) (bytes : Option (List ℕ)) (source sink counts middle given : Counts)
-    (written told mid : Held) (Same Settled Unread : Type 0) → HasOutcome c → WritesNowhere c → (ReadsNothing c → ⊥) → ((k : ℕ) → c ≡ frame k true → ⊥) →
-    ((file : List ℕ) → bytes ≡ Some file → AreBytes file) → written.old ≡ written.new → Same → mid.new ≡ told.new → middle.now ≡ counts.now →
+    (written told mid : Held) (Same Settled Unread Kept Silent : Type 0) → HasOutcome c → WritesNowhere c → (ReadsNothing c → ⊥) →
+    ((k : ℕ) → c ≡ frame k true → ⊥) → ((file : List ℕ) → bytes ≡ Some file → AreBytes file) → written.old ≡ written.new → Same → sink.before ≤ sink.now → Kept → mid.new ≡ told.new →
+    middle.now ≡ counts.now →
     ((file : List ℕ) → bytes ≡ Some file → IsListing c r file told.old mid.old) → Lists r source counts middle told mid →
     TellsFault r result middle mid → IsSure r c bytes told →
-    IsRun c result bytes source sink counts given written told Same Settled Unread
-run_of_listing c r result bytes source sink counts middle given written told mid Same Settled Unread reads nowhere reading not_by_index are still same
-    last_told last_count listing h t sure = record {
+    (c ≡ index → (file : List ℕ) → bytes ≡ Some file → (accepted file).frames ≡ 0 → (s : Numbers) → r ≡ Ok s → Silent) →
+    IsRun c result bytes source sink counts given written told Same Settled Unread Kept Silent
+run_of_listing c r result bytes source sink counts middle given written told mid Same Settled Unread Kept Silent reads nowhere reading not_by_index are
+    still same later_sink kept last_told last_count listing h t sure silent = record {
       ends = λ file e.
-          let ends = listing_ends c r result file written.old source counts middle told mid nowhere last_told (listing file e) h t in
-          (ends.0, ends.1, subst (λ w. EndsBy (OutcomeOf c file) (Some c) file ⊤ ends.0 ends.1 written.old w) still ends.2, ends.3);
+          let ends = listing_ends c r result file written.old source sink counts middle told mid nowhere last_told (listing file e) h t in
+          (ends.0, ends.1, subst (λ w. EndsBy (OutcomeOf c file) (Some c) file ⊤ ends.0 ends.1 written.old w) still ends.2, ends.3, ends.4);
       read = λ e. h.read (status_of_two r result t.reported e);
       write = λ e. absurd (h.no_write (status_is_write r (status_told (status_of r) result 3 t.reported e (omega arith))));
       reported = seven_has_cause r result source counts middle told mid last_count h t;
       sure_sink = λ file e o is n room fits three. h.no_write (status_is_write r (status_told (status_of r) result 3 t.reported three (omega arith)));
       sure_report = λ file e o is no_read no_write n room least fits seven. listing_fits c r result n bytes file written.old o source counts middle told
           mid reads (are file e) e is (listing file e) h t sure no_read room least fits seven;
+      bytes_stay = kept;
+      later_source = h.later.0;
+      later_sink = later_sink;
+      later_report = let first = h.later.1 in let then = t.later in let last = last_count in omega arith;
       memory = λ e. same;
+      memory_told = λ e.
+          let status = status_told (status_of r) result 4 t.reported e (omega arith) in
+          let f = status_is_memory r status in
+          let other : Memory f.0 ≢ Report = λ q. absurd cc in
+          let still = (h.untouched (Memory f.0) f.1 other).0 in
+          sym last_told ∙ t.whole (Memory f.0) f.1 other (e ∙ sym status) ∙ ap (λ w. and_then w (report (memory_line ∷ []))) still;
+      silent = λ e file told_file none zero_status.
+          let d = status_is_done r (status_told (status_of r) result 0 t.reported zero_status (omega arith)) in
+          silent e file told_file none d.0 d.1;
       file_refused = λ e. same;
       idle = λ w. same;
       no_write = λ w e. h.no_write (status_is_write r (status_told (status_of r) result 3 t.reported e (omega arith)));

@@ -1,5 +1,5 @@
 -- What a run of words leaves, from what its command does.
-use Rattle.std.proofs.Common.{◌≡◌, ◌⊎◌, inl, inr, ℕ, true, false, List, [], ◌∷◌, ◌++◌, Option, Some, None, refl, ap, sym, subst, ◌∙◌, arith}
+use Rattle.std.proofs.Common.{◌≡◌, ◌⊎◌, inl, inr, ℕ, ◌<◌, ◌≤◌, true, false, List, [], ◌∷◌, ◌++◌, Option, Some, None, refl, ap, sym, subst, ◌∙◌, arith}
 use Rattle.std.specs.Prelude.{⊤}
 use Rattle.dst_spec.specs.declared.faults.FrameFault.{FrameFault}
 use Rattle.dst_streams.specs.Told.{and_then, IsCutShort}
@@ -15,6 +15,7 @@ use Rattle.words_spec.specs.Outcome.{OfWords, Outcome}
 use Rattle.dsdiff_spec.proofs.Stopping.{not_both}
 use Rattle.dst_commands.specs.Commands.{OutcomeOf}
 use Rattle.dst_tool.specs.Runs.{DidNotRise, WholeOf, PartOf, EndsAsOne, EndsBy, EndsAs, Ends, Reports, IsRefused, NoFrameIsRefused, Counts, Held, IsRun}
+use Rattle.dst_tool.specs.Runs.{IsCaused}
 use Rattle.dst_commands.proofs.Writing.{and_then-nothing}
 
 -- ---- words and their command
@@ -58,12 +59,12 @@ Headline words file result old new told_old told_new = (result ≡ 4)
     ⊎ ((lines : List Line) × EndsAs words file result lines old new × (told_new ≡ and_then told_old (report lines)))
 
 pub run_headline : (words : List Word) (c : Command) (file : List ℕ) (result : ℕ) (bytes : Option (List ℕ)) (source sink counts given : Counts)
-    (written told : Held) (Same Settled Unread : Type 0) → command_of words ≡ Some c →
-    IsRun c result bytes source sink counts given written told Same Settled Unread → bytes ≡ Some file →
+    (written told : Held) (Same Settled Unread Kept Silent : Type 0) → command_of words ≡ Some c →
+    IsRun c result bytes source sink counts given written told Same Settled Unread Kept Silent → bytes ≡ Some file →
     DidNotRise source.before source.now → DidNotRise sink.before sink.now → DidNotRise counts.before counts.now →
     Headline words file result written.old written.new told.old told.new
-run_headline words c file result bytes source sink counts given written told Same Settled Unread e r is no_read no_write no_report =
-    go (r.ends file is).0 (r.ends file is).1 (r.ends file is).2 (r.ends file is).3
+run_headline words c file result bytes source sink counts given written told Same Settled Unread Kept Silent e r is no_read no_write no_report =
+    go (r.ends file is).0 (r.ends file is).1 (r.ends file is).2 (r.ends file is).4
   where
     go : (status : ℕ) (lines : List Line) → EndsBy (OutcomeOf c file) (Some c) file ⊤ status lines written.old written.new →
         Reports status lines result told.old told.new → Headline words file result written.old written.new told.old told.new
@@ -109,11 +110,11 @@ refused_file c file o None e (inl s) five = let six = ap (λ (a : Answer). a.sta
 refused_file c file o None e (inr h) five = let zero_status = done_is_0 c file (accepted file) o h.1 in absurd (omega arith)
 
 pub run_refused : (words : List Word) (c : Command) (file : List ℕ) (result : ℕ) (bytes : Option (List ℕ)) (source sink counts given : Counts)
-    (written told : Held) (Same Settled Unread : Type 0) → command_of words ≡ Some c →
-    IsRun c result bytes source sink counts given written told Same Settled Unread → bytes ≡ Some file → result ≡ 5 →
+    (written told : Held) (Same Settled Unread Kept Silent : Type 0) → command_of words ≡ Some c →
+    IsRun c result bytes source sink counts given written told Same Settled Unread Kept Silent → bytes ≡ Some file → result ≡ 5 →
     (fault : FileFault) × IsRefused words file fault × (told.new ≡ and_then told.old (report (file_line fault ∷ [])))
-run_refused words c file result bytes source sink counts given written told Same Settled Unread e r is five =
-    go (r.ends file is).0 (r.ends file is).1 (r.ends file is).2 (r.ends file is).3
+run_refused words c file result bytes source sink counts given written told Same Settled Unread Kept Silent e r is five =
+    go (r.ends file is).0 (r.ends file is).1 (r.ends file is).2 (r.ends file is).4
   where
     go : (status : ℕ) (lines : List Line) → EndsBy (OutcomeOf c file) (Some c) file ⊤ status lines written.old written.new →
         Reports status lines result told.old told.new → (fault : FileFault) × IsRefused words file fault
@@ -165,11 +166,11 @@ FrameIsTold words file written told =
     × (told.new ≡ and_then told.old (report (frame_fault_line k fault ∷ [])))
 
 pub run_refused_frame : (words : List Word) (c : Command) (file : List ℕ) (result : ℕ) (bytes : Option (List ℕ)) (source sink counts given : Counts)
-    (written told : Held) (Same Settled Unread : Type 0) → command_of words ≡ Some c →
-    IsRun c result bytes source sink counts given written told Same Settled Unread → bytes ≡ Some file → result ≡ 6 →
+    (written told : Held) (Same Settled Unread Kept Silent : Type 0) → command_of words ≡ Some c →
+    IsRun c result bytes source sink counts given written told Same Settled Unread Kept Silent → bytes ≡ Some file → result ≡ 6 →
     FrameIsTold words file written told
-run_refused_frame words c file result bytes source sink counts given written told Same Settled Unread e r is six =
-    go (r.ends file is).0 (r.ends file is).1 (r.ends file is).2 (r.ends file is).3
+run_refused_frame words c file result bytes source sink counts given written told Same Settled Unread Kept Silent e r is six =
+    go (r.ends file is).0 (r.ends file is).1 (r.ends file is).2 (r.ends file is).4
   where
     go : (status : ℕ) (lines : List Line) → EndsBy (OutcomeOf c file) (Some c) file ⊤ status lines written.old written.new →
         Reports status lines result told.old told.new → FrameIsTold words file written told
@@ -189,14 +190,23 @@ run_refused_frame words c file result bytes source sink counts given written tol
         )
 
 -- ---- words that aren't understood
-pub no_command : (words : List Word) (file : List ℕ) (old : Option (List ℕ)) → command_of words ≡ None → EndsAs words file 1 (words_line ∷ []) old old
-no_command words file old e = (
+-- what words are: no command, or one
+pub by_words : {P : Type 0} (words : List Word) → (command_of words ≡ None → P) → ((c : Command) → command_of words ≡ Some c → P) → P
+by_words {P} words none some = go (command_of words) refl
+  where
+    go : (r : Option Command) → command_of words ≡ r → P
+    go None e = none e
+    go (Some c) e = some c e
+
+pub no_command : (words : List Word) (file : List ℕ) (old new : Option (List ℕ)) → command_of words ≡ None → new ≡ old →
+    EndsAs words file 1 (words_line ∷ []) old new
+no_command words file old new e same = (
   not_understood,
   subst (λ r. OfWords r file not_understood) (sym e) refl,
   refl,
   refl,
-  subst (λ r. WholeOf r [] old old) (sym e)
-      (sym (and_then-nothing old)),
+  subst (λ r. WholeOf r [] old new) (sym e)
+      (same ∙ sym (and_then-nothing old)),
 )
 
 pub only_words_line : (words : List Word) (file : List ℕ) (o : Answer) → command_of words ≡ None → Outcome words file o → o.lines ≡ words_line ∷ []
@@ -204,17 +214,32 @@ only_words_line words file o e h =
     let is : o ≡ not_understood = subst (λ r. OfWords r file o) e h in
     ap (λ (a : Answer). a.lines) is
 
-pub none_headline : (words : List Word) (file : List ℕ) (result : ℕ) (bytes : List ℕ) (old told_old told_new : Option (List ℕ)) →
-    command_of words ≡ None → bytes ≡ report (words_line ∷ []) →
-    (result ≡ 1) ⊎ (result ≡ 7) → (result ≡ 1 → told_new ≡ and_then told_old bytes) → (result ≡ 7 → ⊥) → Headline words file result old old told_old told_new
-none_headline words file result bytes old told_old told_new e b (inl is) whole fine =
-    inr (
-      words_line ∷ [],
-      subst (λ status. EndsAs words file status (words_line ∷ []) old old) (sym is) (no_command words file old e),
-      whole is
-          ∙ ap (and_then told_old) b,
-    )
-none_headline words file result bytes old told_old told_new e b (inr is) whole fine = absurd (fine is)
+pub none_headline : (words : List Word) (file : List ℕ) (result : ℕ) (old new told_old told_new : Option (List ℕ)) → command_of words ≡ None → new ≡ old →
+    Reports 1 (words_line ∷ []) result told_old told_new → (result ≡ 7 → ⊥) → Headline words file result old new told_old told_new
+none_headline words file result old new told_old told_new e same (inl (is, told)) fine =
+    inr (words_line ∷ [], subst (λ status. EndsAs words file status (words_line ∷ []) old new) (sym is) (no_command words file old new e same), told)
+none_headline words file result old new told_old told_new e same (inr (is, piece)) fine = absurd (fine is)
+
+-- their status is 1, which no device has, or 7
+pub words_status : (result : ℕ) (old new : Option (List ℕ)) → Reports 1 (words_line ∷ []) result old new → (result ≡ 1) ⊎ (result ≡ 7)
+words_status result old new (inl (is, told)) = inl is
+words_status result old new (inr (is, piece)) = inr is
+
+pub words_caused : (source_before source_now sink_before sink_now : ℕ) → IsCaused 1 source_before source_now sink_before sink_now
+words_caused source_before source_now sink_before sink_now = record { read = λ e. absurd (omega arith); write = λ e. absurd (omega arith) }
+
+pub at_most_seven : (result : ℕ) (old new : Option (List ℕ)) → Reports 1 (words_line ∷ []) result old new → result ≤ 7
+at_most_seven result old new (inl (is, told)) = omega arith
+at_most_seven result old new (inr (is, piece)) = omega arith
+
+pub not_of_words : (status result : ℕ) (old new : Option (List ℕ)) → Reports 1 (words_line ∷ []) result old new → result ≡ status →
+    1 < status → status < 7 → ⊥
+not_of_words status result old new (inl (is, told)) same least most = omega arith
+not_of_words status result old new (inr (is, piece)) same least most = omega arith
+
+-- a device that is what it was has failed no less often
+pub no_fewer : (now before : ℕ) → now ≡ before → before ≤ now
+no_fewer now before e = omega arith
 
 -- the line is reported, or the report failed
 pub reported : (status result : ℕ) (line : Line) (bytes : List ℕ) (old new : Option (List ℕ)) → bytes ≡ report (line ∷ []) →

@@ -60,6 +60,11 @@ EndsAs words file = EndsAsOne (Outcome words file) (command_of words)
 abbrev pub Ends : List Word → List ℕ → ℕ → List Line → Option (List ℕ) → Option (List ℕ) → Type 0
 Ends words file = EndsBy (Outcome words file) (command_of words) file (command_of words ≢ None)
 
+-- a read fault and a write fault have their cause: the count of that device rose
+pub record IsCaused (status source_before source_now sink_before sink_now : ℕ) : Type 0 where
+  pub read : status ≡ 2 → Rose source_before source_now
+  pub write : status ≡ 3 → Rose sink_before sink_now
+
 -- the lines are reported, or the report failed at them and the status is 7
 abbrev pub Reports : ℕ → List Line → ℕ → Option (List ℕ) → Option (List ℕ) → Type 0
 Reports status lines result old new =
@@ -133,12 +138,12 @@ pub record Held : Type 0 where
   pub room : Option ℕ
 
 -- What one command leaves over a source that may tell its bytes: `Same` says that the sink is what it was, `Settled` that all it holds is
--- where it keeps it for good, and `Unread` that the source is what it was.
+-- where it keeps it for good, `Unread` that the source is what it was, `Kept` that its bytes are, and `Silent` that the report is what it was.
 pub record IsRun (c : Command) (status : ℕ) (bytes : Option (List ℕ)) (source sink report_counts given : Counts) (written told : Held)
-    (Same Settled Unread : Type 0) : Type 0 where
+    (Same Settled Unread Kept Silent : Type 0) : Type 0 where
   pub ends : (file : List ℕ) → bytes ≡ Some file →
       (wanted : ℕ) × (lines : List Line) × EndsBy (OutcomeOf c file) (Some c) file ⊤ wanted lines written.old written.new
-      × Reports wanted lines status told.old told.new
+      × IsCaused wanted source.before source.now sink.before sink.now × Reports wanted lines status told.old told.new
   pub read : status ≡ 2 → Rose source.before source.now
   pub write : status ≡ 3 → Rose sink.before sink.now
   pub reported : status ≡ 7 → Rose report_counts.before report_counts.now
@@ -146,14 +151,20 @@ pub record IsRun (c : Command) (status : ℕ) (bytes : Option (List ℕ)) (sourc
   pub sure_report : (file : List ℕ) → bytes ≡ Some file → (o : Answer) → OutcomeOf c file o → DidNotRise source.before source.now →
       DidNotRise sink.before sink.now →
       (n : ℕ) → told.room ≡ Some n → 7 ≤ n → length (report o.lines) ≤ n → status ≡ 7 → ⊥
+  pub bytes_stay : Kept
+  pub later_source : source.before ≤ source.now
+  pub later_sink : sink.before ≤ sink.now
+  pub later_report : report_counts.before ≤ report_counts.now
   pub memory : status ≡ 4 → Same
+  pub memory_told : status ≡ 4 → told.new ≡ and_then told.old (report (memory_line ∷ []))
+  pub silent : c ≡ index → (file : List ℕ) → bytes ≡ Some file → (accepted file).frames ≡ 0 → status ≡ 0 → Silent
   pub file_refused : status ≡ 5 → Same
   pub idle : WritesNowhere c → Same
   pub no_write : WritesNowhere c → status ≢ 3
   pub unread : ReadsNothing c → Unread
   pub made : ReadsNothing c →
       (wanted : ℕ) × (lines : List Line) × EndsBy (OutcomeOf c []) (Some c) [] ⊤ wanted lines written.old written.new
-      × Reports wanted lines status told.old told.new
+      × IsCaused wanted source.before source.now sink.before sink.now × Reports wanted lines status told.old told.new
   pub no_file : ReadsNothing c → (status ≢ 2) × (status ≢ 5) × (status ≢ 6)
   pub settled : WritesFile c → status ≡ 0 → Settled
   pub by_index : (k : ℕ) → c ≡ frame k true → (file : List ℕ) → bytes ≡ Some file → given.now ≤ given.before + most_given (sound_bytes_of (accepted file))

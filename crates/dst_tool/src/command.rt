@@ -21,12 +21,12 @@ use dst_streams::{Sink, Source};
 use dst_words::Command;
 use dst_write::{cut_file, encode_file};
 use filter_analyser::LevelPicker;
-use frame_crew::OpenGate;
+use frame_crew::Gate;
 use std::alloc::Global;
 use std::thread::Threads;
 
 /// Runs a command, and reports its lines. The status is that of what it answered, or 7 where the report failed.
-pub(crate) fn run_command<E: Threads + Sync, S: Source, K: Sink, R: Sink>(
+pub(crate) fn run_command<E: Threads + Sync, S: Source, K: Sink, R: Sink, G: Gate>(
     rt: &E,
     alloc: Global,
     command: Command,
@@ -34,6 +34,7 @@ pub(crate) fn run_command<E: Threads + Sync, S: Source, K: Sink, R: Sink>(
     source: &mut S,
     sink: &mut K,
     report: &mut R,
+    gate: &G,
 ) -> u8
     requires least { 1 ≤ workers }
     requires most { workers ≤ 16 }
@@ -43,11 +44,11 @@ pub(crate) fn run_command<E: Threads + Sync, S: Source, K: Sink, R: Sink>(
         (record { before = R.faults report.old; now = R.faults report.new }) (record { before = S.given source.old; now = S.given source.new })
         (record { old = K.written sink.old; new = K.written sink.new; room = K.room sink.old })
         (record { old = R.written report.old; new = R.written report.new; room = R.room report.old })
-        (sink.new ≡ sink.old) (K.settled sink.new ≡ true) (source.new ≡ source.old) }
+        (sink.new ≡ sink.old) (K.settled sink.new ≡ true) (source.new ≡ source.old) (S.bytes source.new ≡ S.bytes source.old) (report.new ≡ report.old) }
 {
     match command {
         Command::Check => {
-            let answer = check_file(rt, alloc, source, workers, &OpenGate);
+            let answer = check_file(rt, alloc, source, workers, gate);
             tell(report, command, checked(answer))
         }
         Command::Show => {
@@ -75,15 +76,15 @@ pub(crate) fn run_command<E: Threads + Sync, S: Source, K: Sink, R: Sink>(
             frames,
             channels,
         } => {
-            let answer = make_run(rt, alloc, start, frames, channels, &OpenGate);
+            let answer = make_run(rt, alloc, start, frames, channels, gate);
             tell(report, command, ran(answer))
         }
-        _ => run_on_files(rt, alloc, command, workers, source, sink, report),
+        _ => run_on_files(rt, alloc, command, workers, source, sink, report, gate),
     }
 }
 
 // Runs a command that reads a file and may write one, and reports its line.
-fn run_on_files<E: Threads + Sync, S: Source, K: Sink, R: Sink>(
+fn run_on_files<E: Threads + Sync, S: Source, K: Sink, R: Sink, G: Gate>(
     rt: &E,
     alloc: Global,
     command: Command,
@@ -91,6 +92,7 @@ fn run_on_files<E: Threads + Sync, S: Source, K: Sink, R: Sink>(
     source: &mut S,
     sink: &mut K,
     report: &mut R,
+    gate: &G,
 ) -> u8
     requires least { 1 ≤ workers }
     requires most { workers ≤ 16 }
@@ -101,16 +103,16 @@ fn run_on_files<E: Threads + Sync, S: Source, K: Sink, R: Sink>(
         (record { before = R.faults report.old; now = R.faults report.new }) (record { before = S.given source.old; now = S.given source.new })
         (record { old = K.written sink.old; new = K.written sink.new; room = K.room sink.old })
         (record { old = R.written report.old; new = R.written report.new; room = R.room report.old })
-        (sink.new ≡ sink.old) (K.settled sink.new ≡ true) (source.new ≡ source.old) }
+        (sink.new ≡ sink.old) (K.settled sink.new ≡ true) (source.new ≡ source.old) (S.bytes source.new ≡ S.bytes source.old) (report.new ≡ report.old) }
 {
     match command {
         Command::Encode { level } => {
             let picker = picker_of(level);
-            let answer = encode_file(rt, alloc, source, sink, &picker, workers, &OpenGate);
+            let answer = encode_file(rt, alloc, source, sink, &picker, workers, gate);
             tell(report, command, encoded(answer))
         }
         Command::Decode => {
-            let answer = decode_file(rt, alloc, source, sink, workers, &OpenGate);
+            let answer = decode_file(rt, alloc, source, sink, workers, gate);
             tell(report, command, decoded(answer))
         }
         Command::Cut { first, last } => {
@@ -123,11 +125,11 @@ fn run_on_files<E: Threads + Sync, S: Source, K: Sink, R: Sink>(
         }
         Command::EncodeDsf { level } => {
             let picker = picker_of(level);
-            let answer = encode_dsf(rt, alloc, source, sink, &picker, workers, &OpenGate);
+            let answer = encode_dsf(rt, alloc, source, sink, &picker, workers, gate);
             tell(report, command, encoded(answer))
         }
         Command::DecodeDsf => {
-            let answer = decode_dsf(rt, alloc, source, sink, workers, &OpenGate);
+            let answer = decode_dsf(rt, alloc, source, sink, workers, gate);
             tell(report, command, decoded(answer))
         }
         Command::Range { pairs } => {
@@ -157,6 +159,7 @@ fn tell<R: Sink>(report: &mut R, command: Command, answer: Result<Numbers, Fault
     ensures whole { result ≡ status_of answer → R.written report.new ≡ and_then (R.written report.old) (reports.report (line_of (command_seen command) answer ∷ [])) }
     ensures cut_short { result ≡ 7 → IsCutShort (R.written report.old) (reports.report (line_of (command_seen command) answer ∷ [])) (R.written report.new) }
     ensures cause { result ≡ 7 → Rose (R.faults report.old) (R.faults report.new) }
+    ensures later { R.faults report.old ≤ R.faults report.new }
     ensures sure { result ≡ 7 → (room : ℕ) → R.room report.old ≡ Some room → length (reports.report (line_of (command_seen command) answer ∷ [])) ≤ room → ⊥ }
 {
     match answer {
@@ -178,6 +181,7 @@ fn tell_fault<R: Sink>(report: &mut R, answer: Result<Numbers, Fault>) -> u8
     ensures cut_short { (fault : Fault) → answer ≡ Err fault → (fault ≢ Fault.Report) → result ≡ 7
         → IsCutShort (R.written report.old) (reports.report (fault_line fault ∷ [])) (R.written report.new) }
     ensures cause { (fault : Fault) → answer ≡ Err fault → (fault ≢ Fault.Report) → result ≡ 7 → Rose (R.faults report.old) (R.faults report.new) }
+    ensures later { R.faults report.old ≤ R.faults report.new }
     ensures sure { (fault : Fault) → answer ≡ Err fault → (fault ≢ Fault.Report) → result ≡ 7
         → (room : ℕ) → R.room report.old ≡ Some room → length (reports.report (fault_line fault ∷ [])) ≤ room → ⊥ }
 {
@@ -238,6 +242,7 @@ pub(crate) fn report_line<R: Sink>(report: &mut R, status: u8, line: lines::Line
     ensures whole { result ≡ status → R.written report.new ≡ and_then (R.written report.old) line.bytes }
     ensures cut_short { result ≡ 7 → IsCutShort (R.written report.old) line.bytes (R.written report.new) }
     ensures cause { result ≡ 7 → Rose (R.faults report.old) (R.faults report.new) }
+    ensures later { R.faults report.old ≤ R.faults report.new }
     ensures sure { result ≡ 7 → (room : ℕ) → R.room report.old ≡ Some room → length line.bytes ≤ room → ⊥ }
 {
     match report.append(line.as_bytes()) {

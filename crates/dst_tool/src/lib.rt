@@ -21,6 +21,7 @@ mod answers;
 mod command;
 mod making;
 mod run;
+mod run_by;
 
 pub use dst_make::{Made, MakeFault, make_file};
 pub use dst_read::{
@@ -31,3 +32,4 @@ pub use dst_words::{Command, Task, read_words};
 pub use dst_write::{Cut, CutFault, EncodeFault, Encoded, cut_file, encode_file};
 pub use making::{RunFault, make_run};
 pub use run::dst_run;
+pub use run_by::dst_run_by;

@@ -12,12 +12,11 @@ ghost use Rattle.words_spec.specs.Rows.{command_of};
 ghost use Rattle.dsdiff_spec.specs.Words as asked;
 ghost use Rattle.dsdiff_spec.specs.Outcome.{Answer, frame_refused};
 ghost use Rattle.words_spec.specs.Outcome.{Outcome};
-ghost use Rattle.dst_tool.specs.Runs.{DidNotRise, Ends, EndsAs, Reports, IsRefused, NoFrameIsRefused, ReadsNothing, WritesFile, WritesNowhere, most_given, longest_sound};
+ghost use Rattle.dst_tool.specs.Runs.{DidNotRise, Ends, EndsAs, IsCaused, Reports, IsRefused, NoFrameIsRefused, ReadsNothing, WritesFile, WritesNowhere, most_given, longest_sound};
 
-use crate::command::{report_line, run_command};
-use dst_lines::lines;
+use crate::run_by::dst_run_by;
 use dst_streams::{Sink, Source};
-use dst_words::{Task, read_words};
+use frame_crew::OpenGate;
 use std::alloc::Global;
 use std::thread::Threads;
 
@@ -43,9 +42,10 @@ pub fn dst_run<E: Threads + Sync, S: Source, K: Sink, R: Sink>(
     ensures complete { (file : List ℕ) → S.bytes source.old ≡ Some file → NoFrameIsRefused (map string_bytes words.now) file →
         DidNotRise (S.faults source.old) (S.faults source.new) → DidNotRise (K.faults sink.old) (K.faults sink.new) → DidNotRise (R.faults report.old) (R.faults report.new) →
         (result ≡ 0) ⊎ (result ≡ 4) }
-    // What sink and report hold behind each status; 7 comes where the lines of another one failed.
+    // What sink and report hold behind each status; 7 comes where the lines of another one failed, which has its own cause.
     ensures ends { (file : List ℕ) → S.bytes source.old ≡ Some file →
         (status : ℕ) × (lines : List reports.Line) × Ends (map string_bytes words.now) file status lines (K.written sink.old) (K.written sink.new)
+        × IsCaused status (S.faults source.old) (S.faults source.new) (K.faults sink.old) (K.faults sink.new)
         × Reports status lines result (R.written report.old) (R.written report.new) }
     // Words are refused by themselves, and touch nothing.
     ensures words { command_of (map string_bytes words.now) ≡ None → (result ≡ 1) ⊎ (result ≡ 7) }
@@ -59,10 +59,16 @@ pub fn dst_run<E: Threads + Sync, S: Source, K: Sink, R: Sink>(
     ensures no_read { (c : asked.Command) → command_of (map string_bytes words.now) ≡ Some c → ReadsNothing c → source.new ≡ source.old }
     ensures made { (c : asked.Command) → command_of (map string_bytes words.now) ≡ Some c → ReadsNothing c →
         (status : ℕ) × (lines : List reports.Line) × Ends (map string_bytes words.now) [] status lines (K.written sink.old) (K.written sink.new)
+        × IsCaused status (S.faults source.old) (S.faults source.new) (K.faults sink.old) (K.faults sink.new)
         × Reports status lines result (R.written report.old) (R.written report.new) }
     ensures no_file { (c : asked.Command) → command_of (map string_bytes words.now) ≡ Some c → ReadsNothing c → (result ≢ 2) × (result ≢ 5) × (result ≢ 6) }
     // What a done command has written is where the sink keeps it for good: of a real file, on its disk.
     ensures settled { (c : asked.Command) → command_of (map string_bytes words.now) ≡ Some c → WritesFile c → result ≡ 0 → K.settled sink.new ≡ true }
+    // No call changes the source's bytes, and no count of faults falls.
+    ensures bytes { S.bytes source.new ≡ S.bytes source.old }
+    ensures later_source { S.faults source.old ≤ S.faults source.new }
+    ensures later_sink { K.faults sink.old ≤ K.faults sink.new }
+    ensures later_report { R.faults report.old ≤ R.faults report.new }
     // Devices fail by their own cause.
     ensures read { result ≡ 2 → Rose (S.faults source.old) (S.faults source.new) }
     ensures write { result ≡ 3 → Rose (K.faults sink.old) (K.faults sink.new) }
@@ -77,6 +83,11 @@ pub fn dst_run<E: Threads + Sync, S: Source, K: Sink, R: Sink>(
     // Want of memory and a refused file come before the first call on the sink.
     ensures memory { result ≡ 4 → sink.new ≡ sink.old }
     ensures file { result ≡ 5 → sink.new ≡ sink.old }
+    // Want of memory has its line, whatever the source tells.
+    ensures memory_line { result ≡ 4 → R.written report.new ≡ and_then (R.written report.old) (reports.report (reports.memory_line ∷ [])) }
+    // The index of a file without frames has no line: no call is made on the report.
+    ensures silent { command_of (map string_bytes words.now) ≡ Some asked.index → (file : List ℕ) → S.bytes source.old ≡ Some file →
+        (accepted file).frames ≡ 0 → result ≡ 0 → report.new ≡ report.old }
     // A file is refused by the fault that is reported, and so is a frame, behind what is written.
     ensures refused { result ≡ 5 → (file : List ℕ) → S.bytes source.old ≡ Some file →
         (fault : FileFault) × IsRefused (map string_bytes words.now) file fault
@@ -92,10 +103,5 @@ pub fn dst_run<E: Threads + Sync, S: Source, K: Sink, R: Sink>(
         S.given source.new ≤ S.given source.old + most_given longest_sound }
     ensures status { result ≤ 7 }
 {
-    match read_words(words) {
-        None => report_line(report, 1, lines::words_not_understood()),
-        Some(Task { command, workers }) => {
-            run_command(rt, alloc, command, workers, source, sink, report)
-        }
-    }
+    dst_run_by(rt, alloc, words, source, sink, report, &OpenGate)
 }

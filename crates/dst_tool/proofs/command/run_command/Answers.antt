@@ -1,5 +1,6 @@
 -- Each command by what it answered.
-use Rattle.std.proofs.Common.{◌≡◌, ◌≢◌, ◌⊎◌, inl, inr, ℕ, ◌≤◌, Bool, true, List, [], ◌∷◌, length, Some, Result, Ok, Err, IfOk, OnOk, refl, ap, sym, subst, ◌∙◌}
+use Rattle.std.proofs.Common.{◌≡◌, ◌≢◌, ◌⊎◌, inl, inr, ℕ, ◌≤◌, Bool, true, List, [], ◌∷◌, length, Option, Some, Result, Ok, Err, IfOk, OnOk, refl, ap}
+use Rattle.std.proofs.Common.{sym, subst, ◌∙◌, arith}
 use Rattle.std.specs.declared.alloc.AllocError.{AllocError}
 use Rattle.dst_streams.specs.Told.{and_then}
 use Rattle.dsdiff_spec.specs.Words as asked
@@ -21,6 +22,7 @@ use Rattle.dst_read.specs.declared.faults.DecodeFault.{DecodeFault}
 use Rattle.dst_read.specs.declared.faults.DecodeFault.TheVariants as decoding
 use Rattle.dst_make.specs.declared.make.MakeFault.TheVariants as making
 use Rattle.dst_read.specs.declared.faults.ShowFault.TheVariants as showing
+use Rattle.dst_read.specs.declared.faults.ListFault.{ListFault}
 use Rattle.dst_read.specs.declared.faults.ListFault.TheVariants as listing
 use Rattle.dst_tool.specs.Runs.{WholeOf}
 use Rattle.dst_tool.specs.Answers.{answered, done_line, line_of, status_of, of_check, of_cut, of_decode, of_encode, of_list, of_make, of_run, of_show}
@@ -53,6 +55,9 @@ of_checked d = record { frames = d.frames; bytes = 0; unread = d.unread; restore
 abbrev of_reported : Reported → Numbers
 of_reported d = record { frames = d.frames; bytes = 0; unread = 0; restored = 0 }
 
+at_most_itself : (n : ℕ) → n ≤ n
+at_most_itself n = omega arith
+
 -- ---- commands that report one line
 pub returns-in-Check : goal.returns-in-Check
 returns-in-Check g c =
@@ -68,7 +73,7 @@ returns-in-Check g c =
     let asks = asked.check in
     let one : (file : List ℕ) → bytes ≡ Some file → One (OutcomeOf asks file) =
     λ file told. command_has_one_outcome asks file tt (g.met.S.Source.told_are_bytes c.args.source.now file told) in
-    same_run same (run_of_answer asks r c.tell.result bytes _ _ _ _ _ _ _ _ _ tt (λ file told. g.met.S.Source.told_are_bytes c.args.source.now file told)
+    same_run same (run_of_answer asks r c.tell.result bytes _ _ _ _ _ _ _ _ _ _ _ tt tt (λ file told. g.met.S.Source.told_are_bytes c.args.source.now file told)
     (λ file told. record {
       finished = finished_alone asks r written file (subst (λ r. IfOk r (λ s. OutcomeOf asks file (done [] (done_line asks s ∷ [])))) (sym is)
           (if_answered of_checked of_check d _ (at_file d (λ s file. OutcomeOf asks file (done [] (check_line s.frames s.unread ∷ []))) bytes file
@@ -82,6 +87,9 @@ returns-in-Check g c =
     })
     (λ w. absurd w)
     (record {
+      bytes_stay = e.bytes;
+      later_source = e.later;
+      later_sink = at_most_itself _;
       read = λ h. e.read (back Read h);
       write = λ h. absurd (check_writes of_checked d (sym is ∙ h));
       sure = λ h. absurd (check_writes of_checked d (sym is ∙ h));
@@ -99,7 +107,7 @@ returns-in-Check g c =
     (subst (λ q. TellsLine (status_of r) (line_of q r) c.tell.result
     (record { before = g.R.Sink.faults c.args.report.now; now = g.R.Sink.faults c.tell.new.report })
     (record { old = g.R.Sink.written c.args.report.now; new = g.R.Sink.written c.tell.new.report; room = g.R.Sink.room c.args.report.now }))
-    same (record { reported = t.reported; whole = t.whole; cut_short = t.cut_short; cause = t.cause; sure = t.sure })))
+    same (record { reported = t.reported; whole = t.whole; cut_short = t.cut_short; cause = t.cause; later = t.later; sure = t.sure })))
 
 pub returns-in-Make : goal.returns-in-Make
 returns-in-Make g c =
@@ -132,11 +140,14 @@ returns-in-Make g c =
       memory = λ refused h. made_memory of_made d _ (λ fault q. ap g.K.Sink.written (e.memory fault q)) refused (sym is ∙ h);
       no_report = λ h. other Report (λ q. absurd cc) (λ x q. absurd cc) h;
     } in
-    same_run same (run_of_answer asks r c.tell-in-Make.result bytes _ _ _ _ _ _ _ _ _ tt
+    same_run same (run_of_answer asks r c.tell-in-Make.result bytes _ _ _ _ _ _ _ _ _ _ _ tt tt
     (λ file told. g.met.S.Source.told_are_bytes c.args.source.now file told)
     (λ file told. answer file)
     (λ w. answer [])
     (record {
+      bytes_stay = refl;
+      later_source = at_most_itself _;
+      later_sink = e.later;
       read = λ h. absurd (other Read (λ q. absurd cc) (λ x q. absurd cc) h);
       write = λ h. e.write (no_write h);
       sure = λ h file told o outcome n room fits. e.sure (no_write h) n room
@@ -156,7 +167,7 @@ returns-in-Make g c =
       any_source = λ k h. absurd (making_is_no_frame start frames _ _ k h);
       no_report = λ h. other Report (λ q. absurd cc) (λ x q. absurd cc) h;
     })
-    (record { reported = t.reported; whole = t.whole; cut_short = t.cut_short; cause = t.cause; sure = t.sure }))
+    (record { reported = t.reported; whole = t.whole; cut_short = t.cut_short; cause = t.cause; later = t.later; sure = t.sure }))
   where
     when_ok : {A E : Type 0} (d : Result A E) (P : Type 0) → IfOk d (λ a. P) → OnOk d P
     when_ok (Ok a) P p = p
@@ -188,11 +199,14 @@ returns-in-MakeRun g c =
       memory = λ refused h. refl;
       no_report = λ h. other Report (λ x q. absurd cc) h;
     } in
-    same_run same (run_of_answer asks r c.tell-in-MakeRun.result bytes _ _ _ _ _ _ _ _ _ tt
+    same_run same (run_of_answer asks r c.tell-in-MakeRun.result bytes _ _ _ _ _ _ _ _ _ _ _ tt tt
     (λ file told. g.met.S.Source.told_are_bytes c.args.source.now file told)
     (λ file told. answer file)
     (λ w. answer [])
     (record {
+      bytes_stay = refl;
+      later_source = at_most_itself _;
+      later_sink = at_most_itself _;
       read = λ h. absurd (other Read (λ x q. absurd cc) h);
       write = λ h. absurd (other Write (λ x q. absurd cc) h);
       sure = λ h. absurd (other Write (λ x q. absurd cc) h);
@@ -211,9 +225,21 @@ returns-in-MakeRun g c =
       any_source = λ k h. absurd (running_is_no_frame start frames _ _ k h);
       no_report = λ h. other Report (λ x q. absurd cc) h;
     })
-    (record { reported = t.reported; whole = t.whole; cut_short = t.cut_short; cause = t.cause; sure = t.sure }))
+    (record { reported = t.reported; whole = t.whole; cut_short = t.cut_short; cause = t.cause; later = t.later; sure = t.sure }))
 
 -- ---- commands that report their lines themselves
+showing_is_no_listing : asked.show ≡ asked.index → ⊥
+showing_is_no_listing e = absurd cc
+
+showing_one_is_no_listing : (k : ℕ) → asked.show_frame k ≡ asked.index → ⊥
+showing_one_is_no_listing k e = absurd cc
+
+-- of a file without frames the list of frames is what the report was
+silent_listing : (d : Result Reported ListFault) (bytes : Option (List ℕ)) (file : List ℕ) (Q : Type 0) → bytes ≡ Some file → (accepted file).frames ≡ 0 →
+    IfOk d (λ s. (xs : List ℕ) → bytes ≡ Some xs → s.frames ≡ (accepted xs).frames) → IfOk d (λ s. s.frames ≡ 0 → Q) → OnOk d Q
+silent_listing (Ok s) bytes file Q told none frames silent = silent (frames file told ∙ none)
+silent_listing (Err fault) bytes file Q told none frames silent = tt {0}
+
 pub returns-in-Show : goal.returns-in-Show
 returns-in-Show g c =
     let d = c.show_file-answer.result in
@@ -233,8 +259,8 @@ returns-in-Show g c =
       new = g.R.Sink.written c.tell_fault.new.report;
       room =
           g.R.Sink.room c.show_file-answer.new.report;
-    }) _ _ _ tt tt (λ w. w) (λ k h. showing_is_no_frame k h)
-    (λ file told. g.met.S.Source.told_are_bytes c.args.source.now file told) refl refl refl refl
+    }) _ _ _ _ _ tt tt (λ w. w) (λ k h. showing_is_no_frame k h)
+    (λ file told. g.met.S.Source.told_are_bytes c.args.source.now file told) refl refl (at_most_itself _) e.bytes refl refl
     (λ file told. record {
       lines = subst (λ r. IfOk r (λ s. (lines : List Line) × OutcomeOf asks file (done [] lines)
           × (g.R.Sink.written c.show_file-answer.new.report ≡ and_then (g.R.Sink.written c.args.report.now) (report lines)))) (sym is)
@@ -247,6 +273,7 @@ returns-in-Show g c =
       cut_short = λ h. e.cut_short (back Report h) file told;
     })
     (record {
+      later = e.later;
       read = λ h. e.read (back Read h);
       no_write = λ h. show_writes of_reported d (sym is ∙ h);
       reported = λ h. e.reported (back Report h);
@@ -261,9 +288,11 @@ returns-in-Show g c =
       whole = t.whole;
       cut_short = t.cut_short;
       cause = t.cause;
+      later = t.later;
       sure = t.sure;
     })
-    (λ h. e.sure (back Report h)))
+    (λ h. e.sure (back Report h))
+    (λ is. absurd (showing_is_no_listing is)))
   where
     other_report : (fault : Fault) → (fault ≢ Report) → c.shown.result ≡ Err fault → to_show fault ≡ showing.Report → ⊥
     other_report Read other h same = absurd cc
@@ -292,8 +321,8 @@ returns-in-ShowFrame g c =
       new = g.R.Sink.written c.tell_fault-in-ShowFrame.new.report;
       room =
           g.R.Sink.room c.show_file-answer-in-ShowFrame.new.report;
-    }) _ _ _ tt tt (λ w. w) (λ k h. showing_one_is_no_frame c.in-ShowFrame.frame k h)
-    (λ file told. g.met.S.Source.told_are_bytes c.args.source.now file told) refl refl refl refl
+    }) _ _ _ _ _ tt tt (λ w. w) (λ k h. showing_one_is_no_frame c.in-ShowFrame.frame k h)
+    (λ file told. g.met.S.Source.told_are_bytes c.args.source.now file told) refl refl (at_most_itself _) e.bytes refl refl
     (λ file told. record {
       lines = subst (λ r. IfOk r (λ s. (lines : List Line) × OutcomeOf asks file (done [] lines)
           × (g.R.Sink.written c.show_file-answer-in-ShowFrame.new.report ≡ and_then (g.R.Sink.written c.args.report.now) (report lines)))) (sym is)
@@ -307,6 +336,7 @@ returns-in-ShowFrame g c =
       cut_short = λ h. e.cut_short (back Report h) file told;
     })
     (record {
+      later = e.later;
       read = λ h. e.read (back Read h);
       no_write = λ h. show_writes of_reported d (sym is ∙ h);
       reported = λ h. e.reported (back Report h);
@@ -321,9 +351,11 @@ returns-in-ShowFrame g c =
       whole = t.whole;
       cut_short = t.cut_short;
       cause = t.cause;
+      later = t.later;
       sure = t.sure;
     })
-    (λ h. e.sure (back Report h)))
+    (λ h. e.sure (back Report h))
+    (λ is. absurd (showing_one_is_no_listing c.in-ShowFrame.frame is)))
   where
     other_report : (fault : Fault) → (fault ≢ Report) → c.shown-in-ShowFrame.result ≡ Err fault → to_show fault ≡ showing.Report → ⊥
     other_report Read other h same = absurd cc
@@ -352,8 +384,8 @@ returns-in-Index g c =
       new = g.R.Sink.written c.tell_fault-in-Index.new.report;
       room =
           g.R.Sink.room c.index_file-answer.new.report;
-    }) _ _ _ tt tt (λ w. w) (λ k h. listing_is_no_frame k h)
-    (λ file told. g.met.S.Source.told_are_bytes c.args.source.now file told) refl refl refl refl
+    }) _ _ _ _ _ tt tt (λ w. w) (λ k h. listing_is_no_frame k h)
+    (λ file told. g.met.S.Source.told_are_bytes c.args.source.now file told) refl refl (at_most_itself _) e.bytes refl refl
     (λ file told. record {
       lines = subst (λ r. IfOk r (λ s. (lines : List Line) × OutcomeOf asks file (done [] lines)
           × (g.R.Sink.written c.index_file-answer.new.report ≡ and_then (g.R.Sink.written c.args.report.now) (report lines)))) (sym is)
@@ -366,6 +398,7 @@ returns-in-Index g c =
       cut_short = λ h. e.cut_short (back Report h) file told;
     })
     (record {
+      later = e.later;
       read = λ h. e.read (back Read h);
       no_write = λ h. list_writes of_reported d (sym is ∙ h);
       reported = λ h. e.reported (back Report h);
@@ -380,9 +413,11 @@ returns-in-Index g c =
       whole = t.whole;
       cut_short = t.cut_short;
       cause = t.cause;
+      later = t.later;
       sure = t.sure;
     })
-    (λ h. e.sure (back Report h)))
+    (λ h. e.sure (back Report h))
+    (λ listed file told none s h. (t.done s h).1 ∙ if_done of_reported of_list d s (sym is ∙ h) (silent_listing d bytes file _ told none e.frames e.silent)))
   where
     other_report : (fault : Fault) → (fault ≢ Report) → c.listed.result ≡ Err fault → to_list fault ≡ listing.Report → ⊥
     other_report Read other h same = absurd cc

@@ -82,7 +82,7 @@ returns-in-Encode g c =
     let picker_is : picker ≡ level = c.picker_of-picker.ensures in
     let one : (file : List ℕ) → bytes ≡ Some file → One (OutcomeOf asks file) =
     λ file told. command_has_one_outcome asks file tt (g.met.S.Source.told_are_bytes c.args.source.now file told) in
-    same_run same (run_of_answer asks r c.tell.result bytes _ _ _ _ _ _ _ _ _ tt (λ file told. g.met.S.Source.told_are_bytes c.args.source.now file told)
+    same_run same (run_of_answer asks r c.tell.result bytes _ _ _ _ _ _ _ _ _ _ _ tt tt (λ file told. g.met.S.Source.told_are_bytes c.args.source.now file told)
     (λ file told. record {
       finished = subst (λ r. IfOk r (λ s. (out : List ℕ) × OutcomeOf asks file (done out (done_line asks s ∷ []))
           × WholeOf (Some asks) out written new)) (sym is)
@@ -97,6 +97,9 @@ returns-in-Encode g c =
     })
     (λ w. absurd w)
     (record {
+      bytes_stay = e.bytes;
+      later_source = e.later.0;
+      later_sink = e.later.1;
       read = λ h. e.read (back Read h);
       write = λ h. e.write (back Write h);
       sure = λ h file told o outcome n room fits.
@@ -114,7 +117,7 @@ returns-in-Encode g c =
       any_source = λ k h. absurd (encoding_is_no_frame level k h);
       no_report = λ h. encode_reports of_encoded d (sym is ∙ h);
     })
-    (record { reported = t.reported; whole = t.whole; cut_short = t.cut_short; cause = t.cause; sure = t.sure }))
+    (record { reported = t.reported; whole = t.whole; cut_short = t.cut_short; cause = t.cause; later = t.later; sure = t.sure }))
 
 pub returns-in-Decode : goal.returns-in-Decode
 returns-in-Decode g c =
@@ -128,7 +131,7 @@ returns-in-Decode g c =
     let written = g.K.Sink.written c.args.sink.now in
     let same = ap command_seen c.in-Decode.is in
     let asks = asked.decode in
-    same_run same (run_of_answer asks r c.tell-in-Decode.result bytes _ _ _ _ _ _ _ _ _ tt
+    same_run same (run_of_answer asks r c.tell-in-Decode.result bytes _ _ _ _ _ _ _ _ _ _ _ tt tt
     (λ file told. g.met.S.Source.told_are_bytes c.args.source.now file told)
     (λ file told. record {
       finished = subst (λ r. IfOk r (λ s. (out : List ℕ) × OutcomeOf asks file (done out (done_line asks s ∷ []))
@@ -145,6 +148,9 @@ returns-in-Decode g c =
     })
     (λ w. absurd w)
     (record {
+      bytes_stay = e.bytes;
+      later_source = e.later.0;
+      later_sink = e.later.1;
       read = λ h. e.read (back Read h);
       write = λ h. e.write (back Write h);
       sure = λ h. e.sure (back Write h);
@@ -167,7 +173,7 @@ returns-in-Decode g c =
       room =
           g.R.Sink.room c.args.report.now;
     })) same
-    (record { reported = t.reported; whole = t.whole; cut_short = t.cut_short; cause = t.cause; sure = t.sure })))
+    (record { reported = t.reported; whole = t.whole; cut_short = t.cut_short; cause = t.cause; later = t.later; sure = t.sure })))
 
 pub returns-in-EncodeDsf : goal.returns-in-EncodeDsf
 returns-in-EncodeDsf g c =
@@ -187,7 +193,7 @@ returns-in-EncodeDsf g c =
     let picker_is : picker ≡ level = c.picker_of-picker-in-EncodeDsf.ensures in
     let one : (file : List ℕ) → bytes ≡ Some file → One (OutcomeOf asks file) =
     λ file told. command_has_one_outcome asks file tt (g.met.S.Source.told_are_bytes c.args.source.now file told) in
-    same_run same (run_of_answer asks r c.tell-in-EncodeDsf.result bytes _ _ _ _ _ _ _ _ _ tt
+    same_run same (run_of_answer asks r c.tell-in-EncodeDsf.result bytes _ _ _ _ _ _ _ _ _ _ _ tt tt
     (λ file told. g.met.S.Source.told_are_bytes c.args.source.now file told)
     (λ file told. record {
       finished = subst (λ r. IfOk r (λ s. (out : List ℕ) × OutcomeOf asks file (done out (done_line asks s ∷ []))
@@ -203,6 +209,9 @@ returns-in-EncodeDsf g c =
     })
     (λ w. absurd w)
     (record {
+      bytes_stay = e.bytes;
+      later_source = e.later.0;
+      later_sink = e.later.1;
       read = λ h. e.read (back Read h);
       write = λ h. e.write (back Write h);
       sure = λ h file told o outcome n room fits.
@@ -219,7 +228,7 @@ returns-in-EncodeDsf g c =
       any_source = λ k h. absurd (encoding_dsf_is_no_frame level k h);
       no_report = λ h. encode_reports of_encoded d (sym is ∙ h);
     })
-    (record { reported = t.reported; whole = t.whole; cut_short = t.cut_short; cause = t.cause; sure = t.sure }))
+    (record { reported = t.reported; whole = t.whole; cut_short = t.cut_short; cause = t.cause; later = t.later; sure = t.sure }))
 
 pub returns-in-DecodeDsf : goal.returns-in-DecodeDsf
 returns-in-DecodeDsf g c =
@@ -233,7 +242,7 @@ returns-in-DecodeDsf g c =
     let written = g.K.Sink.written c.args.sink.now in
     let same = ap command_seen c.in-DecodeDsf.is in
     let asks = asked.decode_dsf in
-    same_run same (run_of_answer asks r c.tell-in-DecodeDsf.result bytes _ _ _ _ _ _ _ _ _ tt
+    same_run same (run_of_answer asks r c.tell-in-DecodeDsf.result bytes _ _ _ _ _ _ _ _ _ _ _ tt tt
     (λ file told. g.met.S.Source.told_are_bytes c.args.source.now file told)
     (λ file told. record {
       finished = subst (λ r. IfOk r (λ s. (out : List ℕ) × OutcomeOf asks file (done out (done_line asks s ∷ []))
@@ -250,6 +259,9 @@ returns-in-DecodeDsf g c =
     })
     (λ w. absurd w)
     (record {
+      bytes_stay = e.bytes;
+      later_source = e.later.0;
+      later_sink = e.later.1;
       read = λ h. e.read (back Read h);
       write = λ h. e.write (back Write h);
       sure = λ h. e.sure (back Write h);
@@ -272,7 +284,7 @@ returns-in-DecodeDsf g c =
       room =
           g.R.Sink.room c.args.report.now;
     })) same
-    (record { reported = t.reported; whole = t.whole; cut_short = t.cut_short; cause = t.cause; sure = t.sure })))
+    (record { reported = t.reported; whole = t.whole; cut_short = t.cut_short; cause = t.cause; later = t.later; sure = t.sure })))
 
 pub returns-in-Cut : goal.returns-in-Cut
 returns-in-Cut g c =
@@ -286,7 +298,8 @@ returns-in-Cut g c =
     let written = g.K.Sink.written c.args.sink.now in
     let same = ap command_seen c.in-Cut.is in
     let asks = asked.cut c.in-Cut.first c.in-Cut.last in
-    same_run same (run_of_answer asks r c.tell-in-Cut.result bytes _ _ _ _ _ _ _ _ _ tt (λ file told. g.met.S.Source.told_are_bytes c.args.source.now file told)
+    same_run same (run_of_answer asks r c.tell-in-Cut.result bytes _ _ _ _ _ _ _ _ _ _ _ tt tt
+    (λ file told. g.met.S.Source.told_are_bytes c.args.source.now file told)
     (λ file told. record {
       finished = subst (λ r. IfOk r (λ s. (out : List ℕ) × OutcomeOf asks file (done out (done_line asks s ∷ []))
           × (g.K.Sink.written c.cut_file-answer.new.sink ≡ and_then written out))) (sym is)
@@ -302,6 +315,9 @@ returns-in-Cut g c =
     })
     (λ w. absurd w)
     (record {
+      bytes_stay = e.bytes;
+      later_source = e.later.0;
+      later_sink = e.later.1;
       read = λ h. e.read (back Read h);
       write = λ h. e.write (back Write h);
       sure = λ h. e.sure (back Write h);
@@ -316,7 +332,7 @@ returns-in-Cut g c =
       any_source = λ k h. absurd (cutting_is_no_frame c.in-Cut.first c.in-Cut.last k h);
       no_report = λ h. cut_reports of_cut_out d (sym is ∙ h);
     })
-    (record { reported = t.reported; whole = t.whole; cut_short = t.cut_short; cause = t.cause; sure = t.sure }))
+    (record { reported = t.reported; whole = t.whole; cut_short = t.cut_short; cause = t.cause; later = t.later; sure = t.sure }))
 
 pub returns-in-Frame : goal.returns-in-Frame
 returns-in-Frame g c =
@@ -332,7 +348,7 @@ returns-in-Frame g c =
     let asks = asked.frame c.in-Frame.frame c.in-Frame.by_index in
     let other : (f : DecodeFault) → d ≡ Err f → (f ≢ decoding.Write) → g.K.Sink.written c.frame_out-answer.new.sink ≡ written =
     λ f h other. ap g.K.Sink.written (e.untouched f h other) in
-    same_run same (run_of_answer asks r c.tell-in-Frame.result bytes _ _ _ _ _ _ _ _ _ tt
+    same_run same (run_of_answer asks r c.tell-in-Frame.result bytes _ _ _ _ _ _ _ _ _ _ _ tt tt
     (λ file told. g.met.S.Source.told_are_bytes c.args.source.now file told)
     (λ file told. record {
       finished = subst (λ r. IfOk r (λ s. (out : List ℕ) × OutcomeOf asks file (done out (done_line asks s ∷ []))
@@ -356,6 +372,9 @@ returns-in-Frame g c =
     })
     (λ w. absurd w)
     (record {
+      bytes_stay = e.bytes;
+      later_source = e.later.0;
+      later_sink = e.later.1;
       read = λ h. e.read (back Read h);
       write = λ h. e.write (back Write h);
       sure = λ h. e.sure (back Write h);
@@ -370,7 +389,7 @@ returns-in-Frame g c =
       any_source = λ k h. most_for_any _ _ (e.given_any (by_index_is c.in-Frame.frame k c.in-Frame.by_index h));
       no_report = λ h. decode_reports of_written d (sym is ∙ h);
     })
-    (record { reported = t.reported; whole = t.whole; cut_short = t.cut_short; cause = t.cause; sure = t.sure }))
+    (record { reported = t.reported; whole = t.whole; cut_short = t.cut_short; cause = t.cause; later = t.later; sure = t.sure }))
   where
     by_index_is : (j k : ℕ) (b : Bool) → asked.frame j b ≡ asked.frame k true → b ≡ true
     by_index_is j k b is = cc
@@ -388,7 +407,7 @@ returns-in-Range g c =
     let pairs = c.as_slice.result.now in
     let same = ap command_seen c.in-Range.is ∙ ap asked.range (sym c.as_slice.ensures.pairs) in
     let asks = asked.range pairs in
-    same_run same (run_of_answer asks r c.tell-in-Range.result bytes _ _ _ _ _ _ _ _ _ tt
+    same_run same (run_of_answer asks r c.tell-in-Range.result bytes _ _ _ _ _ _ _ _ _ _ _ tt tt
     (λ file told. g.met.S.Source.told_are_bytes c.args.source.now file told)
     (λ file told. record {
       finished = subst (λ r. IfOk r (λ s. (out : List ℕ) × OutcomeOf asks file (done out (done_line asks s ∷ []))
@@ -405,6 +424,9 @@ returns-in-Range g c =
     })
     (λ w. absurd w)
     (record {
+      bytes_stay = e.bytes;
+      later_source = e.later.0;
+      later_sink = e.later.1;
       read = λ h. e.read (back Read h);
       write = λ h. e.write (back Write h);
       sure = λ h. e.sure (back Write h);
@@ -421,4 +443,4 @@ returns-in-Range g c =
       any_source = λ k h. absurd (ranging_is_no_frame pairs k h);
       no_report = λ h. decode_reports of_ranged d (sym is ∙ h);
     })
-    (record { reported = t.reported; whole = t.whole; cut_short = t.cut_short; cause = t.cause; sure = t.sure }))
+    (record { reported = t.reported; whole = t.whole; cut_short = t.cut_short; cause = t.cause; later = t.later; sure = t.sure }))
