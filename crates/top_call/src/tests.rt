@@ -5,6 +5,7 @@ use std::process::Abort;
 use std::thread::Threads;
 
 mod devices;
+mod gates;
 mod ranges;
 mod reading;
 mod refused;

@@ -1,0 +1,97 @@
+// As many frames are worked at once as there are workers, and no more.
+use crate::split;
+use dst_streams::{HonestSource, MemorySink};
+use dst_tool::dst_run_by;
+use example_files::{coded, counting, frame};
+use frame_crew::Gate;
+use std::alloc::{AllocError, Global};
+use std::sync::atomic::{AtomicBool, AtomicU64, Ordering};
+use std::test::Fail;
+use std::thread::Threads;
+
+// Holds each worker until as many have come as there are workers.
+#[derive(Drop)]
+struct Meeting {
+    workers: u64,
+    passes: AtomicU64,
+    inside: AtomicU64,
+    most_inside: AtomicU64,
+    ran_out: AtomicBool,
+}
+
+impl Meeting {
+    fn of(workers: u64) -> Meeting {
+        Meeting {
+            workers,
+            passes: AtomicU64::new(0),
+            inside: AtomicU64::new(0),
+            most_inside: AtomicU64::new(0),
+            ran_out: AtomicBool::new(false),
+        }
+    }
+
+    // Waits for the others of this meeting, for so many turns; where they run out nobody waits any more.
+    fn wait(&self, place: u64) {
+        let others = (place / self.workers.max(1) + 1).saturating_mul(self.workers);
+        for _ in 0..100_000_000u64 {
+            if self.passes.load(Ordering::SeqCst) >= others || self.ran_out.load(Ordering::SeqCst) {
+                return;
+            }
+        }
+        self.ran_out.store(true, Ordering::SeqCst);
+    }
+}
+
+impl Gate for Meeting {
+    fn pass(&self, _place: usize) {
+        let inside = self
+            .inside
+            .fetch_add(1, Ordering::SeqCst)
+            .saturating_add(1);
+        self.most_inside.fetch_max(inside, Ordering::SeqCst);
+        let place = self.passes.fetch_add(1, Ordering::SeqCst);
+        self.wait(place);
+        self.inside.fetch_sub(1, Ordering::SeqCst);
+    }
+}
+
+// A file of so many frames of bytes counting.
+fn file_of(alloc: Global, count: u32) -> Result<Vec<u8>, AllocError> {
+    let sound = counting(alloc, 4704)?;
+    let whole = frame(alloc, &[b"\0", &sound])?;
+    let mut frames: Vec<&[u8]> = Vec::new(alloc);
+    for _ in 0..count {
+        frames.push(&whole)?;
+    }
+    coded(alloc, count, &frames, &[])
+}
+
+#[test]
+fn as_many_frames_are_decoded_at_once_as_there_are_workers(rt: HostRuntime) -> Result<(), Fail> {
+    let alloc = rt.alloc();
+    for workers in &[2u32, 4, 16] {
+        let jobs = 2 * *workers;
+        let file = file_of(alloc, jobs)?;
+        let words = split(alloc, &format!(in alloc; "decode a b --workers {workers}")?)?;
+        let gate = Meeting::of(u64::from(*workers));
+        let mut source = HonestSource::new(&file);
+        let mut sink = MemorySink::new(alloc, 200_000, &[])?;
+        let mut report = MemorySink::new(alloc, 100, &[])?;
+        let status = dst_run_by(
+            &rt,
+            alloc,
+            &words,
+            &mut source,
+            &mut sink,
+            &mut report,
+            &gate,
+        );
+        assert_eq!(rt; status, 0, "{workers} workers");
+        assert_eq!(rt; sink.written().len(), 126 + jobs as usize * 4704, "{workers} workers");
+        assert!(rt; !gate.ran_out.load(Ordering::SeqCst), "{workers} workers");
+        assert_eq!(rt; gate.passes.load(Ordering::SeqCst), u64::from(jobs), "{workers} workers");
+        assert_eq!(rt; gate.most_inside.load(Ordering::SeqCst), u64::from(*workers), "{workers} workers");
+        assert_eq!(rt; gate.inside.load(Ordering::SeqCst), 0, "{workers} workers");
+    }
+    Ok(())
+}
