@@ -232,10 +232,17 @@ pub at_most_seven : (result : ℕ) (old new : Option (List ℕ)) → Reports 1 (
 at_most_seven result old new (inl (is, told)) = omega arith
 at_most_seven result old new (inr (is, piece)) = omega arith
 
-pub not_of_words : (status result : ℕ) (old new : Option (List ℕ)) → Reports 1 (words_line ∷ []) result old new → result ≡ status →
+not_of_words : (status result : ℕ) (old new : Option (List ℕ)) → Reports 1 (words_line ∷ []) result old new → result ≡ status →
     1 < status → status < 7 → ⊥
 not_of_words status result old new (inl (is, told)) same least most = omega arith
 not_of_words status result old new (inr (is, piece)) same least most = omega arith
+
+-- each other status is that of a command
+pub by_status : {P : Type 0} (words : List Word) (status result : ℕ) (old new : Option (List ℕ)) →
+    (command_of words ≡ None → Reports 1 (words_line ∷ []) result old new) → result ≡ status → 1 < status → status < 7 →
+    ((c : Command) → command_of words ≡ Some c → P) → P
+by_status words status result old new refused same least most some =
+    by_words words (λ none. absurd (not_of_words status result old new (refused none) same least most)) some
 
 -- a device that is what it was has failed no less often
 pub no_fewer : (now before : ℕ) → now ≡ before → before ≤ now

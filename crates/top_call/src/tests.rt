@@ -6,6 +6,7 @@ use std::thread::Threads;
 
 mod devices;
 mod gates;
+mod lines;
 mod ranges;
 mod reading;
 mod refused;

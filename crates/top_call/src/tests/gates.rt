@@ -44,10 +44,7 @@ impl Meeting {
 
 impl Gate for Meeting {
     fn pass(&self, _place: usize) {
-        let inside = self
-            .inside
-            .fetch_add(1, Ordering::SeqCst)
-            .saturating_add(1);
+        let inside = self.inside.fetch_add(1, Ordering::SeqCst).saturating_add(1);
         self.most_inside.fetch_max(inside, Ordering::SeqCst);
         let place = self.passes.fetch_add(1, Ordering::SeqCst);
         self.wait(place);
@@ -87,10 +84,22 @@ fn as_many_frames_are_decoded_at_once_as_there_are_workers(rt: HostRuntime) -> R
             &gate,
         );
         assert_eq!(rt; status, 0, "{workers} workers");
-        assert_eq!(rt; sink.written().len(), 126 + jobs as usize * 4704, "{workers} workers");
+        assert_eq!(rt;
+            sink.written().len(),
+            126 + jobs as usize * 4704,
+            "{workers} workers"
+        );
         assert!(rt; !gate.ran_out.load(Ordering::SeqCst), "{workers} workers");
-        assert_eq!(rt; gate.passes.load(Ordering::SeqCst), u64::from(jobs), "{workers} workers");
-        assert_eq!(rt; gate.most_inside.load(Ordering::SeqCst), u64::from(*workers), "{workers} workers");
+        assert_eq!(rt;
+            gate.passes.load(Ordering::SeqCst),
+            u64::from(jobs),
+            "{workers} workers"
+        );
+        assert_eq!(rt;
+            gate.most_inside.load(Ordering::SeqCst),
+            u64::from(*workers),
+            "{workers} workers"
+        );
         assert_eq!(rt; gate.inside.load(Ordering::SeqCst), 0, "{workers} workers");
     }
     Ok(())

@@ -3,8 +3,8 @@ use Rattle.std.proofs.Common.{◌≤◌, inr, true, [], ◌∷◌, length, map, 
 use Rattle.std.specs.String.{string_bytes}
 use Rattle.dsdiff_spec.specs.Lines.{report, words_line}
 use Rattle.dsdiff_spec.specs.Words.{frame, index}
-use Rattle.dst_tool.proofs.Runs.{by_words, of_command, ends_of_words, run_headline, run_completes, run_refused, run_refused_frame}
-use Rattle.dst_tool.proofs.Runs.{no_command, none_headline, only_words_line, words_status, words_caused, at_most_seven, not_of_words, no_fewer}
+use Rattle.dst_tool.proofs.Runs.{by_words, by_status, of_command, ends_of_words, run_headline, run_completes, run_refused, run_refused_frame}
+use Rattle.dst_tool.proofs.Runs.{no_command, none_headline, only_words_line, words_status, words_caused, at_most_seven, no_fewer}
 use Rattle.dst_tool.proofs.run.dst_run.Goals as goal
 
 pub returns-clause-headline : goal.returns-clause-headline
@@ -113,14 +113,14 @@ pub returns-clause-read : goal.returns-clause-read
 returns-clause-read g c two =
     let words = map string_bytes c.args.words.now in
     let r = c.dst_run_by.ensures in
-    by_words words (λ none. absurd (not_of_words 2 c.dst_run_by.result _ _ (r.words none) two (omega arith) (omega arith)))
+    by_status words 2 c.dst_run_by.result _ _ r.words two (omega arith) (omega arith)
     (λ asks is. (r.run asks is).read two)
 
 pub returns-clause-write : goal.returns-clause-write
 returns-clause-write g c three =
     let words = map string_bytes c.args.words.now in
     let r = c.dst_run_by.ensures in
-    by_words words (λ none. absurd (not_of_words 3 c.dst_run_by.result _ _ (r.words none) three (omega arith) (omega arith)))
+    by_status words 3 c.dst_run_by.result _ _ r.words three (omega arith) (omega arith)
     (λ asks is. (r.run asks is).write three)
 
 pub returns-clause-reported : goal.returns-clause-reported
@@ -132,7 +132,7 @@ pub returns-clause-sure_sink : goal.returns-clause-sure_sink
 returns-clause-sure_sink g c file told o outcome room known fits three =
     let words = map string_bytes c.args.words.now in
     let r = c.dst_run_by.ensures in
-    by_words words (λ none. not_of_words 3 c.dst_run_by.result _ _ (r.words none) three (omega arith) (omega arith))
+    by_status words 3 c.dst_run_by.result _ _ r.words three (omega arith) (omega arith)
     (λ asks is. (r.run asks is).sure_sink file told o (of_command words asks file o is outcome) room known fits three)
 
 pub returns-clause-sure_report : goal.returns-clause-sure_report
@@ -147,14 +147,14 @@ pub returns-clause-memory : goal.returns-clause-memory
 returns-clause-memory g c four =
     let words = map string_bytes c.args.words.now in
     let r = c.dst_run_by.ensures in
-    by_words words (λ none. absurd (not_of_words 4 c.dst_run_by.result _ _ (r.words none) four (omega arith) (omega arith)))
+    by_status words 4 c.dst_run_by.result _ _ r.words four (omega arith) (omega arith)
     (λ asks is. (r.run asks is).memory four)
 
 pub returns-clause-memory_line : goal.returns-clause-memory_line
 returns-clause-memory_line g c four =
     let words = map string_bytes c.args.words.now in
     let r = c.dst_run_by.ensures in
-    by_words words (λ none. absurd (not_of_words 4 c.dst_run_by.result _ _ (r.words none) four (omega arith) (omega arith)))
+    by_status words 4 c.dst_run_by.result _ _ r.words four (omega arith) (omega arith)
     (λ asks is. (r.run asks is).memory_told four)
 
 pub returns-clause-silent : goal.returns-clause-silent
@@ -166,21 +166,21 @@ pub returns-clause-file : goal.returns-clause-file
 returns-clause-file g c five =
     let words = map string_bytes c.args.words.now in
     let r = c.dst_run_by.ensures in
-    by_words words (λ none. absurd (not_of_words 5 c.dst_run_by.result _ _ (r.words none) five (omega arith) (omega arith)))
+    by_status words 5 c.dst_run_by.result _ _ r.words five (omega arith) (omega arith)
     (λ asks is. (r.run asks is).file_refused five)
 
 pub returns-clause-refused : goal.returns-clause-refused
 returns-clause-refused g c five file told =
     let words = map string_bytes c.args.words.now in
     let r = c.dst_run_by.ensures in
-    by_words words (λ none. absurd (not_of_words 5 c.dst_run_by.result _ _ (r.words none) five (omega arith) (omega arith)))
+    by_status words 5 c.dst_run_by.result _ _ r.words five (omega arith) (omega arith)
     (λ asks is. run_refused words asks file c.dst_run_by.result _ _ _ _ _ _ _ _ _ _ _ _ is (r.run asks is) told five)
 
 pub returns-clause-frame : goal.returns-clause-frame
 returns-clause-frame g c six file told =
     let words = map string_bytes c.args.words.now in
     let r = c.dst_run_by.ensures in
-    by_words words (λ none. absurd (not_of_words 6 c.dst_run_by.result _ _ (r.words none) six (omega arith) (omega arith)))
+    by_status words 6 c.dst_run_by.result _ _ r.words six (omega arith) (omega arith)
     (λ asks is. run_refused_frame words asks file c.dst_run_by.result _ _ _ _ _ _ _ _ _ _ _ _ is (r.run asks is) told six)
 
 pub returns-clause-by_index : goal.returns-clause-by_index
