@@ -219,7 +219,8 @@ at_most (Err (Frame k fault)) result (inl e) = omega arith
 
 pub run_of_listing : (c : Command) (r : Result Numbers Fault) (result : ℕ) (bytes : Option (List ℕ)) (source sink counts middle given : Counts)
     (written told mid : Held) (Same Settled Unread Kept Silent : Type 0) → HasOutcome c → WritesNowhere c → (ReadsNothing c → ⊥) →
-    ((k : ℕ) → c ≡ frame k true → ⊥) → ((file : List ℕ) → bytes ≡ Some file → AreBytes file) → written.old ≡ written.new → Same → sink.before ≤ sink.now → Kept → mid.new ≡ told.new →
+    ((k : ℕ) → c ≡ frame k true → ⊥) →
+    ((file : List ℕ) → bytes ≡ Some file → AreBytes file) → written.old ≡ written.new → Same → sink.before ≤ sink.now → Kept → mid.new ≡ told.new →
     middle.now ≡ counts.now →
     ((file : List ℕ) → bytes ≡ Some file → IsListing c r file told.old mid.old) → Lists r source counts middle told mid →
     TellsFault r result middle mid → IsSure r c bytes told →
