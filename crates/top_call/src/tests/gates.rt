@@ -32,7 +32,11 @@ impl Meeting {
 
     // Waits for the others of this meeting, for so many turns; where they run out nobody waits any more.
     fn wait(&self, place: u64) {
-        let others = (place / self.workers.max(1) + 1).saturating_mul(self.workers);
+        if self.workers == 0 {
+            return;
+        }
+        let meeting = (place / self.workers).saturating_add(1);
+        let others = meeting.saturating_mul(self.workers);
         for _ in 0..100_000_000u64 {
             if self.passes.load(Ordering::SeqCst) >= others || self.ran_out.load(Ordering::SeqCst) {
                 return;
@@ -67,7 +71,7 @@ fn file_of(alloc: Global, count: u32) -> Result<Vec<u8>, AllocError> {
 fn as_many_frames_are_decoded_at_once_as_there_are_workers(rt: HostRuntime) -> Result<(), Fail> {
     let alloc = rt.alloc();
     for workers in &[2u32, 4, 16] {
-        let jobs = 2 * *workers;
+        let jobs = workers.saturating_mul(2);
         let file = file_of(alloc, jobs)?;
         let words = split(alloc, &format!(in alloc; "decode a b --workers {workers}")?)?;
         let gate = Meeting::of(u64::from(*workers));
@@ -86,7 +90,7 @@ fn as_many_frames_are_decoded_at_once_as_there_are_workers(rt: HostRuntime) -> R
         assert_eq!(rt; status, 0, "{workers} workers");
         assert_eq!(rt;
             sink.written().len(),
-            126 + jobs as usize * 4704,
+            (jobs as usize).saturating_mul(4704).saturating_add(126),
             "{workers} workers"
         );
         assert!(rt; !gate.ran_out.load(Ordering::SeqCst), "{workers} workers");
