@@ -1,9 +1,8 @@
 -- A frame begins in a lane: the words and the tables of the others.
-use Rattle.std.proofs.Common.{◌≡◌, ◌≢◌, ℕ, ◌%◌, ◌<◌, Bool, true, false, nat_eq, List, length, get_or, set, get_or-set_same, get_or-set_other, length-set}
+use Rattle.std.proofs.Common.{◌≡◌, ◌≢◌, ℕ, ◌+◌, ◌%◌, ◌<◌, Bool, true, false, nat_eq, List, length, get_or, set, get_or-set_same, get_or-set_other, length-set}
 use Rattle.std.proofs.Common.{refl, ap, sym, subst, ◌∙◌, arith}
 use Rattle.std.proofs.lemmas.Bool.{eqb-true, eqb-false}
 use Rattle.arith_lanes.specs.Words.{IsWord}
-use Rattle.dst_frames.specs.Tables.{prob_in}
 use Rattle.dst_frames.specs.Eight.{state_in}
 use Rattle.dst_frames.specs.Batch.{IsWordOf}
 use Rattle.dst_frames.specs.Running.{AreEight, AreWords}
@@ -22,7 +21,7 @@ words_begun n c was rows row lt are own states words = record {
     here : (m : ℕ) → m < 8 → (b : Bool) → nat_eq m n ≡ b → (p : ℕ) × IsWord p (get_or row.words m 0)
     here m h true e =
         let is = eqb-true m n e in
-        (prob_in ((state_in row n).next % 128), rw is own.prob)
+        ((state_in row n).next % 128 + 1, rw is own.prob)
     here m h false e =
         let s = are.some m c was h lt in
         (s.0, subst (IsWord s.0) (sym (words m (eqb-false m n e))) s.1)

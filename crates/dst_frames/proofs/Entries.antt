@@ -7,7 +7,7 @@ use Rattle.std.proofs.lemmas.List.{length-map, get_or-map}
 use Rattle.dst_spec.specs.Table.{prob_kind, InRange, IsTable}
 use Rattle.std.specs.Int.{is_negative}
 use Rattle.dst_spec.proofs.Lists.{get_all}
-use Rattle.dst_frames.specs.Tables.{prob_at, prob_in, IsEntry}
+use Rattle.dst_frames.specs.Tables.{prob_at, prob_in, IsByte}
 
 pub prob_in_range : (probs : List ℕ) (i : ℕ) → IsTable prob_kind (map pos probs) → i < length probs → (1 ≤ get_or probs i 0) × (get_or probs i 0 ≤ 128)
 prob_in_range probs i table lt =
@@ -29,13 +29,13 @@ prob_again p least most = go (cases_lt p 128)
         let none : p % 128 ≡ 0 = omega arith in
         rw none (omega arith)
 
-pub low_entry : (z : ℤ) (probs : List ℕ) (p : ℕ) → p ≡ prob_at probs z → 1 ≤ p → p ≤ 128 → is_negative z ≡ true → IsEntry z probs (p % 128)
+pub low_entry : (z : ℤ) (probs : List ℕ) (p : ℕ) → p ≡ prob_at probs z → 1 ≤ p → p ≤ 128 → is_negative z ≡ true → IsByte z probs (p % 128)
 low_entry z probs p is least most negative =
     let low : p % 128 < 128 = omega arith in
     let again : p % 128 % 128 ≡ p % 128 = omega arith in
     record { prob = ap prob_in again ∙ prob_again p least most ∙ is; guess = lt-ltb (p % 128) 128 low ∙ sym negative }
 
-pub high_entry : (z : ℤ) (probs : List ℕ) (p : ℕ) → p ≡ prob_at probs z → 1 ≤ p → p ≤ 128 → is_negative z ≡ false → IsEntry z probs (p % 128 + 128)
+pub high_entry : (z : ℤ) (probs : List ℕ) (p : ℕ) → p ≡ prob_at probs z → 1 ≤ p → p ≤ 128 → is_negative z ≡ false → IsByte z probs (p % 128 + 128)
 high_entry z probs p is least most positive =
     let high : 128 ≤ p % 128 + 128 = omega arith in
     let again : (p % 128 + 128) % 128 ≡ p % 128 = omega arith in

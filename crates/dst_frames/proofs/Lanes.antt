@@ -1,5 +1,5 @@
 -- A sample of a frame whose code is decoded in a lane.
-use Rattle.std.proofs.Common.{◌≡◌, ℕ, ◌/◌, ◌%◌, ◌<◌, ◌≤◌, ◌&&◌, nat_eq, nat_lt, Bool, true, false, not, if◌then◌else◌, List, [], ◌∷◌, ◌++◌, length, get_or}
+use Rattle.std.proofs.Common.{◌≡◌, ℕ, ◌+◌, ◌/◌, ◌%◌, ◌<◌, ◌≤◌, ◌&&◌, nat_eq, nat_lt, Bool, true, false, not, if◌then◌else◌, List, [], ◌∷◌, ◌++◌, length, get_or}
 use Rattle.std.proofs.Common.{refl, ap, sym, ◌∙◌, subst, arith, ltb-true, ltb-false}
 use lib.Dec.{leb}
 use mathlib.Core.Bool.{beq}
@@ -7,7 +7,7 @@ use Rattle.arith_decoder.specs.Decoding.{Decoding, StandsFor}
 use Rattle.arith_lanes.specs.Words.{IsWord}
 use Rattle.arith_lanes.specs.Lanes.{TakesSymbol, given_of}
 use Rattle.arith_lanes.specs.declared.lanes.ArithLanes.{ArithLanes}
-use Rattle.dst_frames.specs.Tables.{prob_in, symbol_after}
+use Rattle.dst_frames.specs.Tables.{symbol_after}
 use Rattle.dst_frames.specs.Eight.{no_tables}
 use Rattle.dst_frames.specs.Batch.{IsWordOf, LaneTakes, LaneSteps, IsLaneFurther}
 use Rattle.dst_frames.specs.declared.tables.ChannelTables.{ChannelTables}
@@ -36,14 +36,14 @@ sample_given s e word given mark is = ap (beq s) (high_is e) ∙ go s (nat_lt e 
         let none : given ≡ 0 = omega arith in
         rw none refl
 
-prob_now : (early : Bool) (e : ℕ) → (if early then 128 else prob_in (e % 128)) ≡ prob_in (if early then 0 else e % 128)
+prob_now : (early : Bool) (e : ℕ) → (if early then 128 else e % 128 + 1) ≡ (if early then 127 else e % 128) + 1
 prob_now true e = refl
 prob_now false e = refl
 
 pub lane_steps : (place : ℕ) (early : Bool) (table : ChannelTables) (before after : ChannelState) (old new : Decoding) (given next word now : ℕ) →
     LaneTakes place given table before after next → IsWordOf before.next word → now / 128 % 2 ≡ word / 128 % 2 →
     ((s : Bool) × (given ≡ given_of now s)
-    × ((pairs : List (Bool × ℕ)) → StandsFor old pairs → StandsFor new (pairs ++ (s, (if early then 128 else prob_in (before.next % 128))) ∷ []))) →
+    × ((pairs : List (Bool × ℕ)) → StandsFor old pairs → StandsFor new (pairs ++ (s, (if early then 128 else before.next % 128 + 1)) ∷ []))) →
     LaneSteps place early table before after old new next
 lane_steps place early table before after old new given next word now taken is same d =
     let e = before.next in
@@ -54,9 +54,9 @@ lane_steps place early table before after old new given next word now taken is s
       next = record {
         ready = taken.takes;
         symbol = λ filter probs samples pairs ready stands.
-            let pair = symbol_is filter probs samples early d.0 e (if early then 0 else e % 128)
-            (if early then 128 else prob_in (e % 128)) ready.next refl (prob_now early e) in
-            let whole : ◌≡◌ {A = Bool × ℕ} (d.0, (if early then 128 else prob_in (e % 128))) (symbol_after filter probs early samples (nat_eq (given % 2) 1)) =
+            let pair = symbol_is filter probs samples early d.0 e (if early then 127 else e % 128)
+            (if early then 128 else e % 128 + 1) ready.next refl (prob_now early e) in
+            let whole : ◌≡◌ {A = Bool × ℕ} (d.0, (if early then 128 else e % 128 + 1)) (symbol_after filter probs early samples (nat_eq (given % 2) 1)) =
             pair ∙ ap (symbol_after filter probs early samples) sample in
             subst (λ q. StandsFor new (pairs ++ q ∷ [])) whole (d.2 pairs stands);
       };

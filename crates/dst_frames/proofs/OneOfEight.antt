@@ -1,28 +1,24 @@
 -- One channel of eight frames, and all channels of one of the frames.
-use Rattle.std.proofs.Common.{◌≡◌, ℕ, zero, suc, ◌+◌, ◌/◌, ◌%◌, ◌<◌, ℤ, Bool, true, false, nat_eq, if◌then◌else◌, List, [], ◌∷◌, length, get_or, set}
-use Rattle.std.proofs.Common.{refl, ap, sym, ◌∙◌, arith}
-use Rattle.std.proofs.lemmas.Bool.{eqb-true}
+use Rattle.std.proofs.Common.{◌≡◌, ℕ, zero, suc, ◌+◌, ◌%◌, ◌<◌, ℤ, Bool, List, [], ◌∷◌, length, get_or, set}
+use Rattle.std.proofs.Common.{refl, ap, sym, subst, ◌∙◌, arith}
 use Rattle.std.proofs.lemmas.List.{get_or_default, set-get_or}
 use Rattle.arith_lanes.specs.Words.{IsWord}
 use Rattle.byte_predictor.specs.Samples.{signed_sum}
 use Rattle.byte_predictor.specs.SumsAhead.{IsAhead}
 use Rattle.byte_predictor.specs.declared.ahead.Ahead.{Ahead}
-use Rattle.dst_frames.specs.Tables.{prob_in, IsBuilt, IsEntry}
+use Rattle.dst_frames.specs.Tables.{IsBuilt, IsEntry}
+use Rattle.dst_frames.specs.Batch.{IsWordOf}
 use Rattle.dst_frames.specs.Eight.{entry_in, state_in, states_at, no_tables, tables_at}
 use Rattle.dst_frames.specs.declared.tables.ChannelTables.{ChannelTables}
 use Rattle.dst_frames.specs.declared.state.ChannelState.{ChannelState}
 use Rattle.dst_frames.specs.declared.eight.EightTables.{EightTables}
 use Rattle.dst_frames.specs.declared.eight.EightStates.{EightStates}
 
--- the entry that a word was made of
-pub entry_of_word : (e word : ℕ) → IsWord (prob_in (e % 128)) word → word / 128 % 2 ≡ e / 128 → entry_in word ≡ e
-entry_of_word e word is mark = go (nat_eq (e % 128) 0) refl is.prob
-  where
-    go : (b : Bool) → nat_eq (e % 128) 0 ≡ b → word % 128 + 1 ≡ (if b then 128 else e % 128) → entry_in word ≡ e
-    go true h prob =
-        let none = eqb-true (e % 128) 0 h in
-        omega (arith, prob, mark, none)
-    go false h prob = omega (arith, prob, mark)
+-- the low half of a word is its entry
+pub word_of_itself : (p word : ℕ) → IsWord p word → IsWordOf (entry_in word) word
+word_of_itself p word is =
+    let same : p ≡ word % 256 % 128 + 1 = omega (arith, is.prob) in
+    record { prob = subst (λ q. IsWord q word) same is; mark = omega arith }
 
 -- a row of no frames
 abbrev pub no_row : EightStates

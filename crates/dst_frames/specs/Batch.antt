@@ -14,7 +14,7 @@ use Rattle.arith_decoder.specs.Decoding.{Decoding}
 use Rattle.arith_lanes.specs.Words.{IsWord}
 use Rattle.arith_lanes.specs.Lanes.{IsLane, Begins, decoding_at, first_at, used_at, ahead_at}
 use Rattle.arith_lanes.specs.declared.lanes.ArithLanes.{ArithLanes}
-use Rattle.dst_frames.specs.Tables.{IsBuilt, AreBuilt, prob_in}
+use Rattle.dst_frames.specs.Tables.{IsBuilt, AreBuilt}
 use Rattle.dst_frames.specs.Ready.{IsReady}
 use Rattle.dst_frames.specs.Underway.{IsNext}
 use Rattle.dst_frames.specs.declared.tables.ChannelTables.{ChannelTables}
@@ -31,7 +31,7 @@ code_at frames n = get_or (map stored_in frames) n []
 
 -- a word has the probability and the guess of an entry
 pub record IsWordOf (entry word : ℕ) : Type 0 where
-  pub prob : IsWord (prob_in (entry % 128)) word
+  pub prob : IsWord (entry % 128 + 1) word
   pub mark : word / 128 % 2 ≡ entry / 128
 
 -- a channel takes a sample

@@ -1,5 +1,5 @@
 -- One channel of eight frames between two samples, and all channels of one of the frames.
-use Rattle.std.specs.Prelude.{ℕ, ◌+◌, ◌*◌, ◌/◌, ◌%◌, List, [], map, get_or}
+use Rattle.std.specs.Prelude.{ℕ, ◌%◌, List, [], map, get_or}
 use Rattle.byte_predictor.specs.Eight.{ahead_at}
 use Rattle.dst_frames.specs.declared.tables.ChannelTables.{ChannelTables}
 use Rattle.dst_frames.specs.declared.state.ChannelState.{ChannelState}
@@ -8,7 +8,7 @@ use Rattle.dst_frames.specs.declared.eight.EightStates.{EightStates}
 
 -- the entry that has the probability and the guess of a word
 abbrev pub entry_in : ℕ → ℕ
-entry_in word = (word % 128 + 1) % 128 + 128 * (word / 128 % 2)
+entry_in word = word % 256
 
 -- the channel in one of the frames
 abbrev pub state_in : EightStates → ℕ → ChannelState
@@ -19,7 +19,7 @@ unfoldable pub states_at : List EightStates → ℕ → List ChannelState
 states_at rows n = map (λ row. state_in row n) rows
 
 abbrev pub no_tables : ChannelTables
-no_tables = record { filter = []; entries = []; early = 0 }
+no_tables = record { filter = []; words = []; early = 0 }
 
 unfoldable pub tables_at : List EightTables → ℕ → List ChannelTables
 tables_at eight n = map (λ (one : EightTables). get_or one.tables.items n no_tables) eight

@@ -1,5 +1,6 @@
 pub mod Scratch
 pub mod Reserved
+pub mod Words
 pub mod Tables
 pub mod Ready
 pub mod Underway

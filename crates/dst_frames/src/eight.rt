@@ -79,7 +79,7 @@ impl EightStates {
         ensures word { IsWordOf (entry_in result) result }
     {
         let upward = self.ahead.upward(n, &tables.filter, place);
-        word(tables.entries[upward as usize])
+        tables.words.word(upward)
     }
 
     // Takes the next sample of each frame, 1 where the low bit of what is given is 1. The words of the first frames become those

@@ -21,6 +21,7 @@ mod batch_scratch;
 mod channel;
 mod code;
 mod eight;
+mod fill;
 mod frame;
 mod octets;
 mod reserved;
@@ -31,6 +32,7 @@ mod stored;
 mod tables;
 #[cfg(test)]
 mod tests;
+mod word_table;
 
 pub use batch::decode_batch;
 pub use batch_scratch::BatchScratch;

@@ -5,7 +5,7 @@ ghost use Rattle.dst_frames.specs.Underway.{IsFurther, IsNext, AreDecoded};
 ghost use Rattle.dst_frames.specs.declared.state.ChannelState.{ChannelState};
 
 use crate::state::ChannelState;
-use crate::tables::{ChannelTables, prob_within};
+use crate::tables::{ChannelTables, prob_above};
 use arith_decoder::ArithDecoder;
 use byte_predictor::laws::samples_before;
 
@@ -89,8 +89,8 @@ fn decode_sample(
 {
     let entry = state.next;
     let ahead = state.look_ahead(tables, place, alone);
-    let low = if early { 0 } else { entry % 128 };
-    let symbol = decoder.decode(prob_within(low));
+    let low = if early { 127 } else { entry % 128 };
+    let symbol = decoder.decode(prob_above(low));
     let sample = symbol == (entry >= 128);
     state.next = match ahead {
         Some((next_0, next_1)) => { if sample { next_1 } else { next_0 } }

@@ -1,5 +1,4 @@
-use Rattle.std.proofs.Common.{◌%◌, ◌&&◌, nat_lt, if◌then◌else◌, get_or, arith}
-use Rattle.dst_frames.specs.Tables.{prob_in}
+use Rattle.std.proofs.Common.{◌+◌, ◌%◌, ◌&&◌, nat_lt, if◌then◌else◌, get_or, arith}
 use Rattle.dst_frames.specs.Eight.{state_in}
 use Rattle.dst_frames.proofs.Lanes.{lane_steps, further_by, some_word}
 use Rattle.dst_frames.proofs.eight.decode_next.Goals as goal
@@ -8,8 +7,8 @@ pub returns-clause-steps : goal.returns-clause-steps
 returns-clause-steps c = λ n table bytes h lane ahead used word.
     let before = state_in c.args.row.now n in
     let early = c.args.start && nat_lt c.args.t (get_or c.args.tables.now n table).early in
-    let w = c.words_at-now.ensures.prob n (prob_in (before.next % 128)) table h word.prob in
-    let d = c.decode-given.ensures n (if early then 128 else prob_in (before.next % 128)) bytes (omega (arith, c.requires.few)) lane w ahead used in
+    let w = c.words_at-now.ensures.prob n (before.next % 128 + 1) table h word.prob in
+    let d = c.decode-given.ensures n (if early then 128 else before.next % 128 + 1) bytes (omega (arith, c.requires.few)) lane w ahead used in
     lane_steps c.args.place early (get_or c.args.tables.now n table) before (state_in c.take.new.self n) _ _ (get_or c.decode-given.result n 0)
     (get_or c.take.new.self.words n 0) (get_or c.args.row.now.words n 0) (get_or c.words_at-now.result n 0) (c.take.ensures.taken n table h) word
     (c.words_at-now.ensures.mark n) (d.0, d.1, d.2.stands)

@@ -35,11 +35,11 @@ returns-clause-next c =
           ] in
           record { ahead = subst (λ a. IsAhead a (c.args.place + 1) (bit_of sample ∷ samples) c.push.new.self) built.filter_is pushed; next = next };
       symbol = λ filter probs samples pairs ready stands.
-          let low_is : c.if-early.low ≡ (if c.args.early then 0 else e % 128) =
+          let low_is : c.if-early.low ≡ (if c.args.early then 127 else e % 128) =
           elim c.if-early.branch [
-            | then-early w ↦ w.low-is ∙ sym (ap (λ b. if b then 0 else e % 128) w.if-early.true)
-            | else-early w ↦ w.low-is ∙ sym (ap (λ b. if b then 0 else e % 128) w.if-early.false)
+            | then-early w ↦ w.low-is ∙ sym (ap (λ b. if b then 127 else e % 128) w.if-early.true)
+            | else-early w ↦ w.low-is ∙ sym (ap (λ b. if b then 127 else e % 128) w.if-early.false)
           ] in
-          let pair = symbol_is filter probs samples c.args.early s e c.if-early.low c.prob_within.result ready.next low_is c.prob_within.ensures in
+          let pair = symbol_is filter probs samples c.args.early s e c.if-early.low c.prob_above.result ready.next low_is c.prob_above.ensures in
           subst (λ q. StandsFor c.decode-symbol.new.self (pairs ++ q ∷ [])) pair (c.decode-symbol.ensures.stands pairs stands);
     }

@@ -1,4 +1,4 @@
-use Rattle.std.proofs.Common.{get_or, refl, sym, subst}
+use Rattle.std.proofs.Common.{refl, sym, subst}
 use Rattle.byte_predictor.specs.SumsAhead.{IsAhead}
 use Rattle.dst_frames.proofs.Symbols.{entry_behind}
 use Rattle.dst_frames.proofs.state.ChannelState.entry_behind.Goals as goal
@@ -10,5 +10,5 @@ returns c = λ filter probs samples half_prob built ready.
     let before : IsAhead tables.filter c.args.place samples ahead =
     subst (λ coefs. IsAhead coefs c.args.place samples ahead) (sym built.filter_is) ready.ahead in
     let upward = c.upward_after-behind.result in
-    entry_behind filter probs samples half_prob c.args.sample c.args.sample tables upward (get_or tables.entries upward 0) built ready.ahead.long
-    (c.upward_after-behind.ensures samples before) refl refl
+    entry_behind filter probs samples half_prob c.args.sample c.args.sample tables upward c.entry.result built ready.ahead.long
+    (c.upward_after-behind.ensures samples before) c.entry.ensures refl

@@ -1,8 +1,9 @@
-use Rattle.std.proofs.Common.{get_or, replicate, ap, sym, subst, ◌∙◌}
+use Rattle.std.proofs.Common.{replicate, ap, sym, subst, ◌∙◌}
 use Rattle.byte_predictor.specs.Samples.{samples_of, signed_sum}
 use Rattle.byte_predictor.specs.Upward.{upward_sum}
 use Rattle.byte_predictor.specs.SumsAhead.{IsAhead}
 use Rattle.dst_frames.specs.Tables.{IsEntry}
+use Rattle.dst_frames.specs.Words.{entry_for}
 use Rattle.dst_frames.proofs.state.ChannelState.fresh.Goals as goal
 
 pub returns : goal.returns
@@ -13,5 +14,5 @@ returns c = λ filter probs half_prob built.
     let entry = built.entries samples fresh.long in
     record {
       ahead = subst (λ coefs. IsAhead coefs 0 samples c.fresh-ahead.result) built.filter_is fresh;
-      next = subst (λ u. IsEntry (signed_sum filter samples) probs (get_or c.args.tables.now.entries u 0)) sum entry;
+      next = subst (IsEntry (signed_sum filter samples) probs) (ap (entry_for c.args.tables.now.words) sum ∙ sym c.entry.ensures) entry;
     }

@@ -1,7 +1,8 @@
-use Rattle.std.proofs.Common.{◌≡◌, ℕ, ◌≤◌, List, ℤ, length, get_or, ap, sym, subst₂, ◌∙◌, if◌then◌else◌}
+use Rattle.std.proofs.Common.{◌≡◌, ℕ, ◌≤◌, List, ℤ, length, ap, sym, subst₂, ◌∙◌, if◌then◌else◌}
 use Rattle.byte_predictor.specs.Samples.{signed_sum}
 use Rattle.byte_predictor.specs.Upward.{upward_sum}
 use Rattle.dst_frames.specs.Tables.{IsEntry}
+use Rattle.dst_frames.specs.Words.{entry_for}
 use Rattle.dst_frames.proofs.tables.ChannelTables.take.Goals as goal
 use Rattle.dst_frames.proofs.tables.ChannelTables.take.Goals.{then-half_prob, else-half_prob}
 
@@ -10,7 +11,7 @@ returns c =
     let filter = c.args.filter.now in
     let probs = c.args.probs.now in
     let P : List ℤ → List ℕ → Type 0 = λ coefs table. (samples : List ℕ) → 128 ≤ length samples →
-    IsEntry (signed_sum coefs samples) table (get_or c.fill_entries.new.entries (upward_sum coefs samples) 0) in
+    IsEntry (signed_sum coefs samples) table (entry_for c.fill_table.new.table (upward_sum coefs samples)) in
     let coefs_are = c.coefs-length.ensures.coefs in
     let early : c.if-half_prob.self ≡ (if c.args.half_prob then length filter else 0) =
     elim c.if-half_prob.branch [
@@ -20,6 +21,6 @@ returns c =
     record {
       filter_is = c.build.ensures;
       short = c.coefs-length.ensures.table.most;
-      entries = subst₂ P c.build.ensures c.entries.ensures.entries c.fill_entries.ensures;
+      entries = subst₂ P c.build.ensures c.entries.ensures.entries c.fill_table.ensures;
       early = early;
     }

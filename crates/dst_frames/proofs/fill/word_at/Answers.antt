@@ -1,0 +1,10 @@
+use Rattle.std.proofs.Common.{◌*◌, ◌%◌, pos, ◌-ℤ◌, subst, ◌∙◌, w32, SFits, rules}
+use Rattle.std.proofs.lemmas.Int.{to_z-of_z}
+use Rattle.byte_predictor.specs.Upward.{size_sum}
+use Rattle.dst_frames.specs.Tables.{IsEntry}
+use Rattle.dst_frames.proofs.fill.word_at.Goals as goal
+
+pub returns-clause-entry : goal.returns-clause-entry
+returns-clause-entry c =
+    let fits : SFits w32 c.prediction.result = search rules in
+    subst (λ z. IsEntry z c.args.probs.now (c.word_of.result % 256)) (to_z-of_z w32 c.prediction.result fits ∙ c.prediction.ensures.less) c.word_of.ensures.entry
