@@ -44,4 +44,4 @@ pub use ahead::Ahead;
 pub use byte_filter::{ByteFilter, predict};
 pub use eight::EightAhead;
 pub use history::History;
-pub use row_filter::RowFilter;
+pub use row_filter::{RowFilter, filter_size};

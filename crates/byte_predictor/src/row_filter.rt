@@ -85,6 +85,13 @@ impl RowFilter {
     }
 }
 
+/// The sum of the sizes of a filter's coefficients.
+pub fn filter_size(table: &FilterTable) -> u32
+    ensures { result ≡ size_sum table.now }
+{
+    size_of_all(table.coefs())
+}
+
 fn far_coefs(coefs: &[i16]) -> [i16; 136]
     requires { IsTable filter_kind coefs.now }
     ensures places { (j : ℕ) → get_or result j (pos 0) ≡ get_or (far coefs.now) j (pos 0) }

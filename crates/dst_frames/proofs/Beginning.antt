@@ -1,11 +1,13 @@
 -- A frame begins in a lane: the words and the tables of the others.
-use Rattle.std.proofs.Common.{◌≡◌, ◌≢◌, ℕ, ◌+◌, ◌%◌, ◌<◌, Bool, true, false, nat_eq, List, length, get_or, set, get_or-set_same, get_or-set_other, length-set}
+use Rattle.std.proofs.Common.{◌≡◌, ◌≢◌, ℕ, ◌+◌, ◌%◌, ◌<◌, ℤ, pos, [], ◌∷◌, Bool, true, false, nat_eq, List, length, get_or, set, get_or-set_same, get_or-set_other, length-set}
 use Rattle.std.proofs.Common.{refl, ap, sym, subst, ◌∙◌, arith}
 use Rattle.std.proofs.lemmas.Bool.{eqb-true, eqb-false}
 use Rattle.arith_lanes.specs.Words.{IsWord}
+use Rattle.byte_predictor.specs.Upward.{size_sum}
 use Rattle.dst_frames.specs.Eight.{state_in}
 use Rattle.dst_frames.specs.Batch.{IsWordOf}
-use Rattle.dst_frames.specs.Running.{AreEight, AreWords}
+use Rattle.dst_frames.specs.Running.{AreTables, AreEight, AreWords}
+use Rattle.dst_frames.specs.declared.tables.ChannelTables.{ChannelTables}
 use Rattle.dst_frames.specs.declared.state.ChannelState.{ChannelState}
 use Rattle.dst_frames.specs.declared.eight.EightTables.{EightTables}
 use Rattle.dst_frames.specs.declared.eight.EightStates.{EightStates}
@@ -44,12 +46,32 @@ words_begun n c was rows row lt are own states words = record {
     next_at m d other h k false e = rw (get_or-set_other rows c d row other (eqb-false d c e)) (are.next m d other h k)
 
 pub eight_set : (channels c : ℕ) (eight : List EightTables) (one : EightTables) → AreEight eight channels → c < length eight →
-    length one.tables.items ≡ 8 → AreEight (set eight c one) channels
+    AreTables one.tables.items → AreEight (set eight c one) channels
 eight_set channels c eight one are lt long = record {
   count = length-set eight c one ∙ are.count;
   tables = λ d other h. at d other h (nat_eq d c) refl;
 }
   where
-    at : (d : ℕ) (other : EightTables) → d < channels → (b : Bool) → nat_eq d c ≡ b → length (get_or (set eight c one) d other).tables.items ≡ 8
+    at : (d : ℕ) (other : EightTables) → d < channels → (b : Bool) → nat_eq d c ≡ b → AreTables (get_or (set eight c one) d other).tables.items
     at d other h true e = let is = eqb-true d c e in rw (is, get_or-set_same eight c one other lt) long
     at d other h false e = rw (get_or-set_other eight c d one other (eqb-false d c e)) (are.tables d other h)
+
+-- the tables of one frame in the place of others
+pub tables_set : (tables : List ChannelTables) (n : ℕ) (one : ChannelTables) → AreTables tables → n < 8 → size_sum one.filter < 32768 →
+    AreTables (set tables n one)
+tables_set tables n one are lt narrow = record {
+  count = length-set tables n one ∙ are.count;
+  narrow = λ m other h. at m other h (nat_eq m n) refl;
+}
+  where
+    at : (m : ℕ) (other : ChannelTables) → m < 8 → (b : Bool) → nat_eq m n ≡ b → size_sum (get_or (set tables n one) m other).filter < 32768
+    at m other h true e =
+        let is = eqb-true m n e in
+        let inside : n < length tables = omega (arith, are.count) in
+        rw (is, get_or-set_same tables n one other inside) narrow
+    at m other h false e = rw (get_or-set_other tables n m one other (eqb-false m n e)) (are.narrow m other h)
+
+-- the coefficient 0 alone
+pub none_narrow : (filter : List ℤ) → filter ≡ pos 0 ∷ [] → size_sum filter < 32768
+unfolding size_sum
+none_narrow filter is = subst (λ f. size_sum f < 32768) (sym is) (omega arith)

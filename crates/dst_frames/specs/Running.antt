@@ -6,6 +6,7 @@ use Rattle.arith_decoder.specs.Decoding.{Decoding}
 use Rattle.arith_lanes.specs.Words.{IsWord}
 use Rattle.arith_lanes.specs.Lanes.{decoding_at}
 use Rattle.arith_lanes.specs.declared.lanes.ArithLanes.{ArithLanes}
+use Rattle.byte_predictor.specs.Upward.{size_sum}
 use Rattle.dst_frames.specs.Tables.{AreBuilt}
 use Rattle.dst_frames.specs.Underway.{earlier, IsUnderway, IsDecodedTo, AreDecoded}
 use Rattle.dst_frames.specs.Eight.{state_in}
@@ -20,10 +21,15 @@ use Rattle.dst_frames.specs.declared.stored.StoredFrame.{StoredFrame}
 abbrev pub AreStored : List StoredFrame → Type 0
 AreStored frames = (n : ℕ) (other : StoredFrame) → n < length frames → (get_or frames n other).size ≤ length (get_or frames n other).bytes.items
 
+-- the tables of eight frames, none of a filter that gives the greatest of all sums
+pub record AreTables (tables : List ChannelTables) : Type 0 where
+  pub count : length tables ≡ 8
+  pub narrow : (n : ℕ) (other : ChannelTables) → n < 8 → size_sum (get_or tables n other).filter < 32768
+
 -- each channel has the tables of eight frames
 pub record AreEight (eight : List EightTables) (channels : ℕ) : Type 0 where
   pub count : length eight ≡ channels
-  pub tables : (c : ℕ) (other : EightTables) → c < channels → length (get_or eight c other).tables.items ≡ 8
+  pub tables : (c : ℕ) (other : EightTables) → c < channels → AreTables (get_or eight c other).tables.items
 
 -- The words of each channel: those of the next samples of the first frames, and some behind them.
 pub record AreWords (rows : List EightStates) (frames : ℕ) : Type 0 where

@@ -6,6 +6,7 @@ ghost use Rattle.dst_spec.specs.Header.{Params, HasHeader};
 ghost use Rattle.dst_spec.specs.Guess.{filter_of, probs_of};
 ghost use Rattle.dst_spec.specs.Means.{MeansWithTail};
 ghost use Rattle.byte_predictor.specs.Samples.{samples_of};
+ghost use Rattle.byte_predictor.specs.Upward.{size_sum};
 ghost use Rattle.dst_spec.specs.Symbols.{reserved_probability as probability_of};
 ghost use Rattle.arith_lanes.specs.Words.{IsWord};
 ghost use Rattle.arith_lanes.specs.Lanes.{IsKept, Begins};
@@ -14,13 +15,14 @@ ghost use Rattle.dst_frames.specs.Tables.{IsBuilt, AreBuilt};
 ghost use Rattle.dst_frames.specs.Ready.{IsReady};
 ghost use Rattle.dst_frames.specs.Batch.{IsDecoded, IsWordOf, IsLaneFurther, AreLanes, HasBegun, stored_in, code_at};
 ghost use Rattle.dst_frames.specs.Eight.{state_in, states_at, tables_at};
-ghost use Rattle.dst_frames.specs.Running.{AreStored, AreEight, AreWords, LaneDecoded};
+ghost use Rattle.dst_frames.specs.Running.{AreStored, AreTables, AreEight, AreWords, LaneDecoded};
 ghost use Rattle.dst_frames.specs.declared.tables.ChannelTables.{ChannelTables};
 ghost use Rattle.dst_frames.specs.declared.state.ChannelState.{ChannelState};
 ghost use Rattle.dst_frames.specs.declared.stored.StoredFrame.{StoredFrame};
 ghost use Rattle.dst_frames.specs.declared.stored.DecodedFrame.{DecodedFrame};
 
 use crate::batch_scratch::BatchScratch;
+use crate::channel::channel_filter;
 use crate::eight::{EightStates, EightTables};
 use crate::frame::{decode_with, unread};
 use crate::octets::decode_octets;
@@ -30,6 +32,7 @@ use crate::stored::{DecodedFrame, StoredFrame};
 use crate::tables::ChannelTables;
 use arith_decoder::laws::decoded_code;
 use arith_lanes::{ArithLanes, word};
+use byte_predictor::filter_size;
 use dst_num::{Channels, Params};
 use frame_header::{FrameView, view_frame};
 
@@ -86,6 +89,29 @@ fn decode_within(
 
 // Decodes frames one by one, with the first tables.
 fn decode_each(
+    frames: &[StoredFrame],
+    channels: Channels,
+    first: &mut EightTables,
+    states: &mut [ChannelState],
+    heard: &mut [DecodedFrame],
+)
+    requires same { length heard.old ≡ length frames.now }
+    requires stored { AreStored frames.now }
+    requires frames { (n : ℕ) (other : StoredFrame) → n < length frames.now → (get_or frames.now n other).size ≤ 2 * (sound_bytes channels + 1) }
+    requires sounds { (n : ℕ) (other : DecodedFrame) → n < length frames.now → length (get_or heard.old n other).sound.items ≡ sound_bytes channels }
+    requires tables { AreTables first.old.tables.items }
+    requires few { channels.channels ≤ 6 }
+    requires states { length states.old ≡ channels.channels }
+    ensures decoded { (n : ℕ) (frame : StoredFrame) (other : DecodedFrame) → n < length frames.now
+        → IsDecoded channels (stored_in (get_or frames.now n frame)) (get_or heard.new n other).sound.items (get_or heard.new n other).answer }
+    ensures long { (n : ℕ) (other : DecodedFrame) → n < length frames.now → length (get_or heard.new n other).sound.items ≡ sound_bytes channels }
+    ensures tables { AreTables first.new.tables.items }
+{
+    decode_apart(frames, channels, first, states, heard);
+    first.keep_narrow();
+}
+
+fn decode_apart(
     frames: &[StoredFrame],
     channels: Channels,
     first: &mut EightTables,
@@ -229,7 +255,9 @@ fn begin_lane(
     ensures eight { AreEight eight.new channels.channels }
 {
     match view_frame(frame, channels) {
-        Ok(FrameView::Coded(params, code)) => match lanes.begin(n, code) {
+        Ok(FrameView::Coded(params, code)) if are_narrow(&params, rows.len()) => match lanes.begin(
+            n, code,
+        ) {
             Ok(()) => {
                 build_all_in(&params, n, eight, rows);
                 Some(reserved_word(&params))
@@ -240,10 +268,24 @@ fn begin_lane(
     }
 }
 
+// Whether no channel has a filter that gives the greatest of all sums, which has no place of its own in the tables.
+fn are_narrow(params: &Params, channels: usize) -> bool
+    requires { channels ≤ length params.now.half_prob }
+    ensures { result ≡ true → (c : ℕ) → c < channels → size_sum (filter_of params.now c) < 32768 }
+{
+    for c in 0..channels {
+        if filter_size(channel_filter(params, c)) > 32767 {
+            return false;
+        }
+    }
+    true
+}
+
 // The tables of each channel of frame `n`, and no samples yet.
 fn build_all_in(params: &Params, n: usize, eight: &mut [EightTables], rows: &mut [EightStates])
     requires lane { n < 8 }
     requires channels { length params.now.half_prob ≡ length rows.old }
+    requires narrow { (c : ℕ) → c < length rows.old → size_sum (filter_of params.now c) < 32768 }
     requires eight { AreEight eight.old (length rows.old) }
     requires words { AreWords rows.old n }
     ensures built { (f : Shape) → f.channels ≡ length rows.old → AreBuilt f params.now (tables_at eight.new n) }
@@ -262,13 +304,14 @@ fn build_all_in(params: &Params, n: usize, eight: &mut [EightTables], rows: &mut
 fn build_in(params: &Params, c: usize, n: usize, eight: &mut EightTables, row: &mut EightStates)
     requires lane { n < 8 }
     requires channel { c < length params.now.half_prob }
-    requires eight { length eight.old.tables.items ≡ 8 }
+    requires narrow { size_sum (filter_of params.now c) < 32768 }
+    requires eight { AreTables eight.old.tables.items }
     ensures built { (other : ChannelTables) → IsBuilt (filter_of params.now c) (probs_of params.now c) (get_or params.now.half_prob c false)
         (get_or eight.new.tables.items n other) }
     ensures fresh { IsReady (filter_of params.now c) (probs_of params.now c) 0 (samples_of (replicate 16 0xaa)) (state_in row.new n) }
     ensures word { IsWordOf (state_in row.new n).next (get_or row.new.words n 0) }
     ensures tables { (m : ℕ) (other : ChannelTables) → m ≢ n → get_or eight.new.tables.items m other ≡ get_or eight.old.tables.items m other }
-    ensures eight { length eight.new.tables.items ≡ 8 }
+    ensures eight { AreTables eight.new.tables.items }
     ensures states { (m : ℕ) → m ≢ n → state_in row.new m ≡ state_in row.old m }
     ensures words { (m : ℕ) → m ≢ n → get_or row.new.words m 0 ≡ get_or row.old.words m 0 }
 {

@@ -5,11 +5,13 @@ ghost use Rattle.arith_lanes.specs.Words.{IsWord};
 ghost use Rattle.arith_lanes.specs.Lanes.{IsLane, decoding_at, used_at, ahead_at as bits_ahead};
 ghost use Rattle.byte_predictor.specs.Samples.{samples_of, signed_sum};
 ghost use Rattle.byte_predictor.specs.SumsAhead.{IsAhead};
+ghost use Rattle.byte_predictor.specs.Upward.{size_sum};
 ghost use Rattle.byte_predictor.specs.Eight.{ahead_at};
 ghost use Rattle.dst_frames.specs.Tables.{IsBuilt, IsEntry};
 ghost use Rattle.dst_frames.specs.Ready.{IsReady};
 ghost use Rattle.dst_frames.specs.Eight.{entry_in, state_in};
 ghost use Rattle.dst_frames.specs.Batch.{IsWordOf, LaneTakes, LaneSteps, IsLaneFurther};
+ghost use Rattle.dst_frames.specs.Running.{AreTables};
 ghost use Rattle.dst_frames.specs.declared.tables.ChannelTables.{ChannelTables};
 
 use crate::tables::ChannelTables;
@@ -25,13 +27,24 @@ pub(crate) struct EightTables {
 
 impl EightTables {
     pub(crate) fn new(alloc: Global) -> Result<EightTables, AllocError>
-        ensures { IfOk result (λ t. length t.tables.items ≡ 8) }
+        ensures { IfOk result (λ t. AreTables t.tables.items) }
     {
         let mut tables = Vec::with_capacity(alloc, 8)?;
         for _ in 0..8usize {
             tables.push(ChannelTables::new())?;
         }
         Ok(EightTables { tables })
+    }
+
+    /// Tables of no filter again, where those give the greatest of all sums.
+    pub(crate) fn keep_narrow(&mut self)
+        requires { length self.old.tables.items ≡ 8 }
+        ensures { AreTables self.new.tables.items }
+    {
+        let all = self.tables.as_mut_slice();
+        for n in 0..8usize {
+            all[n].keep_narrow();
+        }
     }
 }
 
@@ -57,7 +70,8 @@ impl EightStates {
 
     /// Before the first sample of frame `n`.
     pub(crate) fn begin(&mut self, n: usize, tables: &ChannelTables)
-        requires { n < 8 }
+        requires frame { n < 8 }
+        requires narrow { size_sum tables.now.filter < 32768 }
         ensures fresh { (filter : List ℤ) (probs : List ℕ) (half_prob : Bool) → IsBuilt filter probs half_prob tables.now
             → IsReady filter probs 0 (samples_of (replicate 16 0xaa)) (state_in self.new n) }
         ensures word { IsWordOf (state_in self.new n).next (get_or self.new.words n 0) }
@@ -74,6 +88,7 @@ impl EightStates {
     fn word_at(&self, n: usize, tables: &ChannelTables, place: usize) -> u16
         requires frame { n < 8 }
         requires place { place ≤ 8 }
+        requires narrow { size_sum tables.now.filter < 32768 }
         ensures entry { (filter : List ℤ) (probs samples : List ℕ) (half_prob : Bool) → IsBuilt filter probs half_prob tables.now
             → IsAhead filter place samples (ahead_at self.now.ahead n) → IsEntry (signed_sum filter samples) probs (entry_in result) }
         ensures word { IsWordOf (entry_in result) result }
@@ -88,7 +103,7 @@ impl EightStates {
     fn take(&mut self, tables: &[ChannelTables], count: usize, place: usize, given: &[u16; 8])
         requires place { place < 8 }
         requires few { count ≤ 8 }
-        requires tables { length tables.now ≡ 8 }
+        requires tables { AreTables tables.now }
         ensures taken { (n : ℕ) (table : ChannelTables) → n < count
             → LaneTakes place (get_or given.now n 0) (get_or tables.now n table) (state_in self.old n) (state_in self.new n) (get_or self.new.words n 0) }
         ensures others { (n : ℕ) → count ≤ n → get_or self.new.words n 0 ≡ get_or self.old.words n 0 }
@@ -184,7 +199,7 @@ pub(crate) fn decode_next(
 )
     requires place { place < 8 }
     requires few { count ≤ 8 }
-    requires tables { length tables.now ≡ 8 }
+    requires tables { AreTables tables.now }
     ensures steps { (n : ℕ) (table : ChannelTables) (bytes : List ℕ) → n < count → IsLane lanes.old n bytes
         → 8 ≤ bits_ahead lanes.old n → used_at lanes.old n ≤ 2 ^ 40
         → IsWordOf (state_in row.old n).next (get_or row.old.words n 0)

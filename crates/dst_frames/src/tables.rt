@@ -1,6 +1,7 @@
 // The tables that the samples of a channel are decoded by.
 ghost use Rattle.std.specs.Prelude.{◌≡◌, ◌+◌, ◌*◌, ◌^◌, ◌<◌, ◌&&◌, nat_lt, false, length, get_or};
 ghost use Rattle.dst_spec.specs.Guess.{filter_of, probs_of};
+ghost use Rattle.byte_predictor.specs.Upward.{size_sum};
 ghost use Rattle.dst_frames.specs.Tables.{prob_in, IsBuilt};
 
 use crate::channel::{channel_filter, channel_half_prob, channel_probs};
@@ -21,10 +22,12 @@ pub(crate) struct ChannelTables {
 impl ChannelTables {
     /// Of no filter yet, and without early samples.
     pub(crate) fn new() -> ChannelTables
-        ensures { result.early ≡ 0 }
+        ensures early { result.early ≡ 0 }
+        ensures narrow { size_sum result.filter < 32768 }
     {
+        let filter = RowFilter::new();
         ChannelTables {
-            filter: RowFilter::new(),
+            filter,
             words: WordTable::new(),
             early: 0,
         }
@@ -40,6 +43,16 @@ impl ChannelTables {
             channel_probs(params, c),
             channel_half_prob(params, c),
         );
+    }
+
+    /// Of no filter again, where that gives the greatest of all sums.
+    pub(crate) fn keep_narrow(&mut self)
+        ensures { size_sum self.new.filter < 32768 }
+    {
+        if self.filter.size() > 32767 {
+            let none = RowFilter::new();
+            self.filter = none;
+        }
     }
 
     fn take(&mut self, filter: &FilterTable, probs: &ProbTable, half_prob: bool)

@@ -1,5 +1,5 @@
 // The words of the sums that a filter can give.
-ghost use Rattle.std.specs.Prelude.{◌≡◌, ℕ, ◌%◌};
+ghost use Rattle.std.specs.Prelude.{◌≡◌, ℕ, ◌%◌, ◌<◌};
 ghost use Rattle.arith_lanes.specs.Words.{IsWord};
 ghost use Rattle.dst_frames.specs.Words.{entry_for};
 
@@ -32,13 +32,13 @@ impl WordTable {
         }
     }
 
-    /// The word of a sum.
+    /// The word of a sum that is not the greatest of all.
     #[inline(always)]
     pub(crate) fn word(&self, upward: u16) -> u16
-        ensures entry { result % 256 ≡ entry_for self.now upward }
+        ensures entry { upward < 32768 → result % 256 ≡ entry_for self.now upward }
         ensures word { (p : ℕ) × IsWord p result }
     {
-        self.words[upward.min(32767) as usize]
+        self.words[(upward % 32768) as usize]
     }
 
     /// The entry of a sum: the low half of its word.
@@ -46,6 +46,6 @@ impl WordTable {
     pub(crate) fn entry(&self, upward: u16) -> u8
         ensures { result ≡ entry_for self.now upward }
     {
-        (self.word(upward) % 256) as u8
+        (self.words[upward.min(32767) as usize] % 256) as u8
     }
 }

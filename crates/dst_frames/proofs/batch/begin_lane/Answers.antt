@@ -11,9 +11,9 @@ pub returns-in-Ok-clause-begun : goal.returns-in-Ok-clause-begun
 returns-in-Ok-clause-begun c =
     let f = c.args.channels in
     let place = c.in-Ok-Coded.code.first in
-    let bytes = rw c.in-Ok-Coded.field-0-is at c.in-Ok-Coded.ensures.bytes in
-    let inside = rw c.in-Ok-Coded.field-0-is at c.in-Ok-Coded.ensures.inside in
-    let header = rw c.in-Ok-Coded.field-0-is at c.in-Ok-Coded.ensures.header in
+    let bytes = rw c.in-Ok-Coded.field-0-is at c.in-Ok-Coded.ensures-1.bytes in
+    let inside = rw c.in-Ok-Coded.field-0-is at c.in-Ok-Coded.ensures-1.inside in
+    let header = rw c.in-Ok-Coded.field-0-is at c.in-Ok-Coded.ensures-1.header in
     record {
       params = c.in-Ok-Coded.params;
       place = place;

@@ -17,6 +17,9 @@ use Rattle.dst_frames.proofs.batch.build_all_in.Goals as goal
 pub build_in-requires-clause-eight : goal.build_in-requires-clause-eight
 build_in-requires-clause-eight c = c.loop-c.invariant.eight.tables c.loop-c.c c.index-eight-c.result (omega arith)
 
+pub build_in-requires-clause-narrow : goal.build_in-requires-clause-narrow
+build_in-requires-clause-narrow c = c.requires.narrow c.loop-c.c (omega arith)
+
 pub loop-c-preserved : goal.loop-c-preserved
 loop-c-preserved c =
     let i = c.loop-c.c in

@@ -5,6 +5,7 @@ use Rattle.arith_lanes.specs.Lanes.{decoding_at, used_at, ahead_at}
 use Rattle.dst_frames.specs.Tables.{IsBuilt}
 use Rattle.dst_frames.specs.Eight.{no_tables, state_in, states_at, tables_at}
 use Rattle.dst_frames.specs.Batch.{HasEnough, LaneSteps, code_at}
+use Rattle.dst_frames.specs.Running.{AreTables}
 use Rattle.dst_frames.specs.declared.tables.ChannelTables.{ChannelTables}
 use Rattle.dst_frames.specs.declared.eight.EightStates.{EightStates}
 use Rattle.dst_frames.proofs.History.{Predicts}
@@ -26,7 +27,9 @@ loop-c-init c = record {
 pub decode_next-requires-clause-tables : goal.decode_next-requires-clause-tables
 decode_next-requires-clause-tables c =
     let i = c.loop-c.c in
-    ap length c.as_slice-tables.ensures.value ∙ c.requires.eight.tables i c.index-eight-c.result (omega (arith, c.requires.eight.count))
+    let are : AreTables (get_or c.args.eight.now i c.index-eight-c.result).tables.items =
+    c.requires.eight.tables i c.index-eight-c.result (omega (arith, c.requires.eight.count)) in
+    subst AreTables (sym c.as_slice-tables.ensures.value) are
 
 pub loop-c-preserved : goal.loop-c-preserved
 loop-c-preserved c =
@@ -52,7 +55,7 @@ loop-c-preserved c =
     let one = c.index-eight-c.result in
     let tables = c.as_slice-tables.result.now in
     let t_is : tables ≡ (get_or eight i one).tables.items = c.as_slice-tables.ensures.value in
-    let t_long : length (get_or eight i one).tables.items ≡ 8 = c.requires.eight.tables i one lt_eight in
+    let t_long : length (get_or eight i one).tables.items ≡ 8 = (c.requires.eight.tables i one lt_eight).count in
     let lt_tables : i < length eight = omega (arith, c.requires.eight.count) in
     let enough : (n : ℕ) → n < 8 → HasEnough s r n (code_at c.args.frames.now n) = c.refill_where_short.ensures in
     let ahead : (n : ℕ) → n < 8 → 8 ≤ ahead_at r n = λ n h. omega (arith, (enough n h).ahead) in

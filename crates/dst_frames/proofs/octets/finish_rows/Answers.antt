@@ -41,7 +41,7 @@ loop-c-preserved c =
     let lt_eight : i < length eight = omega (arith, c.requires.eight.count) in
     let one = c.index-eight-c.result in
     let t_is : c.as_slice-tables.result.now ≡ (get_or eight i one).tables.items = c.as_slice-tables.ensures.value in
-    let t_long : length (get_or eight i one).tables.items ≡ 8 = c.requires.eight.tables i one lt_old in
+    let t_long : length (get_or eight i one).tables.items ≡ 8 = (c.requires.eight.tables i one lt_old).count in
     let table = c.index-tables-n.result in
     let table_is : (other : ChannelTables) → get_or (tables_at eight n) i other ≡ table = λ other.
     get_or-tables eight n i other one lt_eight (omega (arith, t_long, c.requires.frame))

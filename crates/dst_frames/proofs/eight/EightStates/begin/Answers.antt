@@ -13,7 +13,7 @@ returns-clause-fresh c = λ filter probs half_prob built.
     let samples = samples_of (replicate 16 170) in
     let words = c.args.self.now.words in
     let next = c.word_at-next.result in
-    let lt : n < length words = omega (arith, c.requires) in
+    let lt : n < length words = omega (arith, c.requires.frame) in
     let ahead : IsAhead filter 0 samples (ahead_at c.begin.new.self n) =
     subst (λ coefs. IsAhead coefs 0 samples (ahead_at c.begin.new.self n)) built.filter_is c.begin.ensures.fresh in
     record {
@@ -27,7 +27,7 @@ returns-clause-word c =
     let n = c.args.n in
     let words = c.args.self.now.words in
     let next = c.word_at-next.result in
-    let lt : n < length words = omega (arith, c.requires) in
+    let lt : n < length words = omega (arith, c.requires.frame) in
     subst (λ w. IsWordOf (entry_in w) w) (sym (get_or-set_same words n next 0 lt)) c.word_at-next.ensures.word
 
 pub returns-clause-others : goal.returns-clause-others

@@ -2,6 +2,7 @@ use Rattle.std.proofs.Common.{◌≡◌, ◌≢◌, ℕ, ◌+◌, ◌%◌, ◌<�
 use Rattle.std.proofs.Common.{sym, subst, ◌∙◌, arith}
 use Rattle.std.proofs.lemmas.List.{get_or_default}
 use Rattle.dst_spec.specs.Header.{bit_of}
+use Rattle.byte_predictor.specs.Upward.{size_sum}
 use Rattle.byte_predictor.specs.Eight.{ahead_at}
 use Rattle.byte_predictor.specs.declared.eight.EightAhead.{EightAhead}
 use Rattle.byte_predictor.specs.SumsAhead.{IsAhead}
@@ -10,6 +11,11 @@ use Rattle.dst_frames.specs.Eight.{entry_in}
 use Rattle.dst_frames.specs.declared.tables.ChannelTables.{ChannelTables}
 use Rattle.dst_frames.proofs.OneOfEight.{TellsNext}
 use Rattle.dst_frames.proofs.eight.EightStates.take.Goals as goal
+
+pub word_at-next-requires-clause-narrow : goal.word_at-next-requires-clause-narrow
+word_at-next-requires-clause-narrow c =
+    let are = c.requires.tables.narrow c.loop-n.n c.index-tables-n.result (omega (arith, c.requires.few)) in
+    subst (λ (t : ChannelTables). size_sum t.filter < 32768) (sym c.index-tables-n.is) are
 
 pub loop-n-preserved : goal.loop-n-preserved
 loop-n-preserved c =
@@ -21,7 +27,7 @@ loop-n-preserved c =
     let pushed = c.push.new.self in
     let place = c.args.place + 1 in
     let lt : i < length words = omega (arith, inv.many, c.requires.few) in
-    let lt_tables : i < length tables = omega (arith, c.requires.tables, c.requires.few) in
+    let lt_tables : i < length tables = omega (arith, c.requires.tables.count, c.requires.few) in
     let T : ℕ → Type 0 = λ m. (table : ChannelTables) → TellsNext place (get_or tables m table) (ahead_at pushed m) (get_or (set words i x) m 0) in
     let W : ℕ → Type 0 = λ m. IsWordOf (entry_in (get_or (set words i x) m 0)) (get_or (set words i x) m 0) in
     let t_below : (m : ℕ) → m < i → T m = λ m h table.

@@ -1,10 +1,11 @@
-use Rattle.std.proofs.Common.{◌≡◌, ap, sym, subst, ◌∙◌}
+use Rattle.std.proofs.Common.{◌≡◌, ◌<◌, ap, arith, sym, subst, ◌∙◌}
 use Rattle.byte_predictor.specs.Samples.{signed_sum}
-use Rattle.byte_predictor.specs.Upward.{upward_sum}
+use Rattle.byte_predictor.specs.Upward.{upward_sum, size_sum}
 use Rattle.byte_predictor.specs.SumsAhead.{IsAhead}
 use Rattle.byte_predictor.specs.Eight.{ahead_at}
 use Rattle.dst_frames.specs.Tables.{IsEntry}
 use Rattle.dst_frames.specs.Words.{entry_for}
+use Rattle.byte_predictor.proofs.Upward.{upward_sum-size}
 use Rattle.dst_frames.proofs.OneOfEight.{word_of_itself}
 use Rattle.dst_frames.proofs.eight.EightStates.word_at.Goals as goal
 
@@ -15,7 +16,9 @@ returns-clause-entry c = λ filter probs samples half_prob built ahead.
     let own = ahead_at c.args.self.now.ahead c.args.n in
     let before : IsAhead tables.filter place samples own = subst (λ coefs. IsAhead coefs place samples own) (sym built.filter_is) ahead in
     let up : c.upward-upward.result ≡ upward_sum filter samples = rw built.filter_is at (c.upward-upward.ensures samples before) in
-    subst (IsEntry (signed_sum filter samples) probs) (ap (entry_for tables.words) (sym up) ∙ sym c.word.ensures.entry) (built.entries samples ahead.long)
+    let narrow : size_sum filter < 32768 = rw built.filter_is at c.requires.narrow in
+    let inside = c.word.ensures.entry (omega (arith, up, upward_sum-size filter samples, narrow)) in
+    subst (IsEntry (signed_sum filter samples) probs) (ap (entry_for tables.words) (sym up) ∙ sym inside) (built.entries samples ahead.long)
 
 pub returns-clause-word : goal.returns-clause-word
 returns-clause-word c = word_of_itself c.word.ensures.word.0 c.word.result c.word.ensures.word.1

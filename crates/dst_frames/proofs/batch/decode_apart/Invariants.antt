@@ -3,7 +3,7 @@ use Rattle.dst_spec.specs.Sample.{sound_bytes}
 use Rattle.dst_frames.specs.Batch.{IsDecoded, stored_in}
 use Rattle.dst_frames.specs.declared.stored.StoredFrame.{StoredFrame}
 use Rattle.dst_frames.specs.declared.stored.DecodedFrame.{DecodedFrame}
-use Rattle.dst_frames.proofs.batch.decode_each.Given as goal
+use Rattle.dst_frames.proofs.batch.decode_apart.Given as goal
 
 abbrev pub invariant-loop-n : goal.invariant-loop-n
 invariant-loop-n l = record {

@@ -5,7 +5,7 @@ use Rattle.dst_frames.specs.Batch.{IsDecoded, stored_in}
 use Rattle.dst_frames.specs.declared.stored.StoredFrame.{StoredFrame}
 use Rattle.dst_frames.specs.declared.stored.DecodedFrame.{DecodedFrame}
 use Rattle.dst_frames.proofs.Begun.{long_set}
-use Rattle.dst_frames.proofs.batch.decode_each.Goals as goal
+use Rattle.dst_frames.proofs.batch.decode_apart.Goals as goal
 
 pub decode_one-requires-clause-sound : goal.decode_one-requires-clause-sound
 decode_one-requires-clause-sound c =
