@@ -13,6 +13,7 @@
 //! ```
 #![tactic(auto)]
 
+mod code_table;
 mod fill;
 pub mod laws;
 mod predictions;

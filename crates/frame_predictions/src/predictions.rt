@@ -4,6 +4,7 @@ ghost use Rattle.dst_spec.specs.Sample.{IsShape, samples, sound_bytes};
 ghost use Rattle.frame_predictions.specs.Codes.{codes};
 ghost use Rattle.frame_predictions.specs.Predicting.{Predicted, nothing};
 
+use crate::code_table::CodeTable;
 use crate::row::{Row, provide};
 use byte_predictor::RowFilter;
 use dst_num::{Channels, FilterTable};
@@ -17,6 +18,7 @@ pub struct Predictions {
     channels: Channels,
     sound: Vec<u8>,
     sums: RowFilter,
+    table: CodeTable,
     rows: Vec<Row>,
     held: usize,
     filled: usize,
@@ -57,6 +59,7 @@ impl Predictions {
             channels,
             sound: vec![in alloc; 0u8; channels.sound_bytes()]?,
             sums: RowFilter::new(),
+            table: [[0; 2]; 65536],
             rows,
             held: 0,
             filled: 0,
@@ -102,6 +105,7 @@ impl Predictions {
         let place = provide(
             self.rows.as_mut_slice(),
             &mut self.sums,
+            &mut self.table,
             self.sound.as_slice(),
             self.channels,
             self.filled,

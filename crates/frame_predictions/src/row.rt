@@ -2,8 +2,10 @@
 ghost use Rattle.std.specs.Prelude.{◌≡◌, ◌≢◌, ℕ, ◌+◌, ◌*◌, ◌<◌, ◌≤◌, max, true, length, get_or};
 ghost use Rattle.dst_spec.specs.Sample.{samples, sound_bytes};
 ghost use Rattle.frame_predictions.specs.Codes.{codes as codes_of};
+ghost use Rattle.frame_predictions.specs.CodeTable.{IsCodeTable};
 ghost use Rattle.frame_predictions.specs.Rows.{predicted, AreFilled};
 
+use crate::code_table::{CodeTable, fill_table};
 use crate::fill::fill;
 use byte_predictor::RowFilter;
 use dst_num::{Channels, FilterTable};
@@ -44,6 +46,7 @@ fn is_of(row: &Row, channel: usize, filter: &FilterTable) -> bool
 pub(crate) fn provide(
     rows: &mut [Row],
     sums: &mut RowFilter,
+    table: &mut CodeTable,
     sound: &[u8],
     channels: Channels,
     filled: usize,
@@ -68,7 +71,16 @@ pub(crate) fn provide(
     }
     let place = place.min(rows.len() - 1);
     sums.build(filter);
-    make(&mut rows[place], sums, sound, channels, channel, filter);
+    fill_table(table, sums);
+    make(
+        &mut rows[place],
+        sums,
+        table,
+        sound,
+        channels,
+        channel,
+        filter,
+    );
     place
 }
 
@@ -76,12 +88,14 @@ pub(crate) fn provide(
 fn make(
     row: &mut Row,
     sums: &RowFilter,
+    table: &CodeTable,
     sound: &[u8],
     channels: Channels,
     channel: usize,
     filter: &FilterTable,
 )
     requires sums { sums.now ≡ filter.now }
+    requires table { IsCodeTable sums.now table.now }
     requires channel { channel < channels.channels }
     requires sound { length sound.now ≡ sound_bytes channels }
     requires long { length row.old.codes.items ≡ samples channels }
@@ -96,6 +110,7 @@ fn make(
     fill(
         row.codes.as_mut_slice(),
         sums,
+        table,
         sound,
         count,
         channel,

@@ -3,6 +3,7 @@ ghost use Rattle.std.specs.Prelude.{◌≡◌, ◌<◌, ◌≤◌, length};
 ghost use Rattle.dst_spec.specs.Sample.{samples, sound_bytes};
 ghost use Rattle.frame_predictions.specs.Codes.{codes as codes_of};
 
+use crate::code_table::fill_table;
 use crate::fill::fill;
 use byte_predictor::RowFilter;
 use dst_num::Channels;
@@ -21,6 +22,16 @@ pub fn write_codes(
     requires sound { length sound.now ≡ sound_bytes channels }
     ensures { codes.new ≡ codes_of channels sound.now channel sums.now }
 {
+    let mut table = [[0; 2]; 65536];
+    fill_table(&mut table, sums);
     let octets = 4704 * channels.multiple();
-    fill(codes, sums, sound, channels.count(), channel, octets);
+    fill(
+        codes,
+        sums,
+        &table,
+        sound,
+        channels.count(),
+        channel,
+        octets,
+    );
 }

@@ -38,7 +38,7 @@ impl Model for StoreScratch {
 
 impl StoreScratch {
     /// Takes all memory that storing needs: for a frame's sound of F bytes, 64 F for predictions, 64 F for symbols and 3 F for the sound,
-    /// its plain form and a spelling, and less than 200,000 bytes besides.
+    /// its plain form and a spelling, and less than 300,000 bytes besides.
     pub fn new(alloc: Global, channels: Channels) -> Result<StoreScratch, AllocError>
         ensures { IfOk result (λ s. s.channels ≡ channels) }
     {
