@@ -69,6 +69,23 @@ chosen-old f sound found n P best least long inside at h is le =
     later None more first = more ∙ first
     later (Some k) more first = (omega (arith, first.0), λ other. more ∙ first.1 other)
 
+-- ---- one candidate alone
+pub alone-shorter : (f : Shape) (sound : List ℕ) (found : List Params) (P : Params) → length found ≡ 1 → P ≡ get_or found 0 P →
+    length (spell f P sound) ≤ length sound → stored f sound found ≡ spell f P sound
+alone-shorter f sound [] P one at le = absurd (omega arith)
+alone-shorter f sound (Q ∷ []) P one at le =
+    let short : length (spell f Q sound) < length (0 ∷ sound) = omega (arith, ap (λ R. length (spell f R sound)) at) in
+    ap (λ b. if b then spell f Q sound else 0 ∷ sound) (lt-ltb (length (spell f Q sound)) (length (0 ∷ sound)) short) ∙ ap (λ R. spell f R sound) (sym at)
+alone-shorter f sound (Q ∷ R ∷ more) P one at le = absurd (omega arith)
+
+pub alone-longer : (f : Shape) (sound : List ℕ) (found : List Params) (P : Params) → length found ≡ 1 → P ≡ get_or found 0 P →
+    length sound < length (spell f P sound) → stored f sound found ≡ 0 ∷ sound
+alone-longer f sound [] P one at lt = absurd (omega arith)
+alone-longer f sound (Q ∷ []) P one at lt =
+    let long : length (0 ∷ sound) ≤ length (spell f Q sound) = omega (arith, ap (λ R. length (spell f R sound)) at) in
+    ap (λ b. if b then spell f Q sound else 0 ∷ sound) (le-ltb (length (spell f Q sound)) (length (0 ∷ sound)) long)
+alone-longer f sound (Q ∷ R ∷ more) P one at lt = absurd (omega arith)
+
 -- a byte 0 and the sound written behind it
 pub plain-is : (old sound : List ℕ) → length old ≡ 1 + length sound → put_mid 1 (length (set old 0 0) - 1) (set old 0 0) sound ≡ 0 ∷ sound
 plain-is [] sound long = absurd (omega arith)

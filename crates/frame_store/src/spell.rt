@@ -1,7 +1,7 @@
 // A sound, spelled.
 ghost use Rattle.std.specs.Prelude.{◌≡◌, ◌+◌, ◌*◌, ◌%◌, ◌/◌, ◌<◌, ◌≤◌, ◌^◌, ◌↔◌, ◌++◌, false, [], ◌∷◌, length, map, take, IfOk, IfErr, IsTrue};
 ghost use Rattle.dst_spec.specs.Bits.{octets};
-ghost use Rattle.dst_spec.specs.Sample.{sound_bytes};
+ghost use Rattle.dst_spec.specs.Sample.{IsShape, sound_bytes};
 ghost use Rattle.dst_spec.specs.Interval.{interval};
 ghost use Rattle.dst_spec.specs.Spell.{code_spelling, header_spelling, spell};
 ghost use Rattle.arith_encoder.specs.Encoding.{StandsFor};
@@ -16,6 +16,7 @@ use bit_io::BitWriter;
 use dst_frames::reserved_probability;
 use dst_num::{Channels, Params, Prob};
 use frame_header::write_header;
+use frame_predictions::Predictions;
 
 /// Spells a sound with these parameters. False where the spelling is longer than the plain form.
 pub fn spell_frame(params: &Params, sound: &[u8], scratch: &mut StoreScratch) -> bool
@@ -30,6 +31,43 @@ pub fn spell_frame(params: &Params, sound: &[u8], scratch: &mut StoreScratch) ->
     let symbols = scratch.symbols.as_mut_slice();
     lay_out_first(params, &mut scratch.predictions, symbols);
     write_into(params, symbols, channels, &mut scratch.writer)
+}
+
+/// Writes the spelling by these parameters in place of what the writer has. False where it isn't shorter than the plain form.
+pub(crate) fn spell_shorter(
+    params: &Params,
+    predictions: &mut Predictions,
+    symbols: &mut [u8],
+    writer: &mut Option<BitWriter>,
+) -> bool
+    requires channels { length params.now.half_prob ≡ predictions.old.channels.channels }
+    requires shape { IsShape predictions.old.channels }
+    requires room { 8 * sound_bytes predictions.old.channels ≤ length symbols.old }
+    requires writer { IsWriter predictions.old.channels writer.old }
+    ensures shorter { IsTrue result ↔ (length (spell predictions.old.channels params.now predictions.old.sound) ≤ sound_bytes predictions.old.channels) }
+    ensures written { IsTrue result → written writer.new ≡ spell predictions.old.channels params.now predictions.old.sound }
+    ensures writer { IsWriter predictions.old.channels writer.new }
+    ensures many { length symbols.new ≡ length symbols.old }
+    ensures sound { predictions.new.sound ≡ predictions.old.sound }
+    ensures channels { predictions.new.channels ≡ predictions.old.channels }
+{
+    let channels = predictions.channels();
+    lay_out_first(params, predictions, symbols);
+    if !write_into(params, symbols, channels, writer) {
+        return false;
+    }
+    bytes_in(writer, channels) <= channels.sound_bytes()
+}
+
+// How many bytes a writer that is there has.
+fn bytes_in(writer: &Option<BitWriter>, channels: Channels) -> usize
+    requires { IsWriter channels writer.now }
+    ensures { result ≡ length (written writer.now) }
+{
+    match writer {
+        Some(writer) => writer.bytes().len(),
+        None => unreachable!(),
+    }
 }
 
 /// Writes the spelling of symbols that are laid out in front of a buffer in place of what the writer has. False, with nothing written, where it is longer than the

@@ -9,7 +9,7 @@ use crate::lay_out::lay_out_first;
 use crate::measure::spelling_lengths;
 use crate::picker::Picker;
 use crate::scratch::StoreScratch;
-use crate::spell::write_into;
+use crate::spell::{spell_shorter, write_into};
 use dst_num::{Channels, Params};
 use frame_predictions::Predictions;
 
@@ -35,6 +35,15 @@ pub fn store_frame<P: Picker>(
     );
     let found = scratch.found.as_slice();
     let symbols = scratch.symbols.as_mut_slice();
+    if found.len() == 1 {
+        let predictions = &mut scratch.predictions;
+        let shorter = spell_shorter(&found[0], predictions, symbols, &mut scratch.writer);
+        if !shorter {
+            keep_plain(scratch.plain.as_mut_slice(), sound);
+        }
+        scratch.is_plain = !shorter;
+        return;
+    }
     let steps = scratch.steps.as_mut_slice();
     match shortest(found, &mut scratch.predictions, symbols, steps, sound.len()) {
         None => {
