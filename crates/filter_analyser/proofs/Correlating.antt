@@ -1,13 +1,19 @@
 -- Correlations from counts of differing samples.
-use Rattle.std.proofs.Common.{◌≡◌, ℕ, zero, suc, ◌+◌, ◌-◌, ◌*◌, ◌%◌, ◌<◌, ◌≤◌, ℤ, pos, ◌-ℤ◌, ◌*ℤ◌, cond, List, length, inl, inr, refl, ap, sym, ◌∙◌, arith}
+use Rattle.std.proofs.Common.{◌≡◌, ℕ, zero, suc, ◌+◌, ◌-◌, ◌*◌, ◌%◌, ◌<◌, ◌≤◌, ℤ, pos, ◌+ℤ◌}
+use Rattle.std.proofs.Common.{◌-ℤ◌, ◌*ℤ◌, cond, List, [], ◌∷◌, length, inl, inr, refl, ap, sym, ◌∙◌, arith}
 use Rattle.std.proofs.lemmas.Int.{ints}
 use Rattle.std.proofs.lemmas.Bool.{cases_lt}
 use Rattle.dst_spec.specs.Sample.{Shape, samples}
 use Rattle.dst_spec.specs.Guess.{signed}
-use Rattle.level_spec.specs.Correlation.{sum_over, sign, correlation}
+use Rattle.level_spec.specs.Correlation.{sum_over, sign, correlation, joint_correlation}
 use Rattle.filter_refiner.proofs.Lengths.{test-true, test-false}
 use Rattle.filter_analyser.specs.Words.{bit_of, late, tally, differing, HasSamples}
 use Rattle.filter_analyser.proofs.Tallies.{tally-same, tally-append, tally-most, tally-none, sum_over-tally}
+
+-- the correlation of a channel alone
+pub alone : (f : Shape) (sound : List ℕ) (c k : ℕ) → correlation f sound c k ≡ joint_correlation f sound (c ∷ []) k
+unfolding joint_correlation
+alone f sound c k = let x = correlation f sound c k in let e : x ≡ x +ℤ pos 0 = omega (arith, ints) in e
 
 -- samples that were moved twice
 pub late-late : (words behind : List ℕ) (m j n t : ℕ) → ((t : ℕ) → t < n → bit_of behind t ≡ late words m t) → t < n → late behind j t ≡ late words (m + j) t

@@ -7,7 +7,7 @@ ghost use Rattle.level_spec.specs.Laws.{AreCorrelations};
 ghost use Rattle.level_spec.specs.Picks.{channels_of, per_channel as per_channel_of, shared as shared_of, orders, level_picks};
 ghost use Rattle.filter_analyser.specs.Run.{padded};
 
-use crate::lags::correlate;
+use crate::lags::{correlate, correlate_first};
 use crate::picks::{per_channel, shared};
 use crate::recursion::{solve_all, solve_filter};
 use crate::refined::refined_picks;
@@ -87,12 +87,21 @@ fn pick_one(sound: &[u8], channels: Channels, predictions: &mut Predictions, fou
     ensures channels { predictions.new.channels ≡ predictions.old.channels }
 {
     let mut solved = [[0; 128]; 6];
-    let mut lags = [0; 129];
     for c in 0..channels.count() {
-        correlate(sound, channels, c, &mut lags);
-        solved[c] = solve_filter(&lags, 32);
+        solved[c] = solve_short(sound, channels, c);
     }
     found.push(per_channel(&solved, 32, channels, predictions));
+}
+
+// The values of a channel's filter of order 32, with zeros behind them. They need the correlations up to lag 32 alone.
+fn solve_short(sound: &[u8], channels: Channels, channel: usize) -> [i64; 128]
+    requires sound { length sound.now ≡ sound_bytes channels }
+    requires channel { channel < channels.channels }
+    ensures { result ≡ padded (solution (correlations channels sound.now (channel ∷ [])) 32) }
+{
+    let mut lags = [0; 129];
+    correlate_first(sound, channels, channel, 4, &mut lags);
+    solve_filter(&lags, 32)
 }
 
 // The parameters of level 2.

@@ -1,35 +1,13 @@
-use Rattle.std.proofs.Common.{◌≡◌, ℕ, ◌*◌, ◌≤◌, pos, ◌+ℤ◌, List, [], ◌∷◌, ◌++◌, subst, length, take, replicate, length-take, ap, sym, ◌∙◌, arith}
-use Rattle.std.proofs.Math.Seq.{take-append_seam}
-use Rattle.std.proofs.lemmas.Int.{ints}
-use Rattle.std.proofs.lemmas.List.{length-replicate}
+use Rattle.std.proofs.Common.{pos, [], ◌∷◌, ◌∙◌, arith}
 use Rattle.std.proofs.lemmas.List.FromFn.{fill_by_all}
-use Rattle.dst_spec.specs.Sample.{Shape}
-use Rattle.level_spec.specs.Correlation.{correlation, joint_correlation}
-use Rattle.filter_analyser.specs.Words.{HasSamples}
+use Rattle.level_spec.specs.Correlation.{joint_correlation}
+use Rattle.filter_analyser.proofs.Correlating.{alone}
 use Rattle.filter_analyser.proofs.lags.correlate.Goals as goal
-
-pub alone : (f : Shape) (sound : List ℕ) (c k : ℕ) → correlation f sound c k ≡ joint_correlation f sound (c ∷ []) k
-unfolding joint_correlation
-alone f sound c k = let x = correlation f sound c k in let e : x ≡ x +ℤ pos 0 = omega (arith, ints) in e
-
--- as many words of the array as the rate has
-front : (m : ℕ) → m ≤ 4 → length {A = ℕ} (take (588 * m) (replicate 2352 0)) ≡ 588 * m
-front m h = omega (arith, length-take {A = ℕ} (588 * m) (replicate 2352 0), length-replicate {A = ℕ} 2352 0)
-
-take-front : (n : ℕ) (xs ys : List ℕ) → length xs ≡ n → take n (xs ++ ys) ≡ xs
-take-front n xs ys h = ap (λ k. take k (xs ++ ys)) (sym h) ∙ take-append_seam xs ys
 
 pub returns : goal.returns
 returns c =
     let f = c.args.channels in
     let sound = c.args.sound.now in
     let ch = c.args.channel in
-    let m = c.multiple-count.result in
-    let long = front m c.multiple-count.ensures.most in
-    let rate : f.octets ≡ 4704 * m = c.multiple-count.ensures.multiple in
-    let octets : f.octets ≡ 8 * length {A = ℕ} (take (588 * m) (replicate 2352 0)) = omega arith in
-    let has : HasSamples f sound ch c.pack.new.words = c.pack.ensures f (sym c.count.ensures.count) octets in
-    let few : length c.pack.new.words ≡ 588 * m = omega (arith, has.long) in
-    fill_by_all (λ k. joint_correlation f sound (ch ∷ []) k) c.correlate_words.new.lags 129 (pos 0) c.correlate_words.ensures.long
-    (λ k h. c.correlate_words.ensures.lags f sound ch (subst (HasSamples f sound ch) (sym (take-front (588 * m) c.pack.new.words _ few)) has) k h
-    ∙ alone f sound ch k)
+    fill_by_all (λ k. joint_correlation f sound (ch ∷ []) k) c.correlate_first.new.lags 129 (pos 0) c.correlate_first.ensures.long
+    (λ k h. c.correlate_first.ensures.lags k (omega arith) ∙ alone f sound ch k)

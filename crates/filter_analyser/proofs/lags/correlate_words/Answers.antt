@@ -25,6 +25,8 @@ loop-turn-init c = record {
       let stored : get_or (set c.args.lags.now 0 (to_z w64 (64 * length c.args.words.now))) 0 (pos 0) ≡ correlation f sound ch 0 =
       rw get_or-set_same (omega (arith, ints)) in
       subst (λ q. get_or (set c.args.lags.now 0 (to_z w64 (64 * length c.args.words.now))) q (pos 0) ≡ correlation f sound ch q) (sym is) stored;
+  behind = λ k h. let ne : k ≢ 0 = omega arith in
+      get_or-set_other c.args.lags.now 0 k (to_z w64 (64 * length c.args.words.now)) (pos 0) ne;
 }
 
 pub overflow_add-early : goal.overflow_add-early
@@ -76,6 +78,7 @@ loop-place-preserved c =
             (to_z w64 (of_z w64 (to_z w64 (64 * length words - last - 1) -ℤ to_z w64 (of_z w64 (pos 2 *ℤ to_z w64 (of_z w64 c.from.result))))))) q
             (pos 0) ≡ correlation f sound ch q) (sym is) stored
       ];
+      behind = λ k h. let ne : k ≢ last + 1 = omega arith in rw get_or-set_other (c.loop-place.invariant.behind k (omega arith));
     }
 
 pub loop-turn-preserved : goal.loop-turn-preserved
@@ -90,4 +93,5 @@ loop-turn-preserved c =
       moved = λ t h. c.compare-counts.ensures.behind t h ∙ late-late words c.loop-turn.behind (8 * turn) 8
           (64 * length words) t c.loop-turn.invariant.moved h ∙ ap (λ k. late words k t) e;
       known = λ f sound ch has k h. c.loop-place.invariant.known f sound ch has k (omega arith);
+      behind = λ k h. c.loop-place.invariant.behind k (omega arith);
     }

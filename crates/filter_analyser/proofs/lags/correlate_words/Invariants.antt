@@ -11,6 +11,7 @@ invariant-loop-turn l = record {
   moved : (t : ℕ) → t < 64 * length l.words → bit_of l.behind t ≡ late l.words (8 * l.turn) t;
   known : (f : Shape) (sound : List ℕ) (c : ℕ) → HasSamples f sound c l.words → (k : ℕ) → k < 8 * l.turn + 1 →
       get_or l.lags k (pos 0) ≡ correlation f sound c k;
+  behind : (k : ℕ) → 8 * l.turn < k → get_or l.lags k (pos 0) ≡ get_or l.fn.lags k (pos 0);
 }
 
 abbrev pub invariant-loop-place : goal.invariant-loop-place
@@ -19,4 +20,5 @@ invariant-loop-place l = record {
   early : l.early ≡ tally (bit_of l.words) 0 (8 * l.turn + l.place);
   known : (f : Shape) (sound : List ℕ) (c : ℕ) → HasSamples f sound c l.words → (k : ℕ) → k < 8 * l.turn + l.place + 1 →
       get_or l.lags k (pos 0) ≡ correlation f sound c k;
+  behind : (k : ℕ) → 8 * l.turn + l.place < k → get_or l.lags k (pos 0) ≡ get_or l.fn.lags k (pos 0);
 }

@@ -4,15 +4,8 @@ use Rattle.std.proofs.lemmas.Bool.{cases_lt}
 use Rattle.level_spec.specs.Correlation.{correlations}
 use Rattle.level_spec.specs.Recursion.{solution}
 use Rattle.level_spec.specs.Picks.{per_channel, level_picks}
-use Rattle.level_spec.specs.Laws.{AreCorrelations}
-use Rattle.level_spec.proofs.Sizes.{are_correlations}
 use Rattle.filter_analyser.specs.Run.{padded}
 use Rattle.filter_analyser.proofs.picker.pick_one.Goals as goal
-
-pub solve_filter-requires-clause-correlations : goal.solve_filter-requires-clause-correlations
-solve_filter-requires-clause-correlations c =
-    subst AreCorrelations (sym c.correlate.ensures) (are_correlations c.args.channels c.args.sound.now (c.loop-c.c ∷ []) c.count-c-end.ensures.shape
-    (omega arith) (omega arith))
 
 pub loop-c-preserved : goal.loop-c-preserved
 loop-c-preserved c =
@@ -27,9 +20,9 @@ loop-c-preserved c =
         | inl earlier ↦ let ne : k ≢ n = omega arith in rw get_or-set_other (c.loop-c.invariant.1 k earlier)
         | inr here ↦
             let e : k ≡ n = omega arith in
-            let stored : get_or (set c.loop-c.solved n c.solve_filter.result) n [] ≡ H (correlations f sound (n ∷ [])) =
-            rw get_or-set_same (c.solve_filter.ensures ∙ ap H c.correlate.ensures) in
-            subst (λ q. get_or (set c.loop-c.solved n c.solve_filter.result) q [] ≡ H (correlations f sound (q ∷ []))) (sym e) stored
+            let stored : get_or (set c.loop-c.solved n c.solve_short.result) n [] ≡ H (correlations f sound (n ∷ [])) =
+            rw get_or-set_same c.solve_short.ensures in
+            subst (λ q. get_or (set c.loop-c.solved n c.solve_short.result) q [] ≡ H (correlations f sound (q ∷ []))) (sym e) stored
       ],
     )
 
