@@ -45,7 +45,8 @@ pub written_bytes : (name : String) (body : List ℕ) (pad : ℕ) → AreBytes (
     AreBytes (bytes_of_chunk (chunk_of name body pad))
 written_bytes name body pad n b l =
     bytes_joined (codes name ++ big_bytes 8 (length body) ++ body) (if length body % 2 == 1 then pad ∷ [] else [])
-    (bytes_joined (codes name ++ big_bytes 8 (length body)) body (bytes_joined (codes name) (big_bytes 8 (length body)) n (numbers_are_bytes 8 (length body))) b)
+    (bytes_joined (codes name ++ big_bytes 8 (length body)) body
+    (bytes_joined (codes name) (big_bytes 8 (length body)) n (numbers_are_bytes 8 (length body))) b)
     (pads (length body % 2 == 1))
   where
     pads : (t : Bool) → AreBytes (if t then pad ∷ [] else [])
@@ -81,7 +82,8 @@ pub origin_bytes : (sound pad : ℕ) (cmpr kept : List ℕ) → pad < 256 → Ar
 origin_bytes sound pad cmpr kept l c k =
     let a = 2 ∷ big_bytes 8 sound in
     let b = pad ∷ big_bytes 4 (length kept) in
-    bytes_joined (a ++ b ++ cmpr) kept (bytes_joined (a ++ b) cmpr (bytes_joined a b (omega arith, numbers_are_bytes 8 sound) (l, numbers_are_bytes 4 (length kept))) c) k
+    bytes_joined (a ++ b ++ cmpr) kept
+    (bytes_joined (a ++ b) cmpr (bytes_joined a b (omega arith, numbers_are_bytes 8 sound) (l, numbers_are_bytes 4 (length kept))) c) k
 
 -- ---- a form of chunks
 pub form_is_bytes : (g : List ℕ) (cs : List Chunk) → g ≡ opening_bytes cs ++ body_bytes cs ++ [] → AreBytes (body_bytes cs) → AreBytes g

@@ -88,7 +88,8 @@ form_is_bytes f least most order =
     (bytes_joined (1 ∷ big_bytes 8 d.samples) (big_bytes 4 d.type) (omega arith, number_is_bytes 8 d.samples) (number_is_bytes 4 d.type)) (order, tt)) in
     bytes_joined (codes "FRM8" ++ big_bytes 8 (4 + length all) ++ codes "DSD ") all
     (bytes_joined (codes "FRM8" ++ big_bytes 8 (4 + length all)) (codes "DSD ")
-    (bytes_joined (codes "FRM8") (big_bytes 8 (4 + length all)) (by_test (codes "FRM8") refl) (number_is_bytes 8 (4 + length all))) (by_test (codes "DSD ") refl))
+    (bytes_joined (codes "FRM8") (big_bytes 8 (4 + length all)) (by_test (codes "FRM8") refl) (number_is_bytes 8 (4 + length all)))
+    (by_test (codes "DSD ") refl))
     (bytes_joined fver (prop ++ (dsd ++ (dsfk d ++ []))) (by_test fver refl)
     (bytes_joined prop (dsd ++ (dsfk d ++ [])) (prop_is_bytes d.channels d.multiple least most)
     (bytes_joined dsd (dsfk d ++ [])

@@ -110,10 +110,12 @@ ends_cut_off w nothing_answered fault old new room left are none (inr e) wrote =
     refused_early w (cut_off fault) fault old new (no_front (stream w).front (stream w).ending none) e refl wrote.0
 ends_cut_off w (begun front frames) fault old new room left are none (inl e) wrote =
     refused_behind w front frames wrote.sounds (stopped fault) fault old new are.0
-    (all_frames frames (stream w).frames are.1 (no_more_frames (drop (length frames) (stream w).frames) (stream w).ending none)) e wrote.are wrote.adds.written refl
+    (all_frames frames (stream w).frames are.1 (no_more_frames (drop (length frames) (stream w).frames) (stream w).ending none))
+    e wrote.are wrote.adds.written refl
 ends_cut_off w (begun front frames) fault old new room left are none (inr e) wrote =
     refused_behind w front frames wrote.sounds (cut_off fault) fault old new are.0
-    (all_frames frames (stream w).frames are.1 (no_more_frames (drop (length frames) (stream w).frames) (stream w).ending none)) e wrote.are wrote.adds.written refl
+    (all_frames frames (stream w).frames are.1 (no_more_frames (drop (length frames) (stream w).frames) (stream w).ending none))
+    e wrote.are wrote.adds.written refl
 
 -- ---- a frame is refused
 pub ends_at_frame : (k : ℕ) (fault : FrameFault) (taken piece rest : List ℕ) (old new : Option (List ℕ)) (room left : Option ℕ)

@@ -1,5 +1,6 @@
 -- How long a code is depends on its probabilities alone, and not on where its interval lies.
-use Rattle.std.proofs.Common.{◌≡◌, ℕ, zero, suc, ◌+◌, ◌-◌, ◌*◌, ◌/◌, ◌≤◌, nat_lt, Bool, true, false, cond, List, [], ◌∷◌, ◌++◌, length, refl, ap, ap₂, subst, ◌∙◌, arith, length-append}
+use Rattle.std.proofs.Common.{◌≡◌, ℕ, zero, suc, ◌+◌, ◌-◌, ◌*◌, ◌/◌, ◌≤◌, nat_lt, Bool, true, false, cond, List, [], ◌∷◌, ◌++◌, length, refl, ap, ap₂}
+use Rattle.std.proofs.Common.{subst, ◌∙◌, arith, length-append}
 use Rattle.dst_spec.specs.Sample.{Shape}
 use Rattle.dst_spec.specs.Header.{Params}
 use Rattle.dst_spec.specs.Symbols.{symbols}
@@ -17,7 +18,8 @@ alike_doubled zero low other range m = (refl, refl)
 alike_doubled (suc n) low other range m = go (nat_lt range 2048) (alike_doubled n (2 * low) (2 * other) (2 * range) (m + 1))
   where
     go : (b : Bool) → AreAlike (doubled n (at (2 * low) (2 * range) (m + 1))) (doubled n (at (2 * other) (2 * range) (m + 1))) →
-        AreAlike (cond b (doubled n (at (2 * low) (2 * range) (m + 1))) (at low range m)) (cond b (doubled n (at (2 * other) (2 * range) (m + 1))) (at other range m))
+        AreAlike (cond b (doubled n (at (2 * low) (2 * range) (m + 1))) (at low range m))
+        (cond b (doubled n (at (2 * other) (2 * range) (m + 1))) (at other range m))
     go true h = h
     go false h = (refl, refl)
 
@@ -63,7 +65,8 @@ pub spelling_bytes : (f : Shape) (P : Params) (sound : List ℕ) →
 unfolding spell
 spelling_bytes f P sound =
     let pairs = symbols f P sound false in
-    length-octets (header_spelling P ++ code_spelling pairs) ∙ ap (λ n. (n + 7) / 8) (length-append (header_spelling P) (code_spelling pairs) ∙ ap (λ n. length (header_spelling P) + n) (code_bits pairs))
+    length-octets (header_spelling P ++ code_spelling pairs)
+    ∙ ap (λ n. (n + 7) / 8) (length-append (header_spelling P) (code_spelling pairs) ∙ ap (λ n. length (header_spelling P) + n) (code_bits pairs))
 
 pub code_length_law : CodeLengthLaw
 code_length_law = record { alike = alike_from; more = more_from; code = code_bits; spelling = spelling_bytes }

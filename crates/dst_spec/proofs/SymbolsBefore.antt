@@ -10,7 +10,8 @@ use Rattle.dst_spec.specs.Guess.{probability, as_guessed}
 use Rattle.dst_spec.specs.Symbols.{reserved_probability, symbols_at, symbols_before, symbols}
 
 -- one more channel
-pub symbols_at-more : (f : Shape) (P : Params) (sound : List ℕ) (t n : ℕ) → symbols_at f P sound t (n + 1) ≡ symbols_at f P sound t n ++ (as_guessed f P sound n t, probability f P sound n t) ∷ []
+pub symbols_at-more : (f : Shape) (P : Params) (sound : List ℕ) (t n : ℕ) →
+    symbols_at f P sound t (n + 1) ≡ symbols_at f P sound t n ++ (as_guessed f P sound n t, probability f P sound n t) ∷ []
 symbols_at-more f P sound t n = map-range_with_len_more (λ c. (as_guessed f P sound c t, probability f P sound c t)) 0 n n (omega arith)
 
 -- one more place
@@ -23,13 +24,15 @@ range-more a (suc n) =
     let e : a + 1 + n ≡ a + suc n = omega arith in
     ap (range_with_len a) next ∙ ap (λ xs. a ∷ xs) (range-more (a + 1) n ∙ ap (λ k. range_with_len (a + 1) n ++ k ∷ []) e)
 
-pub symbols_before-more : (f : Shape) (P : Params) (sound : List ℕ) (reserved : Bool) (t : ℕ) → symbols_before f P sound reserved (t + 1) ≡ symbols_before f P sound reserved t ++ symbols_at f P sound t f.channels
+pub symbols_before-more : (f : Shape) (P : Params) (sound : List ℕ) (reserved : Bool) (t : ℕ) →
+    symbols_before f P sound reserved (t + 1) ≡ symbols_before f P sound reserved t ++ symbols_at f P sound t f.channels
 unfolding symbols_before
 symbols_before-more f P sound reserved t =
     let g = λ (u : ℕ). symbols_at f P sound u f.channels in
     let here : 0 + t ≡ t = omega arith in
     ap (λ xs. (reserved, reserved_probability P) ∷ xs)
-    (ap (flat_map g) (range-more 0 t) ∙ flat_map-append g (range_with_len 0 t) ((0 + t) ∷ []) ∙ ap (λ xs. flat_map g (range_with_len 0 t) ++ xs) (append-nil (g (0 + t)) ∙ ap g here))
+    (ap (flat_map g) (range-more 0 t) ∙ flat_map-append g (range_with_len 0 t) ((0 + t) ∷ [])
+    ∙ ap (λ xs. flat_map g (range_with_len 0 t) ++ xs) (append-nil (g (0 + t)) ∙ ap g here))
 
 pub no_symbols : (f : Shape) (P : Params) (sound : List ℕ) (reserved : Bool) → symbols_before f P sound reserved 0 ≡ (reserved, reserved_probability P) ∷ []
 unfolding symbols_before
@@ -40,7 +43,8 @@ unfolding symbols_before symbols
 all_symbols f P sound reserved = refl
 
 -- the samples of a byte, the earliest in its most significant bit
-pub byte_sample : (f : Shape) (sound : List ℕ) (m c i j byte : ℕ) → i + j ≡ 7 → get_or sound (m * f.channels + c) 0 ≡ byte → sample f sound c (pos (8 * m + i)) ≡ byte / 2 ^ j % 2
+pub byte_sample : (f : Shape) (sound : List ℕ) (m c i j byte : ℕ) → i + j ≡ 7 → get_or sound (m * f.channels + c) 0 ≡ byte →
+    sample f sound c (pos (8 * m + i)) ≡ byte / 2 ^ j % 2
 byte_sample f sound m c i j byte whole at =
     let down : (8 * m + i) / 8 ≡ m = omega arith in
     let left : 7 - (8 * m + i) % 8 ≡ j = omega arith in

@@ -7,4 +7,5 @@ use Rattle.dst_frames.proofs.fill.word_at.Goals as goal
 pub returns-clause-entry : goal.returns-clause-entry
 returns-clause-entry c =
     let fits : SFits w32 c.prediction.result = search rules in
-    subst (λ z. IsEntry z c.args.probs.now (c.word_of.result % 256)) (to_z-of_z w32 c.prediction.result fits ∙ c.prediction.ensures.less) c.word_of.ensures.entry
+    subst (λ z. IsEntry z c.args.probs.now (c.word_of.result % 256))
+    (to_z-of_z w32 c.prediction.result fits ∙ c.prediction.ensures.less) c.word_of.ensures.entry
