@@ -18,8 +18,9 @@ use Rattle.dsdiff_spec.specs.Outcome.{Answer, frame_refused, Refuses, NoneRefuse
 use Rattle.dsdiff_spec.specs.declared.faults.FileFault.{FileFault}
 use Rattle.dsdiff_spec.proofs.CodedFiles.{form_by, refused_by}
 use Rattle.dsdiff_spec.proofs.Lawful.{first_gives_none}
-use Rattle.dsdiff_spec.proofs.OneOutcome.{One, none_of_numbered, none_numbered, take-numbered}
+use Rattle.dsdiff_spec.proofs.OneOutcome.{One, none_of_numbered, none_numbered, take-numbered, number_of_stop}
 use Rattle.dsdiff_spec.proofs.Verdicts.{StopsAt}
+use Rattle.dsdiff_spec.proofs.OneAnswer.{command_has_one_outcome}
 
 -- the first frame that is refused, by its number
 pub record IsStoppedAt (file : List ℕ) (form : Form) (o : Answer) : Type 0 where

@@ -69,7 +69,7 @@ module _ {S K : Type 0} (bytes : S → Option (List ℕ)) (known : S → Option 
         drain = p.drain;
         cause = tt {0};
         ends = λ file told. under.ends_whole bytes known faults gave written room sink_faults form s0 t0 count s t file p ended b.count told (b.opened file
-        told);
+            told);
       }
 
   pub run_at_read : IsBegun bytes form f s0 t0 → (s : StoredFrames S) (t : SoundWriter K) (e : Failed) →

@@ -90,7 +90,7 @@ module _ {S K : Type 0} (bytes : S → Option (List ℕ)) (known : S → Option 
         drain = under.drained_on bytes known loan faults gave written appended room sink_faults picks s0 t0 stop.drain_before t p.drain stop.fails.same;
         short = tt {0};
         cause = under.caused bytes known loan faults gave written appended room sink_faults picks s0 t0 stop.drain_before t stop.worked fault _ _ p.drain
-        stop.fails;
+            stop.fails;
         ends = λ file told. under.ends_at_write bytes known loan faults gave written appended room sink_faults picks s0 t0 stop.place stop.feed_before
             stop.feed_after stop.drain_before t stop.job stop.worked fault file p stop.given stop.work stop.fails told
             (b.whole file told);

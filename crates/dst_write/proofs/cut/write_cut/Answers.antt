@@ -105,15 +105,30 @@ returns-in-Err-write_frames-clause-given g c =
 
 pub returns-in-Err-write_end-clause-given : goal.returns-in-Err-write_end-clause-given
 returns-in-Err-write_end-clause-given g c =
-    omega (arith, parts_of_form (coded_seen c.args.cut.now.form) c.args.cut.now.form.lawful, c.write_front.ensures.given, c.write_frames.ensures.given,
-    c.write_end.ensures.given)
+    omega (
+      arith,
+      parts_of_form (coded_seen c.args.cut.now.form) c.args.cut.now.form.lawful,
+      c.write_front.ensures.given,
+      c.write_frames.ensures.given,
+      c.write_end.ensures.given,
+    )
 
 pub returns-in-Ok-clause-given : goal.returns-in-Ok-clause-given
 returns-in-Ok-clause-given g c =
-    omega (arith, parts_of_form (coded_seen c.args.cut.now.form) c.args.cut.now.form.lawful, c.write_front.ensures.given, c.write_frames.ensures.given,
-    c.write_end.ensures.given)
+    omega (
+      arith,
+      parts_of_form (coded_seen c.args.cut.now.form) c.args.cut.now.form.lawful,
+      c.write_front.ensures.given,
+      c.write_frames.ensures.given,
+      c.write_end.ensures.given,
+    )
 
 pub returns-in-Err-finish-clause-given : goal.returns-in-Err-finish-clause-given
 returns-in-Err-finish-clause-given g c =
-    omega (arith, parts_of_form (coded_seen c.args.cut.now.form) c.args.cut.now.form.lawful, c.write_front.ensures.given, c.write_frames.ensures.given,
-    c.write_end.ensures.given)
+    omega (
+      arith,
+      parts_of_form (coded_seen c.args.cut.now.form) c.args.cut.now.form.lawful,
+      c.write_front.ensures.given,
+      c.write_frames.ensures.given,
+      c.write_end.ensures.given,
+    )

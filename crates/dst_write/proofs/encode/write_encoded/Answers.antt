@@ -145,15 +145,30 @@ returns-in-Err-write_frames-clause-given g c =
 
 pub returns-in-Err-write_end-clause-given : goal.returns-in-Err-write_end-clause-given
 returns-in-Err-write_end-clause-given g c =
-    omega (arith, parts_of_form (plain_seen c.args.form.now) c.args.form.now.lawful, c.write_front.ensures.given, c.write_frames.ensures.given,
-    c.write_end.ensures.given)
+    omega (
+      arith,
+      parts_of_form (plain_seen c.args.form.now) c.args.form.now.lawful,
+      c.write_front.ensures.given,
+      c.write_frames.ensures.given,
+      c.write_end.ensures.given,
+    )
 
 pub returns-in-Ok-clause-given : goal.returns-in-Ok-clause-given
 returns-in-Ok-clause-given g c =
-    omega (arith, parts_of_form (plain_seen c.args.form.now) c.args.form.now.lawful, c.write_front.ensures.given, c.write_frames.ensures.given,
-    c.write_end.ensures.given)
+    omega (
+      arith,
+      parts_of_form (plain_seen c.args.form.now) c.args.form.now.lawful,
+      c.write_front.ensures.given,
+      c.write_frames.ensures.given,
+      c.write_end.ensures.given,
+    )
 
 pub returns-in-Err-write_sizes-clause-given : goal.returns-in-Err-write_sizes-clause-given
 returns-in-Err-write_sizes-clause-given g c =
-    omega (arith, parts_of_form (plain_seen c.args.form.now) c.args.form.now.lawful, c.write_front.ensures.given, c.write_frames.ensures.given,
-    c.write_end.ensures.given)
+    omega (
+      arith,
+      parts_of_form (plain_seen c.args.form.now) c.args.form.now.lawful,
+      c.write_front.ensures.given,
+      c.write_frames.ensures.given,
+      c.write_end.ensures.given,
+    )
