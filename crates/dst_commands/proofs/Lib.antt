@@ -4,3 +4,5 @@ pub mod PassedOn
 pub mod InTurn
 pub mod Rooms
 pub mod Taken
+pub mod OneCall
+pub mod ChunkLengths

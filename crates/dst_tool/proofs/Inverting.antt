@@ -13,8 +13,8 @@ use Rattle.dst_read.specs.declared.faults.ListFault.{ListFault}
 use Rattle.dst_read.specs.declared.faults.ListFault.TheVariants as listing
 use Rattle.dst_write.specs.declared.faults.EncodeFault.{EncodeFault}
 use Rattle.dst_write.specs.declared.faults.EncodeFault.TheVariants as encoding
-use Rattle.dst_write.specs.declared.cut.CutFault.{CutFault}
-use Rattle.dst_write.specs.declared.cut.CutFault.TheVariants as cutting
+use Rattle.dst_cut.specs.declared.cut.CutFault.{CutFault}
+use Rattle.dst_cut.specs.declared.cut.CutFault.TheVariants as cutting
 use Rattle.dst_make.specs.declared.make.MakeFault.{MakeFault}
 use Rattle.dst_make.specs.declared.make.MakeFault.TheVariants as making
 use Rattle.dst_tool.specs.declared.making.RunFault.{RunFault}

@@ -4,13 +4,14 @@ ghost use Rattle.dst_tool.specs.Answers.{answered, of_check, of_cut, of_decode, 
 
 use crate::making::RunFault;
 use dsdiff_chunks::{FileFault, OpenFault};
+use dst_cut::{Cut, CutFault};
 use dst_make::{Made, MakeFault};
 use dst_num::FrameFault;
 use dst_ranges::RangeWritten;
 use dst_read::{
     CheckFault, Checked, DecodeFault, Decoded, FrameWritten, ListFault, Reported, ShowFault,
 };
-use dst_write::{Cut, CutFault, EncodeFault, Encoded};
+use dst_write::{EncodeFault, Encoded};
 use std::alloc::AllocError;
 
 /// The numbers that the line of a command has which is done.

@@ -12,6 +12,7 @@ use crate::answers::{
     range_written, shown,
 };
 use crate::making::make_run;
+use dst_cut::cut_file;
 use dst_dsf::{decode_dsf, encode_dsf};
 use dst_lines::lines;
 use dst_make::make_file;
@@ -19,7 +20,7 @@ use dst_ranges::range_out;
 use dst_read::{check_file, decode_file, frame_out, index_file, show_file};
 use dst_streams::{Sink, Source};
 use dst_words::Command;
-use dst_write::{cut_file, encode_file};
+use dst_write::encode_file;
 use filter_analyser::LevelPicker;
 use frame_crew::Gate;
 use std::alloc::Global;

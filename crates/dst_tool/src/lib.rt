@@ -23,13 +23,14 @@ mod making;
 mod run;
 mod run_by;
 
+pub use dst_cut::{Cut, CutFault, cut_file};
 pub use dst_make::{Made, MakeFault, make_file};
 pub use dst_read::{
     CheckFault, Checked, DecodeFault, Decoded, FrameWritten, ListFault, Reported, ShowFault,
     check_file, decode_file, frame_out, index_file, show_file,
 };
 pub use dst_words::{Command, Task, read_words};
-pub use dst_write::{Cut, CutFault, EncodeFault, Encoded, cut_file, encode_file};
+pub use dst_write::{EncodeFault, Encoded, encode_file};
 pub use making::{RunFault, make_run};
 pub use run::dst_run;
 pub use run_by::dst_run_by;

@@ -14,7 +14,8 @@ use Rattle.dsdiff_spec.specs.Written.{frte, dstf, dsti, entries_from, behind_sou
 use Rattle.dsdiff_spec.specs.Coded.{coded_before, coded_with, dst, first_place, origin_of_plain}
 use Rattle.dst_write.specs.Layout.{before, behind, end, form_size, front, opening, sound_opening, sound_size, unsized}
 use Rattle.dst_write.specs.Unfinished.{form_size_place, SizesEnd}
-use Rattle.dst_write.proofs.BySize.{entries_are, even_chunk, frames_size_is, half_of_frames, length-dsti, length-frte}
+use Rattle.dst_commands.proofs.ChunkLengths.{even_chunk, length-frte}
+use Rattle.dst_write.proofs.BySize.{entries_are, frames_size_is, half_of_frames, length-dsti}
 
 -- ---- a field between two parts
 pub put_over : (p q r new : List ℕ) (place : ℕ) → length p ≡ place → length new ≡ length q →

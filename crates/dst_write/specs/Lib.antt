@@ -5,5 +5,3 @@ pub mod Jobs
 pub mod Feeding
 pub mod Draining
 pub mod Frames
-pub mod CutLayout
-pub mod Cutting

@@ -1,8 +1,7 @@
-//! The commands that write coded files: each of them alone, over a source and a sink.
+//! The command that codes a plain file: alone, over a source and a sink.
 //!
-//! [`encode_file`] writes the coded file of a plain one, with the parameters that a picker finds for each frame. [`cut_file`] writes some
-//! frames of a coded file as a coded file, without coding them again. Each answers what it did, or the first fault, of a type that has
-//! the faults that it can give and no others.
+//! [`encode_file`] writes the coded file of a plain one, with the parameters that a picker finds for each frame. It answers what it did,
+//! or the first fault, of a type that has the faults that it can give and no others.
 //!
 //! ```text
 //! match encode_file(&rt, alloc, &mut source, &mut sink, &picker, 4, &OpenGate) {
@@ -15,10 +14,6 @@
 
 mod around;
 mod chunks;
-mod cut;
-mod cut_form;
-mod cut_parts;
-mod cut_rules;
 mod drain;
 mod encode;
 mod faults;
@@ -30,6 +25,5 @@ mod sizes;
 mod tests;
 mod work;
 
-pub use cut::{Cut, CutFault, cut_file};
 pub use encode::encode_file;
 pub use faults::{EncodeFault, Encoded};

@@ -1,6 +1,5 @@
 // The calls over files that are known byte for byte.
 mod crew;
-mod cutting;
 mod files;
 
 ghost use Rattle.std.specs.Prelude.{[]};

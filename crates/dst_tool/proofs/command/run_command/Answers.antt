@@ -32,7 +32,7 @@ use Rattle.dst_tool.proofs.Inverting.{show_writes, to_check, to_cut, to_decode, 
 use Rattle.dst_tool.proofs.Inverting.{cut_again, cut_refuses, cut_reports, made_memory, made_no_other, made_write, ran_no_other}
 use Rattle.dst_write.specs.declared.faults.Encoded.{Encoded}
 use Rattle.dst_make.specs.Making.{made_file}
-use Rattle.dst_write.specs.declared.cut.Cut.{Cut}
+use Rattle.dst_cut.specs.declared.cut.Cut.{Cut}
 use Rattle.dst_make.specs.declared.make.Made.{Made}
 use Rattle.dst_read.specs.declared.faults.Decoded.{Decoded}
 use Rattle.dst_read.specs.declared.faults.FrameWritten.{FrameWritten}

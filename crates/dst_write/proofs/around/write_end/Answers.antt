@@ -7,7 +7,7 @@ use Rattle.dsdiff_chunks.specs.declared.copy.CopyFault.{CopyFault}
 use Rattle.dst_commands.proofs.Writing.{adds_same, adds_then, stops_for, stops_first, stops_same, stops_then}
 use Rattle.dst_commands.proofs.PassedOn.{of_ok}
 use Rattle.dst_write.specs.Layout.{behind, entries_by}
-use Rattle.dst_write.proofs.Pieces.{has_grown, side_then}
+use Rattle.dst_commands.proofs.OneCall.{has_grown, side_then}
 use Rattle.dst_write.proofs.around.write_end.Goals as goal
 
 pub returns-in_default-clause-written : goal.returns-in_default-clause-written

@@ -1,7 +1,7 @@
 -- The parts are those of the plain file.
 use Rattle.std.proofs.Common.{List, ℕ, ap, ◌∙◌}
 use Rattle.dsdiff_spec.specs.Written.{cmpr_in, origin_chunk}
-use Rattle.dst_write.proofs.Pieces.{one_call, call_same}
+use Rattle.dst_commands.proofs.OneCall.{one_call, call_same}
 use Rattle.dst_write.proofs.around.write_kept.Goals as goal
 
 pub returns-clause-written : goal.returns-clause-written

@@ -12,7 +12,7 @@ use Rattle.dst_write.specs.Encoding.{of_device}
 use Rattle.dst_write.specs.Layout.{end, form_size, front, sound_size}
 use Rattle.dst_write.specs.declared.faults.EncodeFault.TheVariants.{Write}
 use Rattle.dst_commands.proofs.Taken.{parts_of_form}
-use Rattle.dst_write.proofs.Pieces.{some_file}
+use Rattle.dst_commands.proofs.OneCall.{some_file}
 use Rattle.dst_write.proofs.Sized.{length-front}
 use Rattle.dst_write.proofs.Ending.{all_added, sizes_as, stored_count, stopped_short, stopped_at_sizes, ended_whole}
 use Rattle.dst_write.proofs.encode.write_encoded.Goals as goal

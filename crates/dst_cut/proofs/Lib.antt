@@ -1,0 +1,6 @@
+mod CutPlaces
+mod CutWhole
+mod CutOutcome
+mod CutCopied
+mod CutRules
+mod CutIndex

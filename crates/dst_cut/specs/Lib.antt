@@ -1,0 +1,2 @@
+pub mod CutLayout
+pub mod Cutting
