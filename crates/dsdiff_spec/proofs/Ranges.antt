@@ -11,7 +11,7 @@ use Rattle.dst_spec.proofs.Frames.{plain_frame_means_its_bytes}
 use Rattle.dst_spec.proofs.Lists.{AreBytes-same}
 use Rattle.dsdiff_spec.specs.Rules.{accepted}
 use Rattle.dsdiff_spec.specs.Samples.{sound_of}
-use Rattle.dsdiff_spec.specs.Made.{Wave, at_time, times_from, seeded, plain_form, height, made_sound, made}
+use Rattle.dsdiff_spec.specs.Made.{Wave, at_time, bounded, dither, times_from, seeded, plain_form, height, made_sound, made}
 use Rattle.dsdiff_spec.specs.Ranges.{Sound, wants, range_of, range_before}
 use Rattle.dsdiff_spec.specs.Dsf.{dsf_fault, dsf_with, dsdiff, bare, ToDsf}
 use Rattle.dsdiff_spec.specs.Coded as encoding
@@ -52,6 +52,13 @@ file_without_sound_is_made = refl
 
 pub height_of_the_wave : map (λ t. height t 0) (0 ∷ 1600 ∷ 3200 ∷ 4800 ∷ 6400 ∷ []) ≡ neg_ℤ (pos 16000) ∷ pos 0 ∷ pos 16000 ∷ pos 0 ∷ neg_ℤ (pos 16000) ∷ []
 height_of_the_wave = refl
+
+pub dither_of_random_words : map dither (0 ∷ 2048 ∷ 4095 ∷ 4096 ∷ []) ≡ neg_ℤ (pos 2048) ∷ pos 0 ∷ pos 2047 ∷ neg_ℤ (pos 2048) ∷ []
+dither_of_random_words = refl
+
+pub bounds_of_the_numbers : map bounded (pos 16777216 ∷ pos 16777217 ∷ neg_ℤ (pos 16777216) ∷ neg_ℤ (pos 16777217) ∷ [])
+    ≡ pos 16777216 ∷ pos 16777216 ∷ neg_ℤ (pos 16777216) ∷ neg_ℤ (pos 16777216) ∷ []
+bounds_of_the_numbers = refl
 
 abbrev still : Wave
 still = record { u = pos 0; w = pos 0 }
