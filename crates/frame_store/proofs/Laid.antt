@@ -1,17 +1,13 @@
 -- Steps laid side by side.
-use Rattle.std.proofs.Common.{◌≡◌, ◌≢◌, ◌⊎◌, inl, inr, ℕ, zero, suc, ◌+◌, ◌<◌, ◌≤◌, Bool, false, List, [], ◌∷◌, ◌++◌, length, get_or, set, take, drop}
-use Rattle.std.proofs.Common.{map, replicate, refl, ap, sym, subst, ◌∙◌, arith, get_or-set_same, get_or-set_other, length-set, length-take-le}
-use Rattle.std.proofs.Common.{get_or-take}
+use Rattle.std.proofs.Common.{◌≡◌, ◌≢◌, ◌⊎◌, inl, inr, ℕ, zero, suc, ◌+◌, ◌<◌, ◌≤◌, Bool, false, List, [], ◌∷◌, ◌++◌, length, get_or, set, take}
+use Rattle.std.proofs.Common.{replicate, refl, ap, sym, ◌∙◌, arith, get_or-set_same, get_or-set_other, length-set}
 use Rattle.std.proofs.lemmas.Bool.{cases_eq}
-use Rattle.std.proofs.lemmas.List.{get_or-map, length-map, map-append}
-use Rattle.std.proofs.Math.Seq.{take-add}
 use Rattle.dst_spec.specs.Interval.{whole, interval_from, interval}
 use Rattle.dst_spec.proofs.Intervals.{interval_from-append}
 use Rattle.dst_spec.specs.Spell.{code_spelling}
 use Rattle.dst_spec.proofs.CodeLengths.{code_bits}
 use Rattle.arith_encoder.specs.Lanes.{IsStep, AreSteps, Leaves}
 use Rattle.frame_store.specs.Measured.{IsMeasured}
-use Rattle.frame_store.specs.Pairs.{pair_of}
 
 abbrev pub with_lane : List (List ℕ) → ℕ → ℕ → ℕ → List (List ℕ)
 with_lane steps k lane x = set steps k (set (get_or steps k []) lane x)
@@ -48,21 +44,6 @@ lane-eights steps k lane x lt eights j h = at (cases_eq j k)
         ap length (get_or-set_other steps k j (set (get_or steps k []) lane x) [] nor) ∙ eights j (omega arith)
 
 -- ---- part after part
-pub part-steps : (lane : ℕ) (table : List ℕ) (steps : List (List ℕ)) (xs : List ℕ) (n : ℕ) → length xs ≡ n → n ≤ length steps →
-    ((byte : ℕ) → byte < 256 → IsStep (pair_of byte).0 (pair_of byte).1 (get_or table byte 0)) → ((k : ℕ) → get_or xs k 0 < 256) →
-    ((k : ℕ) → k < n → get_or (get_or steps k []) lane 0 ≡ get_or table (get_or xs k 0) 0) → AreSteps lane (take n steps) (map pair_of xs)
-part-steps lane table steps xs n long le each small here =
-    let many = length-take-le n steps le in
-    record {
-      long = length-map xs pair_of ∙ long ∙ sym many;
-      each = λ k lt.
-          let inside : k < length xs = omega (arith, many) in
-          let pair = get_or-map pair_of xs k 0 (false, 0) inside in
-          let step = ap (λ r. get_or r lane 0) (get_or-take n steps k [] (omega (arith, many))) ∙ here k (omega (arith, many)) in
-          subst (λ q. IsStep q.0 q.1 (get_or (get_or (take n steps) k []) lane 0)) (sym pair)
-          (subst (IsStep (pair_of (get_or xs k 0)).0 (pair_of (get_or xs k 0)).1) (sym step) (each (get_or xs k 0) (small k)));
-    }
-
 pub measured-more : (before behind : List (Bool × ℕ)) (range bits after more bits_after : ℕ) → IsMeasured before range bits →
     Leaves range behind after more → bits_after ≡ bits + more →
     IsMeasured (before ++ behind) after bits_after
@@ -104,6 +85,3 @@ pub same-at : (n v i : ℕ) → i < n → get_or (replicate n v) i 0 ≡ v
 same-at zero v i lt = absurd (omega arith)
 same-at (suc n) v zero lt = refl
 same-at (suc n) v (suc i) lt = same-at n v i (omega arith)
-
-pub mapped-part : (xs : List ℕ) (from n : ℕ) → map pair_of (take (from + n) xs) ≡ map pair_of (take from xs) ++ map pair_of (take n (drop from xs))
-mapped-part xs from n = ap (map pair_of) (take-add from n xs) ∙ map-append pair_of (take from xs) (take n (drop from xs))

@@ -1,5 +1,5 @@
 pub mod Codes
 pub mod Laid
-pub mod Parts
 pub mod Placed
+pub mod Runs
 pub mod Spelled

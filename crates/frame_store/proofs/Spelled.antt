@@ -17,11 +17,14 @@ pub spelled-bytes : (f : Shape) (P : Params) (sound xs : List ℕ) → all_pairs
 unfolding spell
 spelled-bytes f P sound xs is = ap (λ pairs. octets (header_spelling P ++ code_spelling pairs)) is
 
+pub symbols-length : (f : Shape) (P : Params) (sound : List ℕ) →
+    length (spell f P sound) ≡ (length (header_spelling P) + length (code_spelling (symbols f P sound false)) + 7) / 8
+symbols-length f P sound = spelling_bytes f P sound ∙ ap (λ n. (length (header_spelling P) + n + 7) / 8) (sym (code_bits (symbols f P sound false)))
+
 pub spelled-length : (f : Shape) (P : Params) (sound xs : List ℕ) → all_pairs P xs ≡ symbols f P sound false →
     length (spell f P sound) ≡ (length (header_spelling P) + length (code_spelling (all_pairs P xs)) + 7) / 8
 spelled-length f P sound xs is =
-    spelling_bytes f P sound ∙ ap (λ n. (length (header_spelling P) + n + 7) / 8)
-    (sym (code_bits (symbols f P sound false)) ∙ ap (λ pairs. length (code_spelling pairs)) (sym is))
+    symbols-length f P sound ∙ ap (λ pairs. (length (header_spelling P) + length (code_spelling pairs) + 7) / 8) (sym is)
 
 -- ---- one candidate after the other
 fold-more : (a : List ℕ) (xs : List (List ℕ)) (x : List ℕ) → fold shorter a (xs ++ x ∷ []) ≡ shorter (fold shorter a xs) x

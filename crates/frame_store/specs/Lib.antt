@@ -1,4 +1,5 @@
 pub mod Choosing
+pub mod Coded
 pub mod Measured
 pub mod Pairs
 pub mod Storing

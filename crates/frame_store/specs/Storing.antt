@@ -25,7 +25,7 @@ IsWriter f (Some w) = (length w.bits % 8 ≡ 0) × (w.room + length w.bits ≡ 8
 pub record IsStorage (f : Shape) (predictions : Predicting) (symbols : List ℕ) (steps : List (List ℕ)) (writer : Option Writing) (plain : List ℕ) : Type 0 where
   pub is_shape : IsShape f
   pub predicts : predictions.channels ≡ f
-  pub many : length symbols ≡ 8 * (8 * sound_bytes f)
+  pub many : length symbols ≡ 8 * sound_bytes f
   pub parts : length steps ≡ 1024
   pub is_writer : IsWriter f writer
   pub long : length plain ≡ 1 + sound_bytes f

@@ -1,59 +1,111 @@
 // The lengths of eight codes, measured side by side.
-ghost use Rattle.std.specs.Prelude.{◌≡◌, ◌≢◌, ℕ, ◌+◌, ◌*◌, ◌<◌, ◌≤◌, ◌^◌, [], length, get_or, map, take, drop, All, Bool, false, List, ◌∷◌};
+ghost use Rattle.std.specs.Prelude.{◌≡◌, ◌≢◌, ℕ, ◌+◌, ◌*◌, ◌<◌, ◌≤◌, ◌^◌, [], length, get_or, All, false};
+ghost use Rattle.dst_spec.specs.Sample.{samples};
+ghost use Rattle.dst_spec.specs.Header.{Params as Parameters};
+ghost use Rattle.dst_spec.specs.Symbols.{reserved_probability as reserved_from, symbols as symbols_of};
 ghost use Rattle.dst_spec.specs.Spell.{code_spelling};
-ghost use Rattle.arith_encoder.specs.Lanes.{IsStep, AreSteps};
-ghost use Rattle.frame_store.specs.Pairs.{pair_of};
+ghost use Rattle.arith_encoder.specs.Lanes.{IsStep};
+ghost use Rattle.frame_store.specs.Coded.{AreCodeSteps, AreCoded, step_at};
 
-use crate::measure::{prob_of, symbol_in};
-use arith_encoder::{narrow_lanes, step_of};
+use crate::coded::{ChannelSteps, steps_of_codes};
+use arith_encoder::narrow_lanes;
+use frame_predictions::Predictions;
+use frame_predictions::laws::{code_tells, row_of_codes};
 
-// The step of each byte of laid out symbols.
-pub(crate) fn steps_of_bytes() -> [u16; 256]
-    ensures { (byte : ℕ) → byte < 256 → IsStep (pair_of byte).0 (pair_of byte).1 (get_or result byte 0) }
-{
-    let mut table = [0; 256];
-    for byte in 0..256usize {
-        let symbols = byte as u8;
-        table[byte] = step_of(symbol_in(symbols), prob_of(symbols));
-    }
-    table
-}
-
-// Puts the symbols of one code into its lane.
-fn fill_lane(steps: &mut [[u16; 8]], symbols: &[u8], table: &[u16; 256], lane: usize)
-    requires lane { lane < 8 }
-    requires room { length symbols.now ≤ length steps.old }
-    ensures long { length steps.new ≡ length steps.old }
-    ensures here { (k : ℕ) → k < length symbols.now → get_or (get_or steps.new k []) lane 0 ≡ get_or table.now (get_or symbols.now k 0) 0 }
-    ensures others { (k other : ℕ) → other ≢ lane → get_or (get_or steps.new k []) other 0 ≡ get_or (get_or steps.old k []) other 0 }
-{
-    for k in 0..symbols.len() {
-        steps[k][lane] = table[symbols[k] as usize];
-    }
-}
-
-// A part of the symbols of eight codes, which stand one behind the other, laid side by side.
-fn lay_part(
+// Puts what the codes of a channel take from one sample on into a lane, where the channels of each sample stand side by side.
+fn fill_run(
     steps: &mut [[u16; 8]],
-    symbols: &[u8],
-    long: usize,
-    table: &[u16; 256],
+    codes: &[u8],
+    table: &[u16; 128],
+    lane: usize,
+    c: usize,
+    channels: usize,
+    begin: usize,
+)
+    requires codes { All (λ code. code < 128) codes.now }
+    requires lane { lane < 8 }
+    requires channel { c < channels }
+    requires room { length codes.now * channels ≤ length steps.old }
+    requires short { length steps.old ≤ 8000 }
+    ensures long { length steps.new ≡ length steps.old }
+    ensures here { (t : ℕ) → begin ≤ t → t < length codes.now
+        → get_or (get_or steps.new (t * channels + c) []) lane 0 ≡ get_or table.now (get_or codes.now t 0) 0 }
+    ensures before { (t : ℕ) → t < begin → get_or (get_or steps.new (t * channels + c) []) lane 0 ≡ get_or (get_or steps.old (t * channels + c) []) lane 0 }
+    ensures channels { (t d : ℕ) → d < channels → d ≢ c
+        → get_or (get_or steps.new (t * channels + d) []) lane 0 ≡ get_or (get_or steps.old (t * channels + d) []) lane 0 }
+    ensures lanes { (k other : ℕ) → other ≢ lane → get_or (get_or steps.new k []) other 0 ≡ get_or (get_or steps.old k []) other 0 }
+{
+    for t in begin..codes.len() {
+        steps[t * channels + c][lane] = table[codes[t] as usize];
+    }
+}
+
+// Puts what the samples of one candidate from sample `from` on take into its lane; an early sample's code takes it by the first table.
+fn fill_lane(
+    steps: &mut [[u16; 8]],
+    predictions: &Predictions,
+    coded: &[ChannelSteps; 6],
+    first: &[u16; 128],
+    lane: usize,
     from: usize,
     count: usize,
 )
-    requires eight { length symbols.now ≡ 8 * long }
-    requires inside { from + count ≤ long }
-    requires room { count ≤ length steps.old }
-    requires short { long < 2 ^ 32 }
-    requires table { (byte : ℕ) → byte < 256 → IsStep (pair_of byte).0 (pair_of byte).1 (get_or table.now byte 0) }
+    requires lane { lane < 8 }
+    requires rows { (c : ℕ) (other : ChannelSteps) → c < predictions.now.channels.channels → (get_or coded.now c other).row < length predictions.now.rows }
+    requires inside { from + count ≤ samples predictions.now.channels }
+    requires room { count * predictions.now.channels.channels ≤ length steps.old }
+    requires short { length steps.old ≤ 8000 }
     ensures long { length steps.new ≡ length steps.old }
-    ensures steps { (lane : ℕ) → lane < 8
-        → AreSteps lane (take count steps.new) (map pair_of (take count (drop (lane * long + from) symbols.now))) }
+    ensures here { (t c : ℕ) (other : ChannelSteps) → t < count → c < predictions.now.channels.channels
+        → get_or (get_or steps.new (t * predictions.now.channels.channels + c) []) lane 0
+        ≡ step_at predictions.now.channels predictions.now.sound predictions.now.rows first.now (get_or coded.now c other) (from + t) }
+    ensures lanes { (k other : ℕ) → other ≢ lane → get_or (get_or steps.new k []) other 0 ≡ get_or (get_or steps.old k []) other 0 }
 {
-    for lane in 0..8 {
-        let first = lane * long + from;
-        fill_lane(steps, &symbols[first..first + count], table, lane);
+    let channels = predictions.channels().count();
+    for c in 0..channels {
+        let channel = &coded[c];
+        let codes = &predictions.codes(channel.row)[from..from + count];
+        let early = channel.early.saturating_sub(from).min(count);
+        fill_run(steps, &codes[..early], first, lane, c, channels, 0);
+        fill_run(steps, codes, &channel.later, lane, c, channels, early);
     }
+}
+
+// The same of each candidate, side by side.
+fn fill_part(
+    steps: &mut [[u16; 8]],
+    predictions: &Predictions,
+    lanes: &[[ChannelSteps; 6]],
+    first: &[u16; 128],
+    from: usize,
+    count: usize,
+)
+    requires few { length lanes.now ≤ 8 }
+    requires rows { (lane c : ℕ) (other : ChannelSteps) → lane < length lanes.now → c < predictions.now.channels.channels
+        → (get_or (get_or lanes.now lane []) c other).row < length predictions.now.rows }
+    requires inside { from + count ≤ samples predictions.now.channels }
+    requires room { count * predictions.now.channels.channels ≤ length steps.old }
+    requires short { length steps.old ≤ 8000 }
+    ensures long { length steps.new ≡ length steps.old }
+    ensures here { (lane t c : ℕ) (other : ChannelSteps) → lane < length lanes.now → t < count → c < predictions.now.channels.channels
+        → get_or (get_or steps.new (t * predictions.now.channels.channels + c) []) lane 0
+        ≡ step_at predictions.now.channels predictions.now.sound predictions.now.rows first.now (get_or (get_or lanes.now lane []) c other) (from + t) }
+{
+    for lane in 0..lanes.len() {
+        fill_lane(steps, predictions, &lanes[lane], first, lane, from, count);
+    }
+}
+
+// How many samples of each channel are in a part, of those that are left.
+fn part_samples(left: usize, room: usize, channels: usize) -> usize
+    requires some { 0 < left }
+    requires least { 0 < channels }
+    requires room { channels ≤ room }
+    ensures some { 0 < result }
+    ensures inside { result ≤ left }
+    ensures room { result * channels ≤ room }
+{
+    left.min(room / channels)
 }
 
 // Adds the doublings of each code to those before.
@@ -67,34 +119,40 @@ fn add_each(totals: &mut [u64; 8], more: &[u16; 8])
     }
 }
 
-/// How many bits each of eight codes has. Their laid out symbols stand one behind the other, so many of each; `first` has the steps
-/// of the reserved symbols in front of them.
+/// How many bits the code of each candidate has. `reserved` has what the reserved symbols in front of them take, and `lanes` their
+/// channels.
 pub(crate) fn code_lengths(
-    first: &[u16; 8],
-    symbols: &[u8],
-    long: usize,
+    reserved: &[u16; 8],
+    lanes: &[[ChannelSteps; 6]],
+    predictions: &Predictions,
     steps: &mut [[u16; 8]],
 ) -> [u64; 8]
-    requires eight { length symbols.now ≡ 8 * long }
-    requires short { long ≤ 2 ^ 30 }
-    requires some { 0 < length steps.old }
+    requires few { length lanes.now ≤ 8 }
+    requires rows { (lane c : ℕ) (other : ChannelSteps) → lane < length lanes.now → c < predictions.now.channels.channels
+        → (get_or (get_or lanes.now lane []) c other).row < length predictions.now.rows }
+    requires some { 6 ≤ length steps.old }
     requires most { length steps.old ≤ 8000 }
-    ensures lengths { (lane p : ℕ) → lane < 8 → IsStep false p (get_or first.now lane 0)
-        → get_or result lane 0 ≡ length (code_spelling ((false, p) ∷ map pair_of (take long (drop (lane * long) symbols.now)))) }
+    ensures lengths { (lane : ℕ) (P : Parameters) → lane < length lanes.now → IsStep false (reserved_from P) (get_or reserved.now lane 0)
+        → AreCoded P predictions.now.rows (get_or lanes.now lane []) predictions.now.channels.channels
+        → get_or result lane 0 ≡ length (code_spelling (symbols_of predictions.now.channels P predictions.now.sound false)) }
     ensures most { (lane : ℕ) → get_or result lane 0 ≤ 2 ^ 50 }
     ensures long { length steps.new ≡ length steps.old }
 {
-    let table = steps_of_bytes();
+    code_tells();
+    row_of_codes();
+    let first = steps_of_codes(&[128]);
+    let channels = predictions.channels().count();
+    let samples = 8 * 4704 * predictions.channels().multiple();
     let mut ranges = [4095; 8];
     let mut totals = [13; 8];
-    steps[0] = *first;
-    let reserved = narrow_lanes(&mut ranges, &steps[..1]);
-    add_each(&mut totals, &reserved);
+    steps[0] = *reserved;
+    let doublings = narrow_lanes(&mut ranges, &steps[..1]);
+    add_each(&mut totals, &doublings);
     let mut from = 0;
-    while from < long {
-        let count = (long - from).min(steps.len());
-        lay_part(steps, symbols, long, &table, from, count);
-        let more = narrow_lanes(&mut ranges, &steps[..count]);
+    while from < samples {
+        let count = part_samples(samples - from, steps.len(), channels);
+        fill_part(steps, predictions, lanes, &first, from, count);
+        let more = narrow_lanes(&mut ranges, &steps[..count * channels]);
         add_each(&mut totals, &more);
         from += count;
     }

@@ -14,6 +14,7 @@
 //! The length of each spelling is known before its bits, so that no more than one is written for each stored frame.
 #![tactic(auto)]
 
+mod coded;
 mod lanes;
 mod lay_out;
 mod measure;

@@ -1,16 +1,15 @@
 // The length of a spelling.
-ghost use Rattle.std.specs.Prelude.{◌≡◌, ℕ, ◌+◌, ◌*◌, ◌/◌, ◌%◌, ◌<◌, ◌≤◌, ◌^◌, nat_lt, not, false, ◌∷◌, map, length, get_or, take, drop, All};
+ghost use Rattle.std.specs.Prelude.{◌≡◌, ℕ, ◌+◌, ◌*◌, ◌/◌, ◌%◌, ◌<◌, ◌≤◌, ◌^◌, nat_lt, not, false, ◌∷◌, map, length, get_or, All};
 ghost use Rattle.dst_spec.specs.Sample.{IsShape, sound_bytes};
 ghost use Rattle.dst_spec.specs.Header.{IsParams, Params as Parameters};
-ghost use Rattle.dst_spec.specs.Symbols.{reserved_probability as reserved_from, symbols as symbols_of};
 ghost use Rattle.dst_spec.specs.Spell.{code_spelling, header_spelling, spell};
-ghost use Rattle.arith_encoder.specs.Lanes.{IsStep};
 ghost use Rattle.dst_frames.specs.Tables.{prob_in};
 ghost use Rattle.frame_store.specs.Pairs.{pair_of, all_pairs};
 
+use crate::coded::{ChannelSteps, code_group};
 use crate::lanes::code_lengths;
-use crate::lay_out::{lay_out, lay_out_first};
-use arith_encoder::{CodeLength, step_of};
+use crate::lay_out::lay_out;
+use arith_encoder::CodeLength;
 use dst_frames::{prob_within, reserved_probability};
 use dst_num::{Params, Prob};
 use frame_header::header_length;
@@ -26,22 +25,19 @@ fn spelling_length(params: &Params, symbols: &[u8]) -> u64
     (header_length(params) + code + 7) / 8
 }
 
-/// How many bytes the spellings by up to eight parameters have. There is room for the symbols of eight, so many of each.
+/// How many bytes the spellings by up to eight parameters have. There is room for the symbols of one.
 pub(crate) fn spelling_lengths(
     group: &[Params],
     predictions: &mut Predictions,
     symbols: &mut [u8],
     steps: &mut [[u16; 8]],
-    long: usize,
 ) -> [u64; 8]
     requires some { 0 < length group.now }
     requires few { length group.now ≤ 8 }
     requires lawful { All (IsParams predictions.old.channels.channels) group.now }
     requires shape { IsShape predictions.old.channels }
-    requires long { long ≡ 8 * sound_bytes predictions.old.channels }
-    requires short { long ≤ 2 ^ 30 }
-    requires many { length symbols.old ≡ 8 * long }
-    requires steps { 0 < length steps.old }
+    requires many { length symbols.old ≡ 8 * sound_bytes predictions.old.channels }
+    requires steps { 6 ≤ length steps.old }
     requires most { length steps.old ≤ 8000 }
     ensures lengths { (lane : ℕ) (other : Parameters) → lane < length group.now
         → get_or result lane 0 ≡ length (spell predictions.old.channels (get_or group.now lane other) predictions.old.sound) }
@@ -51,48 +47,18 @@ pub(crate) fn spelling_lengths(
     ensures channels { predictions.new.channels ≡ predictions.old.channels }
 {
     if group.len() == 1 {
-        lay_out_first(&group[0], predictions, symbols);
-        return [spelling_length(&group[0], &symbols[..long]); 8];
+        lay_out(&group[0], predictions, symbols);
+        return [spelling_length(&group[0], symbols); 8];
     }
     predictions.release();
-    let reserved = lay_out_each(group, predictions, symbols, long);
-    let codes = code_lengths(&reserved, symbols, long, steps);
+    let mut lanes = [[ChannelSteps::new(); 6]; 8];
+    let reserved = code_group(group, predictions, &mut lanes);
+    let codes = code_lengths(&reserved, &lanes[..group.len()], predictions, steps);
     let mut lengths = [0; 8];
     for lane in 0..group.len() {
         lengths[lane] = (header_length(&group[lane]) + codes[lane] + 7) / 8;
     }
     lengths
-}
-
-// Lays out the symbols by up to eight parameters, one behind the other, and gives the steps of the reserved ones.
-fn lay_out_each(
-    group: &[Params],
-    predictions: &mut Predictions,
-    symbols: &mut [u8],
-    long: usize,
-) -> [u16; 8]
-    requires few { length group.now ≤ 8 }
-    requires lawful { All (IsParams predictions.old.channels.channels) group.now }
-    requires shape { IsShape predictions.old.channels }
-    requires long { long ≡ 8 * sound_bytes predictions.old.channels }
-    requires short { long ≤ 2 ^ 30 }
-    requires many { length symbols.old ≡ 8 * long }
-    ensures reserved { (lane : ℕ) (other : Parameters) → lane < length group.now → IsStep false (reserved_from (get_or group.now lane other)) (get_or result lane 0) }
-    ensures symbols { (lane : ℕ) (other : Parameters) → lane < length group.now
-        → all_pairs (get_or group.now lane other) (take long (drop (lane * long) symbols.new))
-        ≡ symbols_of predictions.old.channels (get_or group.now lane other) predictions.old.sound false }
-    ensures many { length symbols.new ≡ length symbols.old }
-    ensures sound { predictions.new.sound ≡ predictions.old.sound }
-    ensures channels { predictions.new.channels ≡ predictions.old.channels }
-{
-    let mut reserved = [0; 8];
-    for lane in 0..group.len() {
-        let params = &group[lane];
-        let first = lane * long;
-        lay_out(params, predictions, &mut symbols[first..first + long]);
-        reserved[lane] = step_of(false, reserved_probability(params));
-    }
-    reserved
 }
 
 // How many bits the code of laid out symbols has, the reserved one being in front of them.

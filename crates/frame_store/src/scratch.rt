@@ -10,7 +10,7 @@ use frame_predictions::Predictions;
 use std::alloc::{AllocError, Global};
 use std::marker::Model;
 
-/// The memory in which frames of some channels are stored: predictions, candidates, the symbols of eight of them, a spelling
+/// The memory in which frames of some channels are stored: predictions, candidates, the symbols of one of them, a spelling
 /// and the plain form. Nothing of one frame is used for the next one.
 #[derive(Drop)]
 pub struct StoreScratch {
@@ -37,7 +37,7 @@ impl Model for StoreScratch {
 }
 
 impl StoreScratch {
-    /// Takes all memory that storing needs: for a frame's sound of F bytes, 64 F for predictions, 64 F for symbols and 3 F for the sound,
+    /// Takes all memory that storing needs: for a frame's sound of F bytes, 64 F for predictions, 8 F for symbols and 3 F for the sound,
     /// its plain form and a spelling, and less than 300,000 bytes besides.
     pub fn new(alloc: Global, channels: Channels) -> Result<StoreScratch, AllocError>
         ensures { IfOk result (λ s. s.channels ≡ channels) }
@@ -47,7 +47,7 @@ impl StoreScratch {
             channels,
             predictions: Predictions::new(alloc, channels)?,
             found: Candidates::new(),
-            symbols: vec![in alloc; 0u8; 64 * bytes]?,
+            symbols: vec![in alloc; 0u8; 8 * bytes]?,
             steps: vec![in alloc; [0u16; 8]; 1024]?,
             writer: Some(BitWriter::new(alloc, 1 + bytes)?),
             plain: vec![in alloc; 0u8; 1 + bytes]?,

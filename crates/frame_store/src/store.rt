@@ -73,8 +73,8 @@ fn shortest(
     requires shape { IsShape predictions.old.channels }
     requires bytes { bytes ≡ sound_bytes predictions.old.channels }
     requires sound { length predictions.old.sound ≡ bytes }
-    requires many { length symbols.old ≡ 8 * (8 * bytes) }
-    requires some { 0 < length steps.old }
+    requires many { length symbols.old ≡ 8 * bytes }
+    requires some { 6 ≤ length steps.old }
     requires most { length steps.old ≤ 8000 }
     ensures none { IfNone result (stored_of predictions.old.channels predictions.old.sound found.now ≡ 0 ∷ predictions.old.sound) }
     ensures inside { IfSome result (λ place. place < length found.now) }
@@ -94,7 +94,7 @@ fn shortest(
     while first < found.len() {
         let count = (found.len() - first).min(8);
         let group = &found[first..first + count];
-        let lengths = spelling_lengths(group, predictions, symbols, steps, 8 * bytes);
+        let lengths = spelling_lengths(group, predictions, symbols, steps);
         choose(&mut choice, &lengths, first, count);
         first += count;
     }

@@ -1,10 +1,12 @@
-use Rattle.std.proofs.Common.{◌≡◌, ◌+◌, ◌*◌, ◌/◌, ◌<◌, false, length, get_or, take, drop, ap, ap₂, sym, subst, ◌∙◌, arith}
+use Rattle.std.proofs.Common.{◌≡◌, ◌+◌, ◌/◌, ◌<◌, false, [], length, get_or, ap, ap₂, sym, subst, subst₂, ◌∙◌, arith, length-take-le, get_or-take}
+use Rattle.dst_spec.specs.Header.{Params}
 use Rattle.std.proofs.lemmas.List.{get_or_default}
-use Rattle.dst_spec.specs.Symbols.{symbols, reserved_probability}
+use Rattle.dst_spec.specs.Symbols.{symbols}
 use Rattle.dst_spec.specs.Spell.{spell, header_spelling, code_spelling}
+use Rattle.frame_store.specs.Coded.{AreCoded}
 use Rattle.frame_store.specs.Pairs.{all_pairs}
 use Rattle.frame_store.proofs.Laid.{same-at}
-use Rattle.frame_store.proofs.Spelled.{spelled-length}
+use Rattle.frame_store.proofs.Spelled.{spelled-length, symbols-length}
 use Rattle.frame_store.proofs.measure.spelling_lengths.Goals as goal
 
 pub returns-then-group-eq1-clause-lengths : goal.returns-then-group-eq1-clause-lengths
@@ -17,9 +19,8 @@ returns-then-group-eq1-clause-lengths c = λ lane other lt.
     let some : 0 < length group = c.requires.some in
     let one = c.index-group-0.is ∙ get_or_default group 0 c.index-group-0.result other some in
     let two = c.index-group-0-then-group-eq1.is ∙ get_or_default group 0 c.index-group-0-then-group-eq1.result other some in
-    let xs = take c.args.long c.lay_out_first.new.symbols in
-    let laid = ap (λ n. all_pairs c.index-group-0.result (take n c.lay_out_first.new.symbols)) c.requires.long ∙ c.lay_out_first.ensures.symbols in
-    let is : all_pairs P xs ≡ symbols f P sound false = subst (λ Q. all_pairs Q xs ≡ symbols f Q sound false) one laid in
+    let xs = c.lay_out.new.symbols in
+    let is : all_pairs P xs ≡ symbols f P sound false = subst (λ Q. all_pairs Q xs ≡ symbols f Q sound false) one c.lay_out.ensures.symbols in
     let length_is = c.spelling_length.ensures ∙ ap (λ Q. (length (header_spelling Q) + length (code_spelling (all_pairs Q xs)) + 7) / 8) two in
     same-at 8 c.spelling_length.result lane (omega arith) ∙ length_is ∙ sym (spelled-length f P sound xs is)
     ∙ ap (λ l. length (spell f (get_or group l other) sound)) (sym none)
@@ -29,10 +30,29 @@ returns-clause-lengths c = λ lane other lt.
     let f = c.args.predictions.now.channels in
     let sound = c.args.predictions.now.sound in
     let P = get_or c.args.group.now lane other in
-    let xs = take c.args.long (drop (lane * c.args.long) c.lay_out_each-reserved.new.symbols) in
-    let is : all_pairs P xs ≡ symbols f P sound false =
-    c.lay_out_each-reserved.ensures.symbols lane other lt ∙ ap₂ (λ g s. symbols g P s false) c.release.ensures.channels c.release.ensures.sound in
-    let eight : lane < 8 = omega (arith, c.requires.few) in
-    let code = c.code_lengths-codes.ensures.lengths lane (reserved_probability P) eight (c.lay_out_each-reserved.ensures.reserved lane other lt) in
-    c.loop-lane.invariant.lengths lane other (omega (arith, c.loop-lane-test.false)) ∙ ap (λ n. (length (header_spelling P) + n + 7) / 8) code
-    ∙ sym (spelled-length f P sound xs is)
+    let e = c.code_group-reserved.ensures in
+    let lanes = c.code_group-reserved.new.lanes in
+    let rows = c.code_group-reserved.new.predictions.rows in
+    let count = length c.args.group.now in
+    let many = length-take-le count lanes (omega (arith, c.requires.few, c.code_group-reserved.array_long)) in
+    let shape = e.channels ∙ c.release.ensures.channels in
+    let heard = e.sound ∙ c.release.ensures.sound in
+    let coded = subst₂ (λ coded n. AreCoded P rows coded n) (sym (get_or-take count lanes lane [] lt)) (sym (ap (λ g. g.channels) e.channels))
+    (e.coded lane other lt) in
+    let code = c.code_lengths-codes.ensures.lengths lane P (omega (arith, many, lt)) (e.reserved lane other lt) coded in
+    c.loop-lane.invariant.lengths lane other (omega (arith, c.loop-lane-test.false))
+    ∙ ap (λ n. (length (header_spelling P) + n + 7) / 8) (code ∙ ap₂ (λ g s. length (code_spelling (symbols g P s false))) shape heard)
+    ∙ sym (symbols-length f P sound)
+
+pub code_lengths-codes-requires-clause-rows : goal.code_lengths-codes-requires-clause-rows
+code_lengths-codes-requires-clause-rows c = λ lane place other lt h.
+    let e = c.code_group-reserved.ensures in
+    let lanes = c.code_group-reserved.new.lanes in
+    let rows = c.code_group-reserved.new.predictions.rows in
+    let count = length c.args.group.now in
+    let many = length-take-le count lanes (omega (arith, c.requires.few, c.code_group-reserved.array_long)) in
+    let here : lane < count = omega (arith, many, lt) in
+    let none : Params = record { filter_map = []; prob_map = []; half_prob = []; filters = []; probs = [] } in
+    let coded = e.coded lane none here in
+    let is_coded = coded.each place other (omega (arith, h, ap (λ g. g.channels) e.channels)) in
+    subst (λ coded. (get_or coded place other).row < length rows) (sym (get_or-take count lanes lane [] here)) is_coded.inside

@@ -1,4 +1,4 @@
-use Rattle.std.proofs.Common.{◌≡◌, ◌*◌, length, take, refl, ap, sym, ◌∙◌, false, rules, arith}
+use Rattle.std.proofs.Common.{◌≡◌, ◌*◌, length, take, refl, ap, ◌∙◌, false, rules, arith}
 use Rattle.std.proofs.lemmas.Bool.Decides.{nat_tests}
 use Rattle.dst_spec.specs.Symbols.{symbols}
 use Rattle.dst_spec.specs.Sample.{sound_bytes}
