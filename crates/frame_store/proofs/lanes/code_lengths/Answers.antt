@@ -58,11 +58,14 @@ loop-from-preserved c =
           let code = code_at f sound place (filter_of P place) (from + t) in
           let table = is_coded.table in
           let entries = length-map (probs_of P place) (λ x. pos x) in
+          let some : 1 ≤ length (probs_of P place) = omega (arith, table.least, entries) in
+          let few : length (probs_of P place) ≤ 64 = omega (arith, table.most, entries) in
           let tells : Tells f P sound place (from + t) code = record {
             guess = c.code_tells.ensures.guess f P sound place (from + t);
-            probability_is = c.code_tells.ensures.probability f P sound place (from + t) (omega (arith, table.least, entries)) (omega (arith, table.most, entries));
+            probability_is = c.code_tells.ensures.probability f P sound place (from + t) some few;
           } in
-          subst (IsStep (as_guessed f P sound place (from + t)) (probability f P sound place (from + t))) (sym (c.fill_part.ensures.here lane t place none lt h k))
+          let filled = c.fill_part.ensures.here lane t place none lt h k in
+          subst (IsStep (as_guessed f P sound place (from + t)) (probability f P sound place (from + t))) (sym filled)
           (step-is f P sound c.args.predictions.now.rows c.steps_of_codes-first.result one place (from + t) code is_coded c.steps_of_codes-first.ensures
           (c.code_tells.ensures.small f sound place (filter_of P place) (from + t))
           (c.row_of_codes.ensures.each f sound place (filter_of P place) (from + t) (omega (arith, h, inside, whole))) tells) in
