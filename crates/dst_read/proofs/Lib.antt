@@ -1,4 +1,5 @@
 pub mod Checks
+pub mod LineByLine
 pub mod ReportedLines
 pub mod Ending
 pub mod Feeding

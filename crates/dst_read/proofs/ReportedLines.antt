@@ -24,6 +24,7 @@ use Rattle.dst_read.specs.declared.faults.ShowFault.{ShowFault}
 use Rattle.dst_read.specs.declared.faults.ShowFault.TheVariants.{Source, Report, Frame}
 use Rattle.dsdiff_chunks.specs.Opening as opening
 use Rattle.dst_commands.specs.Commands.{OutcomeOf}
+use Rattle.dst_read.specs.LineByLine.{GoesByLines}
 use Rattle.dst_read.specs.Reporting.{HasReportCause, ReportEnds, reported_as, IsUnshown}
 use Rattle.dst_commands.specs.Writing.{Adds, Stops}
 use Rattle.dst_commands.proofs.Writing.{added, cut_off, adds_then, stops_then}
@@ -53,12 +54,16 @@ one_answer c file a b reads bytes p q =
     let one = command_has_one_outcome c file reads bytes in
     one.2 a p ∙ sym (one.2 b q)
 
+pub outcome_lines : (c : Command) (file : List ℕ) (lines : List Line) (o : Answer) → HasOutcome c → AreBytes file → OutcomeOf c file (done [] lines) →
+    OutcomeOf c file o → o.lines ≡ lines
+outcome_lines c file lines o reads bytes is other = ap (λ (a : Answer). a.lines) (one_answer c file o (done [] lines) reads bytes other is)
+
 -- so a report of its lines doesn't fail where it is sure to take them
 pub report_is_sure : (c : Command) (file : List ℕ) (lines : List Line) (old new : Option (List ℕ)) (room : Option ℕ) → HasOutcome c → AreBytes file →
     OutcomeOf c file (done [] lines) →
     Stops (Unit {0}) (report lines) old new room → (o : Answer) → OutcomeOf c file o → (n : ℕ) → room ≡ Some n → length (report o.lines) ≤ n → ⊥
 report_is_sure c file lines old new room reads bytes is s o other n told fits =
-    let same : report o.lines ≡ report lines = ap (λ (a : Answer). report a.lines) (one_answer c file o (done [] lines) reads bytes other is) in
+    let same : report o.lines ≡ report lines = ap report (outcome_lines c file lines o reads bytes is other) in
     let long = ap length same in
     s.lacks (tt {0}) n told (omega (arith, long, fits))
 
@@ -86,9 +91,9 @@ five kind channels sound frames chunks =
     ∷ []
 
 pub same_five : (kind : List ℕ) (channels sound size frames chunks count : ℕ) → sound ≡ size → chunks ≡ count →
-    report (five kind channels sound frames chunks) ≡ report (five kind channels size frames count)
+    five kind channels sound frames chunks ≡ five kind channels size frames count
 same_five kind channels sound size frames chunks count s c =
-    ap (λ s. report (five kind channels s frames chunks)) s ∙ ap (λ c. report (five kind channels size frames c)) c
+    ap (λ s. five kind channels s frames chunks) s ∙ ap (λ c. five kind channels size frames c) c
 
 pub lines_of_coded : (form : Form) (es : List Entry) → form.kind ≡ coded →
     report (summary_lines (codes "coded") form) ++ report (coded_summary_lines form es) ≡ report (show_lines form es)
@@ -102,22 +107,23 @@ lines_of_coded form es e =
 
 -- ---- how a report ends
 pub reported_ends : {T : Type 0} (r : Result T Failed) (frames : ℕ) (c : Command) (file : List ℕ) (form : Form) (lines : List Line) (old new : Option (List ℕ))
-    (room left : Option ℕ) → accepted file ≡ form → frames ≡ form.frames →
+    (room left : Option ℕ) (before now : ℕ) → accepted file ≡ form → frames ≡ form.frames →
     OutcomeOf c file (done [] lines) → MatchResult r (λ _. Adds (report lines) old new room left) (λ _. Stops (Unit {0}) (report lines) old new room) →
-    ReportEnds (reported_as r frames) c file old new room
-reported_ends (Ok u) frames c file form lines old new room left is count outcome w = (count ∙ ap (λ (f : Form). f.frames) (sym is), lines, outcome, w.written)
-reported_ends (Err failed) frames c file form lines old new room left is count outcome w = (lines, outcome, w)
+    GoesByLines r lines before now → ReportEnds (reported_as r frames) c file old new room before now
+reported_ends (Ok u) frames c file form lines old new room left before now is count outcome w by_lines =
+    (count ∙ ap (λ (f : Form). f.frames) (sym is), lines, outcome, w.written, by_lines)
+reported_ends (Err failed) frames c file form lines old new room left before now is count outcome w by_lines = (lines, outcome, w, by_lines)
 
 pub only_reported : {T : Type 0} (r : Result T Failed) (frames : ℕ) (fault : ShowFault) → reported_as r frames ≡ Err fault → fault ≡ Report
 only_reported (Ok u) frames fault e = absurd cc
 only_reported (Err failed) frames fault e = cc
 
 pub ends_unopened : (fault : OpenFault) (c : Command) (bytes : Option (List ℕ)) (before now : ℕ) (file : List ℕ) (old new : Option (List ℕ))
-    (room : Option ℕ) → bytes ≡ Some file → opening.Stops (refusal c) bytes before now fault →
-    ReportEnds (Err (Source fault)) c file old new room
-ends_unopened (File f) c bytes before now file old new room told stops = stops file told
-ends_unopened Read c bytes before now file old new room told stops = tt {0}
-ends_unopened (Memory refused) c bytes before now file old new room told stops = tt {0}
+    (room : Option ℕ) (appended_before appended_now : ℕ) → bytes ≡ Some file → opening.Stops (refusal c) bytes before now fault →
+    ReportEnds (Err (Source fault)) c file old new room appended_before appended_now
+ends_unopened (File f) c bytes before now file old new room appended_before appended_now told stops = stops file told
+ends_unopened Read c bytes before now file old new room appended_before appended_now told stops = tt {0}
+ends_unopened (Memory refused) c bytes before now file old new room appended_before appended_now told stops = tt {0}
 
 pub cause_of_report : {T : Type 0} (r : Result T Failed) (frames source_before source_now before now : ℕ) → HasCause before now r →
     IfErr (reported_as r frames) (λ fault. HasReportCause fault source_before source_now before now)
@@ -153,13 +159,13 @@ frame_is_refused file form k f w fault a same is r =
     })
 
 pub ends_unshown : (fault : ShowFault) (bytes : Option (List ℕ)) (before now : ℕ) (file : List ℕ) (form : Form) (k : ℕ) (f : Shape) (e : Entry)
-    (old new : Option (List ℕ)) (room : Option ℕ) → bytes ≡ Some file →
+    (old new : Option (List ℕ)) (room : Option ℕ) (appended_before appended_now : ℕ) → bytes ≡ Some file →
     IsAccepted (refusal (show_frame k)) file form → shape form ≡ f → entry (entries file form) k ≡ e → IsUnshown f k e fault bytes before now →
-    ReportEnds (Err fault) (show_frame k) file old new room
-ends_unshown (Frame j fault) bytes before now file form k f e old new room told a same is h =
+    ReportEnds (Err fault) (show_frame k) file old new room appended_before appended_now
+ends_unshown (Frame j fault) bytes before now file form k f e old new room appended_before appended_now told a same is h =
     subst (λ j. OutcomeOf (show_frame k) file (frame_refused j fault [])) (sym h.0)
     (frame_is_refused file form k f (frame_at file e) fault a same (ap (frame_at file) is) (h.1 file told))
-ends_unshown (Source Read) bytes before now file form k f e old new room told a same is h = tt {0}
-ends_unshown (Source (Memory refused)) bytes before now file form k f e old new room told a same is h = absurd h
-ends_unshown Report bytes before now file form k f e old new room told a same is h = absurd h
-ends_unshown (Source (File fault)) bytes before now file form k f e old new room told a same is h = absurd h
+ends_unshown (Source Read) bytes before now file form k f e old new room appended_before appended_now told a same is h = tt {0}
+ends_unshown (Source (Memory refused)) bytes before now file form k f e old new room appended_before appended_now told a same is h = absurd h
+ends_unshown Report bytes before now file form k f e old new room appended_before appended_now told a same is h = absurd h
+ends_unshown (Source (File fault)) bytes before now file form k f e old new room appended_before appended_now told a same is h = absurd h

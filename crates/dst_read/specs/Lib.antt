@@ -5,5 +5,6 @@ pub mod Decoding
 pub mod Frames
 pub mod Checking
 pub mod OneFrame
+pub mod LineByLine
 pub mod Reporting
 pub mod Lending

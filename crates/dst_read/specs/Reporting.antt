@@ -20,15 +20,18 @@ use Rattle.frame_header.specs.declared.view.FrameView.{FrameView}
 use Rattle.frame_header.specs.declared.view.FrameView.TheVariants.{Plain, Coded}
 use Rattle.dst_commands.specs.Commands.{OutcomeOf}
 use Rattle.dst_commands.specs.Writing.{Stops}
+use Rattle.dst_read.specs.LineByLine.{AddsLines, StopsAtALine}
 
--- the lines of the command are reported whole, or a prefix of them, or it refuses the file or a frame
-abbrev pub ReportEnds : Result Reported ShowFault → Command → List ℕ → (old new : Option (List ℕ)) → Option ℕ → Type 0
-ReportEnds (Ok s) c file old new room =
+-- the lines of the command are reported whole, or a prefix of them, or it refuses the file or a frame; each line is appended by one call
+abbrev pub ReportEnds : Result Reported ShowFault → Command → List ℕ → (old new : Option (List ℕ)) → Option ℕ → (before now : ℕ) → Type 0
+ReportEnds (Ok s) c file old new room before now =
     (s.frames ≡ (accepted file).frames) × (lines : List Line) × OutcomeOf c file (done [] lines) × (new ≡ and_then old (report lines))
-ReportEnds (Err Report) c file old new room = (lines : List Line) × OutcomeOf c file (done [] lines) × Stops (Unit {0}) (report lines) old new room
-ReportEnds (Err (Frame k fault)) c file old new room = OutcomeOf c file (frame_refused k fault [])
-ReportEnds (Err (Source (File fault))) c file old new room = refusal c file ≡ Some fault
-ReportEnds (Err (Source fault)) c file old new room = Unit {0}
+    × AddsLines lines before now
+ReportEnds (Err Report) c file old new room before now =
+    (lines : List Line) × OutcomeOf c file (done [] lines) × Stops (Unit {0}) (report lines) old new room × StopsAtALine lines before now
+ReportEnds (Err (Frame k fault)) c file old new room before now = OutcomeOf c file (frame_refused k fault [])
+ReportEnds (Err (Source (File fault))) c file old new room before now = refusal c file ≡ Some fault
+ReportEnds (Err (Source fault)) c file old new room before now = Unit {0}
 
 -- a device fails by its cause
 abbrev pub HasReportCause : ShowFault → (source_before source_now report_before report_now : ℕ) → Type 0

@@ -1,5 +1,5 @@
 // The lines of a report, one after the other, and the list of a file's frames.
-ghost use Rattle.std.specs.Prelude.{◌≡◌, ◌≢◌, ◌+◌, ◌≤◌, ℕ, List, [], length, flat_map, Option, Some, IfOk, OnOk, MatchResult, Err};
+ghost use Rattle.std.specs.Prelude.{◌≡◌, ◌≢◌, ◌+◌, ◌≤◌, ℕ, List, [], length, map, flat_map, Option, Some, IfOk, OnOk, MatchResult, Err};
 ghost use Rattle.dst_streams.specs.Causes.{Rose, HasCause};
 ghost use Rattle.dst_streams.specs.Told.{IsCutShort, and_then};
 ghost use Rattle.dsdiff_spec.specs.declared.faults.FileFault.{FileFault};
@@ -10,6 +10,7 @@ ghost use Rattle.dsdiff_spec.specs.Words as words;
 ghost use Rattle.dsdiff_spec.specs.Outcome.{Answer, done};
 ghost use Rattle.dst_commands.specs.Commands.{OutcomeOf};
 ghost use Rattle.dst_commands.specs.Writing.{Adds, Stops};
+ghost use Rattle.dst_read.specs.LineByLine.{AddsLines, StopsAtALine, GoesByLines, fed};
 
 use crate::faults::{ListFault, Reported};
 use dsdiff_chunks::OpenFault;
@@ -42,6 +43,11 @@ pub fn index_file<S: Source, T: Sink>(
         (lines : List reports.Line) × OutcomeOf words.index file (done [] lines) × IsCutShort (T.written report.old) (reports.report lines) (T.written report.new) }
     ensures sure { result ≡ Err ListFault.Report → (file : List ℕ) → S.bytes source.old ≡ Some file → (o : Answer) → OutcomeOf words.index file o →
         (room : ℕ) → T.room report.old ≡ Some room → length (reports.report o.lines) ≤ room → ⊥ }
+    // each line is appended whole, by one call
+    ensures added { IfOk result (λ s. (file : List ℕ) → S.bytes source.old ≡ Some file → (o : Answer) → OutcomeOf words.index file o →
+        AddsLines o.lines (T.appended report.old) (T.appended report.new)) }
+    ensures stopped { result ≡ Err ListFault.Report → (file : List ℕ) → S.bytes source.old ≡ Some file → (o : Answer) → OutcomeOf words.index file o →
+        StopsAtALine o.lines (T.appended report.old) (T.appended report.new) }
     // every other refusal comes before the first line
     ensures untouched { (fault : ListFault) → result ≡ Err fault → (fault ≢ ListFault.Report) → report.new ≡ report.old }
     ensures given { S.given source.new ≤ S.given source.old + 208948 + 48000000 }
@@ -65,6 +71,7 @@ fn report_entries<T: Sink>(report: &mut T, index: &Index) -> Result<(), Failed>
     ensures written { MatchResult result
         (λ _. Adds (reports.report (reports.index_lines index.now)) (T.written report.old) (T.written report.new) (T.room report.old) (T.room report.new))
         (λ _. Stops (Unit {0}) (reports.report (reports.index_lines index.now)) (T.written report.old) (T.written report.new) (T.room report.old)) }
+    ensures by_lines { GoesByLines result (reports.index_lines index.now) (T.appended report.old) (T.appended report.new) }
 {
     for k in 0..index.length() {
         let entry = index.entry(k);
@@ -82,6 +89,8 @@ pub(crate) fn report_lines<T: Sink>(report: &mut T, lines: &[Line]) -> Result<()
     ensures written { MatchResult result
         (λ _. Adds (flat_map (λ l. l.bytes) lines.now) (T.written report.old) (T.written report.new) (T.room report.old) (T.room report.new))
         (λ _. Stops (Unit {0}) (flat_map (λ l. l.bytes) lines.now) (T.written report.old) (T.written report.new) (T.room report.old)) }
+    ensures by_lines { (told : List reports.Line) → map (λ l. l.bytes) lines.now ≡ fed told →
+        GoesByLines result told (T.appended report.old) (T.appended report.new) }
 {
     for line in lines {
         let Ok(()) = report.append(line.as_bytes()) else {

@@ -12,6 +12,7 @@ ghost use Rattle.dsdiff_spec.specs.Words as words;
 ghost use Rattle.dsdiff_spec.specs.Outcome.{Answer, done, frame_refused};
 ghost use Rattle.frame_index.specs.Entries.{entry_seen};
 ghost use Rattle.dst_commands.specs.Commands.{OutcomeOf, shown};
+ghost use Rattle.dst_read.specs.LineByLine.{AddsLines, StopsAtALine};
 ghost use Rattle.dst_read.specs.Reporting.{view_line, IsShown, IsUnshown, ReportEnds, HasReportCause, reported_as};
 
 use crate::faults::{Reported, ShowFault};
@@ -51,6 +52,11 @@ pub fn show_file<S: Source, T: Sink>(
         (lines : List reports.Line) × OutcomeOf (shown frame) file (done [] lines) × IsCutShort (T.written report.old) (reports.report lines) (T.written report.new) }
     ensures sure { result ≡ Err ShowFault.Report → (file : List ℕ) → S.bytes source.old ≡ Some file → (o : Answer) → OutcomeOf (shown frame) file o →
         (room : ℕ) → T.room report.old ≡ Some room → length (reports.report o.lines) ≤ room → ⊥ }
+    // each line is appended whole, by one call
+    ensures added { IfOk result (λ s. (file : List ℕ) → S.bytes source.old ≡ Some file → (o : Answer) → OutcomeOf (shown frame) file o →
+        AddsLines o.lines (T.appended report.old) (T.appended report.new)) }
+    ensures stopped { result ≡ Err ShowFault.Report → (file : List ℕ) → S.bytes source.old ≡ Some file → (o : Answer) → OutcomeOf (shown frame) file o →
+        StopsAtALine o.lines (T.appended report.old) (T.appended report.new) }
     // every other refusal comes before the first line
     ensures untouched { (fault : ShowFault) → result ≡ Err fault → (fault ≢ ShowFault.Report) → report.new ≡ report.old }
     ensures given { S.given source.new ≤ S.given source.old + 208948 + 48000000 + 225794 }
@@ -80,7 +86,8 @@ fn show_form<S: Source, T: Sink>(
 ) -> Result<Reported, ShowFault>
     ensures bytes { S.bytes source.new ≡ S.bytes source.old }
     ensures later { (S.faults source.old ≤ S.faults source.new) × (T.faults report.old ≤ T.faults report.new) }
-    ensures ends { (file : List ℕ) → S.bytes source.old ≡ Some file → ReportEnds result words.show file (T.written report.old) (T.written report.new) (T.room report.old) }
+    ensures ends { (file : List ℕ) → S.bytes source.old ≡ Some file → ReportEnds result words.show file (T.written report.old) (T.written report.new) (T.room report.old)
+        (T.appended report.old) (T.appended report.new) }
     ensures cause { IfErr result (λ fault. HasReportCause fault (S.faults source.old) (S.faults source.new) (T.faults report.old) (T.faults report.new)) }
     ensures no_frame { (k : ℕ) (fault : FrameFault) → result ≡ Err (ShowFault.Frame k fault) → ⊥ }
     ensures untouched { (fault : ShowFault) → result ≡ Err fault → (fault ≢ ShowFault.Report) → report.new ≡ report.old }
@@ -105,7 +112,8 @@ fn show_header<S: Source, T: Sink>(
 ) -> Result<Reported, ShowFault>
     ensures bytes { S.bytes source.new ≡ S.bytes source.old }
     ensures later { (S.faults source.old ≤ S.faults source.new) × (T.faults report.old ≤ T.faults report.new) }
-    ensures ends { (file : List ℕ) → S.bytes source.old ≡ Some file → ReportEnds result (words.show_frame number) file (T.written report.old) (T.written report.new) (T.room report.old) }
+    ensures ends { (file : List ℕ) → S.bytes source.old ≡ Some file → ReportEnds result (words.show_frame number) file (T.written report.old) (T.written report.new) (T.room report.old)
+        (T.appended report.old) (T.appended report.new) }
     ensures cause { IfErr result (λ fault. HasReportCause fault (S.faults source.old) (S.faults source.new) (T.faults report.old) (T.faults report.new)) }
     ensures untouched { (fault : ShowFault) → result ≡ Err fault → (fault ≢ ShowFault.Report) → report.new ≡ report.old }
     ensures given { S.given source.new ≤ S.given source.old + 208948 + 48000000 + 225794 }

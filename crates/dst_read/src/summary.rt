@@ -6,6 +6,7 @@ ghost use Rattle.dsdiff_spec.specs.Lines as reports;
 ghost use Rattle.dsdiff_chunks.specs.Forms.{coded_seen, plain_seen};
 ghost use Rattle.dsdiff_chunks.specs.Seen.{head_seen};
 ghost use Rattle.dst_commands.specs.Writing.{Adds, Stops};
+ghost use Rattle.dst_read.specs.LineByLine.{GoesByLines, fed};
 ghost use Rattle.dst_read.specs.Reporting.{summary_of};
 
 use crate::listing::report_lines;
@@ -33,6 +34,7 @@ pub(crate) fn report_plain<T: Sink>(report: &mut T, form: &PlainForm) -> Result<
     ensures written { MatchResult result
         (λ _. Adds (reports.report (reports.show_lines (plain_seen form.now) [])) (T.written report.old) (T.written report.new) (T.room report.old) (T.room report.new))
         (λ _. Stops (Unit {0}) (reports.report (reports.show_lines (plain_seen form.now) [])) (T.written report.old) (T.written report.new) (T.room report.old)) }
+    ensures by_lines { GoesByLines result (reports.show_lines (plain_seen form.now) []) (T.appended report.old) (T.appended report.new) }
 {
     let summary = Summary {
         kind: "plain",
@@ -50,6 +52,7 @@ pub(crate) fn report_coded<T: Sink>(report: &mut T, walked: &WalkedForm) -> Resu
     ensures written { MatchResult result
         (λ _. Adds (reports.report (reports.show_lines (coded_seen walked.now.form) walked.now.index)) (T.written report.old) (T.written report.new) (T.room report.old) (T.room report.new))
         (λ _. Stops (Unit {0}) (reports.report (reports.show_lines (coded_seen walked.now.form) walked.now.index)) (T.written report.old) (T.written report.new) (T.room report.old)) }
+    ensures by_lines { GoesByLines result (reports.show_lines (coded_seen walked.now.form) walked.now.index) (T.appended report.old) (T.appended report.new) }
 {
     let form = &walked.form;
     let summary = Summary {
@@ -68,7 +71,7 @@ pub(crate) fn report_coded<T: Sink>(report: &mut T, walked: &WalkedForm) -> Resu
 // The five lines of any form.
 fn lines_of(summary: &Summary) -> [Line; 5]
     requires short { length summary.now.kind.now ≡ 5 }
-    ensures { flat_map (λ l. l.bytes) result ≡ reports.report (summary_of summary.now) }
+    ensures { map (λ l. l.bytes) result ≡ fed (summary_of summary.now) }
 {
     [
         lines::with_word("kind ", summary.kind),
@@ -85,6 +88,7 @@ fn report_stored<T: Sink>(report: &mut T, walked: &WalkedForm) -> Result<(), Fai
     ensures written { MatchResult result
         (λ _. Adds (reports.report (reports.coded_summary_lines (coded_seen walked.now.form) walked.now.index)) (T.written report.old) (T.written report.new) (T.room report.old) (T.room report.new))
         (λ _. Stops (Unit {0}) (reports.report (reports.coded_summary_lines (coded_seen walked.now.form) walked.now.index)) (T.written report.old) (T.written report.new) (T.room report.old)) }
+    ensures by_lines { GoesByLines result (reports.coded_summary_lines (coded_seen walked.now.form) walked.now.index) (T.appended report.old) (T.appended report.new) }
 {
     let form = &walked.form;
     let lines = [

@@ -1,5 +1,5 @@
 -- The lines are those of the walk; a report that is sure to take them doesn't fail.
-use Rattle.std.proofs.Common.{◌≡◌, Result, Err, subst, ◌∙◌}
+use Rattle.std.proofs.Common.{◌≡◌, Result, Err, sym, subst, ◌∙◌}
 use Rattle.dsdiff_spec.specs.Words.{index}
 use Rattle.dsdiff_spec.specs.Lines.{index_lines}
 use Rattle.dsdiff_spec.specs.Refusal.{form_refusal}
@@ -10,7 +10,8 @@ use Rattle.dst_commands.proofs.InOrder.{rules_of_index}
 use Rattle.dst_read.specs.declared.faults.ListFault.{ListFault}
 use Rattle.dst_read.specs.declared.faults.ListFault.TheVariants.{Source}
 use Rattle.dst_read.specs.declared.faults.Reported.{Reported}
-use Rattle.dst_read.proofs.ReportedLines.{index_outcome, report_is_sure}
+use Rattle.dst_read.specs.LineByLine.{AddsLines, StopsAtALine}
+use Rattle.dst_read.proofs.ReportedLines.{index_outcome, outcome_lines, report_is_sure}
 use Rattle.dst_read.proofs.listing.index_file.Goals as goal
 
 same_source : (a b : OpenFault) → ◌≡◌ {A = Result Reported ListFault} (Err (Source a)) (Err (Source b)) → a ≡ b
@@ -35,6 +36,24 @@ returns-in-Ok-report_entries-clause-lines g c file told =
           (record { accepts = rules_of_index file ∙ c.in-Ok.ensures.accepted file told; form_is = is.form_is }) is.entries_are,
       c.in-Ok-report_entries.ensures.written.written,
     )
+
+pub returns-in-Ok-report_entries-clause-added : goal.returns-in-Ok-report_entries-clause-added
+returns-in-Ok-report_entries-clause-added g c file told o other =
+    let is = c.in-Ok.ensures.opened file told in
+    let outcome = index_outcome file (coded_seen c.in-Ok.walked.form) c.in-Ok.walked.index
+    (record { accepts = rules_of_index file ∙ c.in-Ok.ensures.accepted file told; form_is = is.form_is }) is.entries_are in
+    subst (λ lines. AddsLines lines (g.T.Sink.appended c.args.report.now) (g.T.Sink.appended c.report_entries.new.report))
+    (sym (outcome_lines index file (index_lines c.in-Ok.walked.index) o tt (g.met.S.Source.told_are_bytes c.args.source.now file told) outcome other))
+    c.in-Ok-report_entries.ensures.by_lines
+
+pub returns-clause-stopped : goal.returns-clause-stopped
+returns-clause-stopped g c e file told o other =
+    let is = c.in-Ok.ensures.opened file told in
+    let outcome = index_outcome file (coded_seen c.in-Ok.walked.form) c.in-Ok.walked.index
+    (record { accepts = rules_of_index file ∙ c.in-Ok.ensures.accepted file told; form_is = is.form_is }) is.entries_are in
+    subst (λ lines. StopsAtALine lines (g.T.Sink.appended c.args.report.now) (g.T.Sink.appended c.report_entries.new.report))
+    (sym (outcome_lines index file (index_lines c.in-Ok.walked.index) o tt (g.met.S.Source.told_are_bytes c.args.source.now file told) outcome other))
+    c.in-Err-report_entries.ensures.by_lines
 
 pub returns-clause-cut_short : goal.returns-clause-cut_short
 returns-clause-cut_short g c e file told =

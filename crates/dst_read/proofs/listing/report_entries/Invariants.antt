@@ -1,5 +1,5 @@
 -- The lines of the entries that the loop has passed are reported.
-use Rattle.std.proofs.Common.{◌≡◌, ◌≤◌, length, take}
+use Rattle.std.proofs.Common.{◌≡◌, ◌+◌, ◌≤◌, length, take}
 use Rattle.std.specs.Prelude.{flat_map}
 use Rattle.dsdiff_spec.specs.Lines.{index_lines}
 use Rattle.dst_commands.specs.Writing.{Adds}
@@ -12,4 +12,5 @@ invariant-loop-k g l = record {
   silent : length l.index ≡ 0 → l.report ≡ l.initial.report;
   written : Adds (flat_map with_feed (take l.k (index_lines l.index))) (g.T.Sink.written l.initial.report) (g.T.Sink.written l.report)
       (g.T.Sink.room l.initial.report) (g.T.Sink.room l.report);
+  appended : g.T.Sink.appended l.report ≡ g.T.Sink.appended l.initial.report + length (flat_map with_feed (take l.k (index_lines l.index)));
 }

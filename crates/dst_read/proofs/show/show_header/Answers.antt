@@ -10,6 +10,7 @@ use Rattle.frame_index.specs.Entries.{entry_seen}
 use Rattle.dst_commands.specs.Writing.{Adds, Stops}
 use Rattle.dst_commands.proofs.InOrder.{rules_of_show_frame, stops_as}
 use Rattle.dst_read.specs.Reporting.{ReportEnds}
+use Rattle.dst_read.proofs.LineByLine.{goes_by_one}
 use Rattle.dst_read.proofs.ReportedLines.{appended, reported_ends, frame_is_shown, ends_unopened, ends_unshown}
 use Rattle.dst_read.proofs.show.show_header.Goals as goal
 
@@ -18,7 +19,7 @@ returns-in-Err-clause-ends g c file told =
     let k = c.args.number in
     ends_unopened c.in-Err.fault (show_frame k) (g.S.Source.bytes c.args.source.now) (g.S.Source.faults c.args.source.now)
     (g.S.Source.faults c.open_file.new.source) file (g.T.Sink.written c.args.report.now) (g.T.Sink.written c.args.report.now)
-    (g.T.Sink.room c.args.report.now) told
+    (g.T.Sink.room c.args.report.now) (g.T.Sink.appended c.args.report.now) (g.T.Sink.appended c.args.report.now) told
     (stops_as (form_refusal (show_frame k)) (refusal (show_frame k)) c.in-Err.fault (g.S.Source.bytes c.args.source.now) (g.S.Source.faults c.args.source.now)
     (g.S.Source.faults c.open_file.new.source) (rules_of_show_frame k) c.in-Err.ensures.stops)
 
@@ -27,7 +28,7 @@ returns-in-Err-header_line-clause-ends g c file told =
     let found = c.in-Ok.found in
     let is = c.in-Ok.ensures.opened file told in
     ends_unshown c.in-Err-header_line.fault (g.S.Source.bytes c.open_file.new.source) _ _ file (coded_seen found.form) c.args.number found.form.channels
-    (entry_seen found.entry) _ _ _
+    (entry_seen found.entry) _ _ _ _ _
     (c.in-Ok.ensures.bytes ∙ told) (record {
       accepts = rules_of_show_frame c.args.number file ∙ c.in-Ok.ensures.accepted file told;
       form_is =
@@ -51,5 +52,8 @@ returns-clause-ends g c file told =
     let left = g.T.Sink.room c.append.new.self in
     let written = subst (λ w. MatchResult c.append.result (λ _. Adds w old new room left) (λ _. Stops (Unit {0}) w old new room)) piece
     (appended c.append.result c.as_bytes.result.now old new room left c.append.ensures.written c.append.ensures.sure) in
-    subst (λ r. ReportEnds r (show_frame k) file old new room) (sym c.reported.ensures)
-    (reported_ends c.append.result found.form.frames (show_frame k) file form (shown.told ∷ []) old new room left is.form_is refl outcome written)
+    let before = g.T.Sink.appended c.args.report.now in
+    let now = g.T.Sink.appended c.append.new.self in
+    subst (λ r. ReportEnds r (show_frame k) file old new room before now) (sym c.reported.ensures)
+    (reported_ends c.append.result found.form.frames (show_frame k) file form (shown.told ∷ []) old new room left before now is.form_is refl outcome written
+    (goes_by_one c.append.result shown.told c.as_bytes.result.now before now piece c.append.ensures.appended))
