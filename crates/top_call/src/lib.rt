@@ -8,7 +8,7 @@
 //! The tests of the commands that read stand here, those of the commands that write in `top_call_writing`.
 #![tactic(auto)]
 
-use dst_streams::{MemorySink, MemorySource};
+use dst_streams::{MemorySink, MemorySource, Sink, Source};
 use dst_tool::dst_run;
 use std::alloc::{AllocError, Global};
 use std::thread::Threads;
@@ -33,6 +33,19 @@ pub fn split(alloc: Global, text: &str) -> Result<Vec<String>, AllocError> {
     Ok(words)
 }
 
+/// Runs words by the top call. It promises nothing, since a test needs none of the top call's clauses: so tests of many runs are proved
+/// quickly.
+pub fn run_words<E: Threads + Sync, S: Source, K: Sink, R: Sink>(
+    rt: &E,
+    alloc: Global,
+    words: &[String],
+    source: &mut S,
+    sink: &mut K,
+    report: &mut R,
+) -> u8 {
+    dst_run(rt, alloc, words, source, sink, report)
+}
+
 /// Runs words over a file by whole reads and by reads of one byte, into a sink of 10,000 bytes: the first part of either run that
 /// isn't as expected, if there is one.
 pub fn difference(
@@ -50,7 +63,7 @@ pub fn difference(
         let mut source = MemorySource::new(file, pieces, &[]);
         let mut sink = MemorySink::new(alloc, 10_000, &[])?;
         let mut report = MemorySink::new(alloc, 200, &[])?;
-        let answer = dst_run(rt, alloc, &words, &mut source, &mut sink, &mut report);
+        let answer = run_words(rt, alloc, &words, &mut source, &mut sink, &mut report);
         if report.written() != lines.as_bytes() {
             return Ok(Some(Part::Report));
         }

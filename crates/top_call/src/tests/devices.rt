@@ -1,8 +1,7 @@
 // Devices that fail: the statuses and the lines.
 use super::decode_words;
-use crate::split;
+use crate::{run_words, split};
 use dst_streams::{HonestSource, MemorySink, MemorySource, ShortFlowSink};
-use dst_tool::dst_run;
 use example_files::{odd_plain, two_frames, with_bytes};
 use std::alloc::{AllocError, Global};
 use std::test::Fail;
@@ -18,7 +17,7 @@ fn a_read_that_fails_leaves_the_front_of_the_output(rt: HostRuntime) -> Result<(
         let mut source = MemorySource::new(&file, &[], &fails);
         let mut sink = MemorySink::new(alloc, 10_000, &[])?;
         let mut report = MemorySink::new(alloc, 100, &[])?;
-        let status = dst_run(&rt, alloc, &words, &mut source, &mut sink, &mut report);
+        let status = run_words(&rt, alloc, &words, &mut source, &mut sink, &mut report);
         assert_eq!(rt; status, 2, "at call {call}");
         assert!(rt; whole.starts_with(sink.written()), "at call {call}");
         assert!(rt;
@@ -40,7 +39,7 @@ fn an_append_that_fails_leaves_the_front_of_the_output(rt: HostRuntime) -> Resul
         let mut source = HonestSource::new(&file);
         let mut sink = MemorySink::new(alloc, 10_000, &fails)?;
         let mut report = MemorySink::new(alloc, 100, &[])?;
-        let status = dst_run(&rt, alloc, &words, &mut source, &mut sink, &mut report);
+        let status = run_words(&rt, alloc, &words, &mut source, &mut sink, &mut report);
         assert_eq!(rt; status, 3, "at call {call}");
         assert!(rt; whole.starts_with(sink.written()), "at call {call}");
         assert!(rt; sink.written().len() < whole.len(), "at call {call}");
@@ -62,7 +61,7 @@ fn a_full_sink_holds_what_fits(rt: HostRuntime) -> Result<(), Fail> {
         let mut source = HonestSource::new(&file);
         let mut sink = ShortFlowSink::new(prefix);
         let mut report = MemorySink::new(alloc, 100, &[])?;
-        let status = dst_run(&rt, alloc, &words, &mut source, &mut sink, &mut report);
+        let status = run_words(&rt, alloc, &words, &mut source, &mut sink, &mut report);
         assert_eq!(rt; status, 3, "at {prefix}");
         assert_eq!(rt; sink.written().len(), prefix);
         assert!(rt; whole.starts_with(sink.written()), "at {prefix}");
@@ -88,7 +87,7 @@ fn a_report_that_fails_leaves_the_output_whole(rt: HostRuntime) -> Result<(), Fa
         let mut source = HonestSource::new(&file);
         let mut sink = MemorySink::new(alloc, 10_000, &[])?;
         let mut report = MemorySink::new(alloc, 100, fails)?;
-        let status = dst_run(&rt, alloc, &words, &mut source, &mut sink, &mut report);
+        let status = run_words(&rt, alloc, &words, &mut source, &mut sink, &mut report);
         assert_eq!(rt; status, *wanted);
         assert!(rt; sink.written() == whole.as_slice());
         assert!(rt; report.written() == line.as_bytes());
@@ -118,7 +117,7 @@ fn a_read_that_fails_leaves_a_coded_file_without_sizes(rt: HostRuntime) -> Resul
         let mut source = MemorySource::new(&file, &[], &fails);
         let mut sink = MemorySink::new(alloc, 10_000, &[])?;
         let mut report = MemorySink::new(alloc, 100, &[])?;
-        let status = dst_run(&rt, alloc, &words, &mut source, &mut sink, &mut report);
+        let status = run_words(&rt, alloc, &words, &mut source, &mut sink, &mut report);
         if status == 0 {
             assert!(rt; sink.written() == whole.as_slice());
             done = true;
@@ -152,7 +151,7 @@ fn a_write_that_fails_leaves_a_coded_file_that_is_not_finished(
         let mut source = HonestSource::new(&file);
         let mut sink = MemorySink::new(alloc, 10_000, &fails)?;
         let mut report = MemorySink::new(alloc, 100, &[])?;
-        let status = dst_run(&rt, alloc, &words, &mut source, &mut sink, &mut report);
+        let status = run_words(&rt, alloc, &words, &mut source, &mut sink, &mut report);
         let left = sink.written();
         if status == 0 {
             assert!(rt; left == whole.as_slice());

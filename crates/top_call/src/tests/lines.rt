@@ -1,7 +1,6 @@
 // Each line of a report is added whole, by one call, and where there is no line there is no call.
-use crate::split;
+use crate::{run_words, split};
 use dst_streams::{HonestSource, MemorySink};
-use dst_tool::dst_run;
 use example_files::{SILENT, coded, two_frames};
 use std::alloc::{AllocError, Global};
 use std::test::Fail;
@@ -20,7 +19,7 @@ fn run(
     let mut source = HonestSource::new(file);
     let mut sink = MemorySink::new(alloc, 20_000, &[])?;
     let mut report = MemorySink::new(alloc, 200, &fails)?;
-    let status = dst_run(rt, alloc, &words, &mut source, &mut sink, &mut report);
+    let status = run_words(rt, alloc, &words, &mut source, &mut sink, &mut report);
     let mut lines = 0u64;
     for byte in report.written() {
         if *byte == b'\n' {

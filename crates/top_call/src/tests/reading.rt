@@ -1,8 +1,7 @@
 // The commands that read besides decoding: a frame, a check, a summary, a frame's header, the places of frames.
 use super::answers;
-use crate::split;
+use crate::{run_words, split};
 use dst_streams::{HonestSource, MemorySink, MemorySource};
-use dst_tool::dst_run;
 use example_files::{
     EXAMPLE, SILENT, coded, counting, frame, joined, odd_plain, one_frame, two_frames, with_bytes,
 };
@@ -159,7 +158,7 @@ fn a_report_that_fails_ends_the_command(rt: HostRuntime) -> Result<(), Fail> {
         let mut source = HonestSource::new(&file);
         let mut sink = MemorySink::new(alloc, 10_000, &[])?;
         let mut report = MemorySink::new(alloc, 200, &[0])?;
-        let status = dst_run(&rt, alloc, &words, &mut source, &mut sink, &mut report);
+        let status = run_words(&rt, alloc, &words, &mut source, &mut sink, &mut report);
         assert_eq!(rt; status, 7, "{text}");
     }
     Ok(())
@@ -177,7 +176,7 @@ fn a_device_that_fails_leaves_no_frame_or_its_front(rt: HostRuntime) -> Result<(
             let mut source = MemorySource::new(&file, &[], &fails);
             let mut sink = MemorySink::new(alloc, 10_000, &[])?;
             let mut report = MemorySink::new(alloc, 100, &[])?;
-            let status = dst_run(&rt, alloc, &words, &mut source, &mut sink, &mut report);
+            let status = run_words(&rt, alloc, &words, &mut source, &mut sink, &mut report);
             if status == 0 {
                 assert!(rt; sink.written() == sound.as_slice());
                 break;
@@ -188,7 +187,7 @@ fn a_device_that_fails_leaves_no_frame_or_its_front(rt: HostRuntime) -> Result<(
         let mut source = HonestSource::new(&file);
         let mut sink = MemorySink::new(alloc, 10_000, &[0])?;
         let mut report = MemorySink::new(alloc, 100, &[])?;
-        let status = dst_run(&rt, alloc, &words, &mut source, &mut sink, &mut report);
+        let status = run_words(&rt, alloc, &words, &mut source, &mut sink, &mut report);
         assert_eq!(rt; status, 3, "{text}");
         assert!(rt; sound.starts_with(sink.written()), "{text}");
     }

@@ -1,8 +1,7 @@
 // Words, files and frames that are refused.
 use super::gives;
-use crate::split;
+use crate::{run_words, split};
 use dst_streams::{HonestSource, MemorySink, MemorySource};
-use dst_tool::dst_run;
 use example_files::{
     EXAMPLE, NOTHING_KEPT, PLAIN_CMPR, PLAIN_PROP, SILENT, VERSION, chunk, coded, joined,
     odd_plain, one_frame, plain, two_frames, with_bytes,
@@ -170,7 +169,7 @@ fn other_words_are_not_understood_and_touch_nothing(rt: HostRuntime) -> Result<(
         let mut source = MemorySource::new(EXAMPLE, &[], &[0]);
         let mut sink = MemorySink::new(alloc, 10_000, &[0])?;
         let mut report = MemorySink::new(alloc, 100, &[])?;
-        let answer = dst_run(&rt, alloc, &words, &mut source, &mut sink, &mut report);
+        let answer = run_words(&rt, alloc, &words, &mut source, &mut sink, &mut report);
         assert_eq!(rt; answer, 1, "{text}");
         assert!(rt; sink.written().is_empty(), "{text}");
         assert!(rt;
@@ -181,7 +180,7 @@ fn other_words_are_not_understood_and_touch_nothing(rt: HostRuntime) -> Result<(
     let mut source = HonestSource::new(EXAMPLE);
     let mut sink = MemorySink::new(alloc, 10_000, &[])?;
     let mut report = MemorySink::new(alloc, 100, &[0])?;
-    let answer = dst_run(&rt, alloc, &[], &mut source, &mut sink, &mut report);
+    let answer = run_words(&rt, alloc, &[], &mut source, &mut sink, &mut report);
     assert_eq!(rt; answer, 7);
     assert!(rt; report.written() == b"words not ".as_slice());
     Ok(())

@@ -1,7 +1,7 @@
 // Files whose sound comes back.
 use super::{decode_words, gives};
+use crate::run_words;
 use dst_streams::{HonestSource, MemorySink};
-use dst_tool::dst_run;
 use example_files::{
     NOTHING_KEPT, SILENT, THREE_KEPT, coded, coded_silent, frame, joined, odd_plain, one_frame,
     plain, two_frames, with_bytes,
@@ -27,7 +27,7 @@ fn a_sound_comes_back(rt: HostRuntime) -> Result<(), Fail> {
     let mut source = HonestSource::new(&stored);
     let mut sink = MemorySink::new(alloc, 4830, &[])?;
     let mut report = MemorySink::new(alloc, 100, &[])?;
-    let answer = dst_run(&rt, alloc, &words, &mut source, &mut sink, &mut report);
+    let answer = run_words(&rt, alloc, &words, &mut source, &mut sink, &mut report);
     assert_eq!(rt; answer, 0);
     assert!(rt; sink.written() == plain_file.as_slice());
     Ok(())

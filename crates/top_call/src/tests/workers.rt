@@ -1,7 +1,6 @@
 // Several workers give what one gives.
-use crate::split;
+use crate::{run_words, split};
 use dst_streams::{HonestSource, MemorySink, MemorySource};
-use dst_tool::dst_run;
 use example_files::{coded, counting, frame, odd_plain, two_frames};
 use std::alloc::{AllocError, Global};
 use std::test::Fail;
@@ -30,7 +29,7 @@ fn of_forty_frames_the_first_refused_is_told(rt: HostRuntime) -> Result<(), Fail
         let mut source = HonestSource::new(&file);
         let mut sink = MemorySink::new(alloc, 200_000, &[])?;
         let mut report = MemorySink::new(alloc, 100, &[])?;
-        let status = dst_run(&rt, alloc, &words, &mut source, &mut sink, &mut report);
+        let status = run_words(&rt, alloc, &words, &mut source, &mut sink, &mut report);
         assert_eq!(rt; status, 6, "{workers} workers");
         assert_eq!(rt; sink.written().len(), 126 + 5 * 4704, "{workers} workers");
         assert!(rt; report.written() == line.as_slice(), "{workers} workers");
@@ -50,7 +49,7 @@ fn a_read_that_fails_ahead_is_told_behind_the_earlier_frames(rt: HostRuntime) ->
         let mut source = MemorySource::new(&file, &[], &fails);
         let mut sink = MemorySink::new(alloc, 200_000, &[])?;
         let mut report = MemorySink::new(alloc, 100, &[])?;
-        let status = dst_run(&rt, alloc, &words, &mut source, &mut sink, &mut report);
+        let status = run_words(&rt, alloc, &words, &mut source, &mut sink, &mut report);
         let frames = sink.written().len().saturating_sub(126) / 4704;
         assert!(rt; status == 6 || status == 2, "at call {call}");
         assert!(rt; status == 2 || frames == 5, "at call {call}");
@@ -73,7 +72,7 @@ fn decodes_alone<R: Threads + Sync>(
     let mut source = HonestSource::new(file);
     let mut sink = MemorySink::new(alloc, 10_000, &[])?;
     let mut report = MemorySink::new(alloc, 100, &[])?;
-    let status = dst_run(rt, alloc, &words, &mut source, &mut sink, &mut report);
+    let status = run_words(rt, alloc, &words, &mut source, &mut sink, &mut report);
     Ok(status == 0 && sink.written() == whole)
 }
 

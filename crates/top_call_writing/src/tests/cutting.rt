@@ -1,13 +1,12 @@
 // Frames that are cut out of the coded file of two frames: of 4,704 counting bytes, and of one byte with its filling.
 use super::{answers, gives};
 use dst_streams::{HonestSource, MemorySink, MemorySource};
-use dst_tool::dst_run;
 use example_files::{
     EXAMPLE, PLAIN_CMPR, SILENT, coded, counting, frame, joined, plain, two_frames, with_bytes,
 };
 use std::alloc::{AllocError, Global};
 use std::test::Fail;
-use top_call::split;
+use top_call::{run_words, split};
 
 // A file of one frame, whose sound has this size and pad byte.
 fn alone(
@@ -99,7 +98,7 @@ fn a_device_that_fails_leaves_the_front_of_what_is_cut(rt: HostRuntime) -> Resul
             let mut source = MemorySource::new(&file, &[], read);
             let mut sink = MemorySink::new(alloc, 10_000, write)?;
             let mut report = MemorySink::new(alloc, 100, &[])?;
-            let status = dst_run(&rt, alloc, &words, &mut source, &mut sink, &mut report);
+            let status = run_words(&rt, alloc, &words, &mut source, &mut sink, &mut report);
             let left = sink.written();
             assert!(rt;
                 status == 0 || status == fault,
@@ -126,7 +125,7 @@ fn a_cut_into_a_sink_without_room_holds_what_fits(rt: HostRuntime) -> Result<(),
     let mut source = HonestSource::new(&file);
     let mut sink = MemorySink::new(alloc, whole.len().saturating_sub(1), &[])?;
     let mut report = MemorySink::new(alloc, 100, &[])?;
-    let status = dst_run(&rt, alloc, &words, &mut source, &mut sink, &mut report);
+    let status = run_words(&rt, alloc, &words, &mut source, &mut sink, &mut report);
     assert_eq!(rt; status, 3);
     assert!(rt; whole.starts_with(sink.written()));
     assert!(rt; report.written() == b"write fault\n".as_slice());

@@ -1,11 +1,10 @@
 // DSF files of twelve samples, coded and decoded again.
 use super::answers;
 use dst_streams::{HonestSource, MemorySink};
-use dst_tool::dst_run;
 use std::alloc::{AllocError, Global};
 use std::test::Fail;
 use std::thread::Threads;
-use top_call::split;
+use top_call::{run_words, split};
 
 // The head of a file of twelve samples of one channel, with 1 bit per sample.
 const HEAD: &[u8; 92] = b"DSD \x1c\0\0\0\0\0\0\0\x5c\x10\0\0\0\0\0\0\0\0\0\0\0\0\0\0\
@@ -46,7 +45,7 @@ fn written(
     let mut source = HonestSource::new(file);
     let mut sink = MemorySink::new(alloc, 20_000, &[])?;
     let mut report = MemorySink::new(alloc, 100, &[])?;
-    let status = dst_run(rt, alloc, &words, &mut source, &mut sink, &mut report);
+    let status = run_words(rt, alloc, &words, &mut source, &mut sink, &mut report);
     if status != 0 || report.written() != line.as_bytes() {
         return Ok(None);
     }

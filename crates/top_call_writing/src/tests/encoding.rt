@@ -3,7 +3,6 @@ use super::{answers, gives};
 use dst_make::make_file;
 use dst_num::Channels;
 use dst_streams::{HonestSource, MemorySink, MemorySource};
-use dst_tool::dst_run;
 use example_files::{
     EXAMPLE, NOTHING_KEPT, PLAIN_CMPR, PLAIN_PROP, SILENT, THREE_KEPT, VERSION, chunk, coded,
     coded_silent, counting, frame, joined, odd_plain, two_frames, with_bytes,
@@ -12,7 +11,7 @@ use std::alloc::{AllocError, Global};
 use std::process::Abort;
 use std::test::Fail;
 use std::thread::Threads;
-use top_call::split;
+use top_call::{run_words, split};
 
 // The rate of 128 times 44.1 kHz.
 const DOUBLE: &[u8; 4] = b"\0\x56\x22\0";
@@ -125,11 +124,11 @@ fn comes_back(
     let mut source = HonestSource::new(plain);
     let mut coded = MemorySink::new(alloc, 1_500_000, &[])?;
     let mut report = MemorySink::new(alloc, 200, &[])?;
-    let status = dst_run(rt, alloc, &encode, &mut source, &mut coded, &mut report);
+    let status = run_words(rt, alloc, &encode, &mut source, &mut coded, &mut report);
     assert_eq!(rt; status, 0, "{text}");
     let mut source = HonestSource::new(coded.written());
     let mut sink = MemorySink::new(alloc, 1_500_000, &[])?;
-    let status = dst_run(rt, alloc, &decode, &mut source, &mut sink, &mut report);
+    let status = run_words(rt, alloc, &decode, &mut source, &mut sink, &mut report);
     assert_eq!(rt; status, 0, "{text}");
     assert!(rt; sink.written() == plain, "{text}");
     joined(alloc, &[coded.written()])
@@ -208,7 +207,7 @@ fn chunks_besides_the_sound_come_back(rt: HostRuntime) -> Result<(), Fail> {
     let mut source = MemorySource::new(&plain, &[], &[2]);
     let mut sink = MemorySink::new(alloc, 1_500_000, &[])?;
     let mut report = MemorySink::new(alloc, 200, &[])?;
-    let status = dst_run(&rt, alloc, &words, &mut source, &mut sink, &mut report);
+    let status = run_words(&rt, alloc, &words, &mut source, &mut sink, &mut report);
     assert_eq!(rt; status, 2);
     assert!(rt; sink.written().is_empty());
     Ok(())

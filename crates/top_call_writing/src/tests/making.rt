@@ -2,7 +2,7 @@
 use super::answers;
 use dst_num::Channels;
 use dst_streams::{HonestSource, MemorySink, MemorySource};
-use dst_tool::{dst_run, make_run};
+use dst_tool::make_run;
 use example_files::{SILENT, joined};
 use frame_crew::Gate;
 use std::alloc::{AllocError, Global};
@@ -10,7 +10,7 @@ use std::process::Abort;
 use std::sync::atomic::{AtomicU64, Ordering};
 use std::test::Fail;
 use std::thread::Threads;
-use top_call::split;
+use top_call::{run_words, split};
 
 // What stands in front of the sound of three frames of six channels.
 const THREE_OF_SIX: &[u8; 146] = b"FRM8\0\0\0\0\0\x01\x4b\x46DSD \
@@ -31,7 +31,7 @@ fn runs(
     let mut source = MemorySource::new(&[], &[], &[0, 1, 2, 3]);
     let mut sink = MemorySink::new(alloc, 300_000, &[])?;
     let mut report = MemorySink::new(alloc, 200, &[])?;
-    let status = dst_run(rt, alloc, &words, &mut source, &mut sink, &mut report);
+    let status = run_words(rt, alloc, &words, &mut source, &mut sink, &mut report);
     assert_eq!(rt; status, 0, "{text}");
     let written = joined(alloc, &[sink.written()])?;
     Ok((written, joined(alloc, &[report.written()])?))
@@ -75,7 +75,7 @@ fn a_sink_that_fails_holds_the_front_of_made_sound(rt: HostRuntime) -> Result<()
         let mut source = HonestSource::new(&[]);
         let mut sink = MemorySink::new(alloc, 100_000, &fails)?;
         let mut report = MemorySink::new(alloc, 100, &[])?;
-        let status = dst_run(&rt, alloc, &words, &mut source, &mut sink, &mut report);
+        let status = run_words(&rt, alloc, &words, &mut source, &mut sink, &mut report);
         assert_eq!(rt; status, 3, "at call {call}");
         assert!(rt; sink.written().len() < whole.len(), "at call {call}");
         assert!(rt; whole.starts_with(sink.written()), "at call {call}");
@@ -99,7 +99,7 @@ fn stored(
     let mut source = HonestSource::new(&plain);
     let mut sink = MemorySink::new(alloc, 200_000, &[])?;
     let mut report = MemorySink::new(alloc, 200, &[])?;
-    let status = dst_run(rt, alloc, &words, &mut source, &mut sink, &mut report);
+    let status = run_words(rt, alloc, &words, &mut source, &mut sink, &mut report);
     assert_eq!(rt; status, 0, "{numbers}");
     joined(alloc, &[report.written()])
 }
@@ -154,7 +154,7 @@ fn a_report_that_fails_is_told_behind_a_run(rt: HostRuntime) -> Result<(), Fail>
     let mut source = HonestSource::new(&[]);
     let mut sink = MemorySink::new(alloc, 100, &[0])?;
     let mut report = MemorySink::new(alloc, 200, &[0])?;
-    let status = dst_run(&rt, alloc, &words, &mut source, &mut sink, &mut report);
+    let status = run_words(&rt, alloc, &words, &mut source, &mut sink, &mut report);
     assert_eq!(rt; status, 7);
     assert!(rt; sink.written().is_empty());
     Ok(())
