@@ -22,7 +22,9 @@ use Rattle.dst_tool.specs.declared.answers.Fault.TheVariants.{Read, Write, Memor
 use Rattle.dst_tool.specs.Answers.{status_of, done_line, fault_line, line_of, TellsOneLine}
 use Rattle.dst_commands.specs.Commands.{OutcomeOf}
 use Rattle.dst_tool.specs.Runs.{WholeOf, PartOf, EndsAsOne, EndsBy, Reports, WritesNowhere, ReadsNothing, WritesFile, most_given, longest_sound}
-use Rattle.dst_tool.specs.Runs.{Counts, Held, IsCaused, IsRun}
+use Rattle.dst_tool.specs.Runs.{Counts, Held, Told, IsCaused, IsRun}
+use Rattle.dst_read.specs.LineByLine.{AddsLines}
+use Rattle.dst_read.proofs.LineByLine.{none_of_one}
 use Rattle.dst_tool.proofs.Statuses.{status_is_done, status_is_read, status_is_write, status_is_memory, status_is_file, status_is_frame}
 use Rattle.dst_tool.proofs.Statuses.{status_is_not_words, status_is_below}
 use Rattle.dst_commands.proofs.Writing.{and_then-nothing}
@@ -118,21 +120,23 @@ line_fits c (Err (Frame k fault)) file old new o n reads bytes a h no_read no_wr
 line_fits c (Err Report) file old new o n reads bytes a h no_read no_write least fits = absurd (a.no_report refl)
 
 -- ---- the line is reported, or the report failed
-pub reports_line : (status result : ℕ) (line : Line) (old new : Option (List ℕ)) → (result ≡ status) ⊎ (result ≡ 7) →
+pub reports_line : (status result : ℕ) (line : Line) (old new : Option (List ℕ)) (before now : ℕ) → (result ≡ status) ⊎ (result ≡ 7) →
     (result ≡ status → new ≡ and_then old (report (line ∷ []))) → (result ≡ 7 → IsCutShort old (report (line ∷ [])) new) →
-    Reports status (line ∷ []) result old new
-reports_line status result line old new (inl e) whole short = inl (e, whole e)
-reports_line status result line old new (inr e) whole short = inr (e, short e)
+    (result ≡ status → AddsLines (line ∷ []) before now) → (result ≡ 7 → now ≡ before) → Reports status (line ∷ []) result old new before now
+reports_line status result line old new before now (inl e) whole short added stopped = inl (e, whole e, added e)
+reports_line status result line old new before now (inr e) whole short added stopped = inr (e, short e, none_of_one line before now (stopped e))
 
 -- a status below 7 is that of the answer
 pub status_told : (status result want : ℕ) → (result ≡ status) ⊎ (result ≡ 7) → result ≡ want → want < 7 → status ≡ want
 status_told status result want (inl e) is below = sym e ∙ is
 status_told status result want (inr e) is below = absurd (omega arith)
 
-pub record TellsLine (status : ℕ) (line : Line) (result : ℕ) (counts : Counts) (told : Held) : Type 0 where
+pub record TellsLine (status : ℕ) (line : Line) (result : ℕ) (counts : Counts) (told : Told) : Type 0 where
   pub reported : (result ≡ status) ⊎ (result ≡ 7)
   pub whole : result ≡ status → told.new ≡ and_then told.old (report (line ∷ []))
   pub cut_short : result ≡ 7 → IsCutShort told.old (report (line ∷ [])) told.new
+  pub added : result ≡ status → AddsLines (line ∷ []) told.before told.now
+  pub stopped : result ≡ 7 → told.now ≡ told.before
   pub cause : result ≡ 7 → Rose counts.before counts.now
   pub later : counts.before ≤ counts.now
   pub sure : result ≡ 7 → (n : ℕ) → told.room ≡ Some n → length (report (line ∷ [])) ≤ n → ⊥
@@ -172,7 +176,7 @@ caused c r bytes source sink given written Same Settled Unread Kept h = record {
 }
 
 pub run_of_answer : (c : Command) (r : Result Numbers Fault) (result : ℕ) (bytes : Option (List ℕ)) (source sink counts given : Counts)
-    (written told : Held) (Same Settled Unread Kept Silent : Type 0) → HasOutcome c → TellsOneLine c →
+    (written : Held) (told : Told) (Same Settled Unread Kept Silent : Type 0) → HasOutcome c → TellsOneLine c →
     ((file : List ℕ) → bytes ≡ Some file → AreBytes file) → ((file : List ℕ) → bytes ≡ Some file → IsAnswer c r file written.old written.new) →
     (ReadsNothing c → IsAnswer c r [] written.old written.new) →
     HasCauses c r bytes source sink given written Same Settled Unread Kept → TellsLine (status_of r) (line_of c r) result counts told →
@@ -183,16 +187,14 @@ run_of_answer c r result bytes source sink counts given written told Same Settle
     line_of c r ∷ [],
     answer_ends c r file written.old written.new (answer file e),
     caused c r bytes source sink given written Same Settled Unread Kept h,
-    reports_line (status_of r) result
-        (line_of c r) told.old told.new t.reported t.whole t.cut_short,
+    reports_line (status_of r) result (line_of c r) told.old told.new told.before told.now t.reported t.whole t.cut_short t.added t.stopped,
   );
   made = λ w. (
     status_of r,
     line_of c r ∷ [],
     answer_ends c r [] written.old written.new (made w),
     caused c r bytes source sink given written Same Settled Unread Kept h,
-    reports_line (status_of r) result (line_of c r)
-        told.old told.new t.reported t.whole t.cut_short,
+    reports_line (status_of r) result (line_of c r) told.old told.new told.before told.now t.reported t.whole t.cut_short t.added t.stopped,
   );
   read = λ e. h.read (status_is_read r (status_told (status_of r) result 2 t.reported e (omega arith)));
   write = λ e. h.write (status_is_write r (status_told (status_of r) result 3 t.reported e (omega arith)));
@@ -233,7 +235,7 @@ run_of_answer c r result bytes source sink counts given written told Same Settle
     most (inr e) = omega arith
 
 -- a run of one command is a run of the same one
-pub same_run : {a c : Command} {result : ℕ} {bytes : Option (List ℕ)} {source sink counts given : Counts} {written told : Held}
+pub same_run : {a c : Command} {result : ℕ} {bytes : Option (List ℕ)} {source sink counts given : Counts} {written : Held} {told : Told}
     {Same Settled Unread Kept Silent : Type 0} → a ≡ c → IsRun c result bytes source sink counts given written told Same Settled Unread Kept Silent →
     IsRun a result bytes source sink counts given written told Same Settled Unread Kept Silent
 same_run {a} {c} {result} {bytes} {source} {sink} {counts} {given} {written} {told} {Same} {Settled} {Unread} {Kept} {Silent} e h =

@@ -18,34 +18,40 @@ use Rattle.dst_tool.specs.declared.answers.Fault.{Fault}
 use Rattle.dst_tool.specs.declared.answers.Fault.TheVariants.{Read, Write, Memory, Report, File, Frame}
 use Rattle.dst_tool.specs.Answers.{status_of, fault_line}
 use Rattle.dst_commands.specs.Commands.{OutcomeOf}
-use Rattle.dst_tool.specs.Runs.{DidNotRise, EndsBy, Reports, WritesNowhere, ReadsNothing, Counts, Held, IsCaused, IsRun}
+use Rattle.dst_read.specs.LineByLine.{AddsLines, StopsAtALine}
+use Rattle.dst_tool.specs.Runs.{DidNotRise, EndsBy, Reports, WritesNowhere, ReadsNothing, Counts, Held, Told, IsCaused, IsRun}
 use Rattle.dst_tool.proofs.Statuses.{status_is_done, status_is_read, status_is_write, status_is_memory, status_is_not_words}
 use Rattle.dst_tool.proofs.OneLine.{refusal_is, whole_of, nothing_of, not_both_kinds, same_lines, reports_line, status_told}
 use Rattle.dst_commands.proofs.Writing.{and_then-nothing}
 
 -- what it answered of a file, the report holding `told` before and `mid` then
-pub record IsListing (c : Command) (r : Result Numbers Fault) (file : List ℕ) (told mid : Option (List ℕ)) : Type 0 where
-  pub lines : IfOk r (λ s. (lines : List Line) × OutcomeOf c file (done [] lines) × (mid ≡ and_then told (report lines)))
+pub record IsListing (c : Command) (r : Result Numbers Fault) (file : List ℕ) (told mid : Told) : Type 0 where
+  pub lines : IfOk r (λ s. (lines : List Line) × OutcomeOf c file (done [] lines) × (mid.old ≡ and_then told.old (report lines)))
   pub file_is : (fault : FileFault) → r ≡ Err (File fault) → refusal c file ≡ Some fault
   pub frame_is : (k : ℕ) (fault : FrameFault) → r ≡ Err (Frame k fault) → OutcomeOf c file (frame_refused k fault [])
   pub some : (o : Answer) × OutcomeOf c file o
-  pub cut_short : r ≡ Err Report → (lines : List Line) × OutcomeOf c file (done [] lines) × IsCutShort told (report lines) mid
+  pub cut_short : r ≡ Err Report → (lines : List Line) × OutcomeOf c file (done [] lines) × IsCutShort told.old (report lines) mid.old
+  pub added : IfOk r (λ s. (o : Answer) → OutcomeOf c file o → AddsLines o.lines told.before mid.before)
+  pub stopped : r ≡ Err Report → (o : Answer) → OutcomeOf c file o → StopsAtALine o.lines told.before mid.before
 
 -- whatever the source tells
-pub record Lists (r : Result Numbers Fault) (source counts middle : Counts) (told mid : Held) : Type 0 where
+pub record Lists (r : Result Numbers Fault) (source counts middle : Counts) (told mid : Told) : Type 0 where
   pub later : (source.before ≤ source.now) × (counts.before ≤ middle.before)
   pub read : r ≡ Err Read → Rose source.before source.now
   pub no_write : r ≡ Err Write → ⊥
   pub reported : r ≡ Err Report → Rose counts.before middle.before
   pub untouched : (fault : Fault) → r ≡ Err fault → fault ≢ Report → (mid.old ≡ told.old) × (mid.room ≡ told.room) × (middle.before ≡ counts.before)
+      × (mid.before ≡ told.before)
 
 -- what is reported of it then
-pub record TellsFault (r : Result Numbers Fault) (result : ℕ) (middle : Counts) (mid : Held) : Type 0 where
+pub record TellsFault (r : Result Numbers Fault) (result : ℕ) (middle : Counts) (mid : Told) : Type 0 where
   pub reported : (result ≡ status_of r) ⊎ (result ≡ 7)
-  pub done : (s : Numbers) → r ≡ Ok s → (result ≡ 0) × (mid.new ≡ mid.old) × (middle.now ≡ middle.before)
-  pub failed : r ≡ Err Report → (result ≡ 7) × (mid.new ≡ mid.old) × (middle.now ≡ middle.before)
+  pub done : (s : Numbers) → r ≡ Ok s → (result ≡ 0) × (mid.new ≡ mid.old) × (middle.now ≡ middle.before) × (mid.now ≡ mid.before)
+  pub failed : r ≡ Err Report → (result ≡ 7) × (mid.new ≡ mid.old) × (middle.now ≡ middle.before) × (mid.now ≡ mid.before)
   pub whole : (fault : Fault) → r ≡ Err fault → fault ≢ Report → result ≡ status_of r → mid.new ≡ and_then mid.old (report (fault_line fault ∷ []))
   pub cut_short : (fault : Fault) → r ≡ Err fault → fault ≢ Report → result ≡ 7 → IsCutShort mid.old (report (fault_line fault ∷ [])) mid.new
+  pub added : (fault : Fault) → r ≡ Err fault → fault ≢ Report → result ≡ status_of r → AddsLines (fault_line fault ∷ []) mid.before mid.now
+  pub stopped : (fault : Fault) → r ≡ Err fault → fault ≢ Report → result ≡ 7 → mid.now ≡ mid.before
   pub cause : (fault : Fault) → r ≡ Err fault → fault ≢ Report → result ≡ 7 → Rose middle.before middle.now
   pub later : middle.before ≤ middle.now
   pub sure : (fault : Fault) → r ≡ Err fault → fault ≢ Report → result ≡ 7 → (n : ℕ) → mid.room ≡ Some n → length (report (fault_line fault ∷ [])) ≤ n → ⊥
@@ -63,16 +69,16 @@ IsTold Report = ⊥
 not_report : (fault : Fault) → IsTold fault → fault ≢ Report
 not_report fault h e = subst IsTold e h
 
-abbrev EndsListing : Command → List ℕ → ℕ → Option (List ℕ) → Counts → Counts → Held → Type 0
+abbrev EndsListing : Command → List ℕ → ℕ → Option (List ℕ) → Counts → Counts → Told → Type 0
 EndsListing c file result written source sink told =
     (wanted : ℕ) × (lines : List Line) × EndsBy (OutcomeOf c file) (Some c) file ⊤ wanted lines written written
-    × IsCaused wanted source.before source.now sink.before sink.now × Reports wanted lines result told.old told.new
+    × IsCaused wanted source.before source.now sink.before sink.now × Reports wanted lines result told.old told.new told.before told.now
 
 -- a status that no device has
 done_is_caused : (source sink : Counts) → IsCaused 0 source.before source.now sink.before sink.now
 done_is_caused source sink = record { read = λ e. absurd (omega arith); write = λ e. absurd (omega arith) }
 
-fault_ends : (c : Command) (fault : Fault) (file : List ℕ) (written : Option (List ℕ)) (told mid : Option (List ℕ)) → WritesNowhere c → IsTold fault →
+fault_ends : (c : Command) (fault : Fault) (file : List ℕ) (written : Option (List ℕ)) (told mid : Told) → WritesNowhere c → IsTold fault →
     IsListing c (Err fault) file told mid →
     EndsBy (OutcomeOf c file) (Some c) file ⊤ (status_of (Err fault)) (fault_line fault ∷ []) written written
 fault_ends c Read file written told mid w h l = inl (refl, refl, (l.some.0, l.some.1, nothing_of c file l.some.0.out written w))
@@ -92,59 +98,66 @@ fault_ends c Write file written told mid w h l = absurd h
 fault_ends c Report file written told mid w h l = absurd h
 
 told_ends : (c : Command) (fault : Fault) (result : ℕ) (file : List ℕ) (written : Option (List ℕ)) (source sink counts middle : Counts)
-    (told mid : Held) →
-    WritesNowhere c → IsTold fault → mid.new ≡ told.new →
-    IsListing c (Err fault) file told.old mid.old → Lists (Err fault) source counts middle told mid → TellsFault (Err fault) result middle mid →
+    (told mid : Told) →
+    WritesNowhere c → IsTold fault → mid.new ≡ told.new → mid.now ≡ told.now →
+    IsListing c (Err fault) file told mid → Lists (Err fault) source counts middle told mid → TellsFault (Err fault) result middle mid →
     EndsListing c file result written source sink told
-told_ends c fault result file written source sink counts middle told mid w h last l s t =
+told_ends c fault result file written source sink counts middle told mid w h last last_added l s t =
     let other = not_report fault h in
-    let same = (s.untouched fault refl other).0 in (
+    let same = (s.untouched fault refl other).0 in
+    let first = (s.untouched fault refl other).3 in (
       status_of (Err fault),
       fault_line fault ∷ [],
-      fault_ends c fault file written told.old mid.old w h l,
+      fault_ends c fault file written told mid w h l,
       record { read = λ e. s.read (status_is_read (Err fault) e); write = λ e. absurd (s.no_write (status_is_write (Err fault) e)) },
-      reports_line (status_of (Err fault)) result (fault_line fault) told.old told.new t.reported
+      reports_line (status_of (Err fault)) result (fault_line fault) told.old told.new told.before told.now t.reported
           (λ e. sym last ∙ t.whole fault refl other e ∙ ap (λ w. and_then w (report (fault_line fault ∷ []))) same)
           (λ e. subst (λ w. IsCutShort told.old (report (fault_line fault ∷ [])) w) last
-          (subst (λ w. IsCutShort w (report (fault_line fault ∷ [])) mid.new) same (t.cut_short fault refl other e))),
+          (subst (λ w. IsCutShort w (report (fault_line fault ∷ [])) mid.new) same (t.cut_short fault refl other e)))
+          (λ e. sym last_added ∙ t.added fault refl other e ∙ ap (λ n. n + length (report (fault_line fault ∷ []))) first)
+          (λ e. sym last_added ∙ t.stopped fault refl other e ∙ first),
     )
 
 listing_ends : (c : Command) (r : Result Numbers Fault) (result : ℕ) (file : List ℕ) (written : Option (List ℕ)) (source sink counts middle : Counts)
-    (told mid : Held) → WritesNowhere c → mid.new ≡ told.new →
-    IsListing c r file told.old mid.old → Lists r source counts middle told mid → TellsFault r result middle mid →
+    (told mid : Told) → WritesNowhere c → mid.new ≡ told.new → mid.now ≡ told.now →
+    IsListing c r file told mid → Lists r source counts middle told mid → TellsFault r result middle mid →
     EndsListing c file result written source sink told
-listing_ends c (Ok s) result file written source sink counts middle told mid w last l h t =
+listing_ends c (Ok s) result file written source sink counts middle told mid w last last_added l h t =
     let d = t.done s refl in (
       0,
       l.lines.0,
       inr (inr (inr (done [] l.lines.0, l.lines.1, refl, refl, whole_of c [] written written (sym (and_then-nothing written))))),
       done_is_caused source sink,
-      inl (d.0, sym last ∙ d.1 ∙ l.lines.2),
+      inl (d.0, sym last ∙ d.1 ∙ l.lines.2, sym last_added ∙ d.3 ∙ l.added (done [] l.lines.0) l.lines.1),
     )
-listing_ends c (Err Report) result file written source sink counts middle told mid w last l h t =
+listing_ends c (Err Report) result file written source sink counts middle told mid w last last_added l h t =
     let f = t.failed refl in
     let cut = l.cut_short refl in (
       0,
       cut.0,
       inr (inr (inr (done [] cut.0, cut.1, refl, refl, whole_of c [] written written (sym (and_then-nothing written))))),
       done_is_caused source sink,
-      inr (f.0, subst (λ w. IsCutShort told.old (report cut.0) w) (sym f.1 ∙ last) cut.2),
+      inr (
+        f.0,
+        subst (λ w. IsCutShort told.old (report cut.0) w) (sym f.1 ∙ last) cut.2,
+        subst (λ n. StopsAtALine cut.0 told.before n) (sym f.3 ∙ last_added) (l.stopped refl (done [] cut.0) cut.1),
+      ),
     )
-listing_ends c (Err Read) result file written source sink counts middle told mid w last l h t =
-    told_ends c Read result file written source sink counts middle told mid w tt last l h t
-listing_ends c (Err (Memory refused)) result file written source sink counts middle told mid w last l h t =
-    told_ends c (Memory refused) result file written source sink counts middle told mid w tt last l h t
-listing_ends c (Err (File fault)) result file written source sink counts middle told mid w last l h t =
-    told_ends c (File fault) result file written source sink counts middle told mid w tt last l h t
-listing_ends c (Err (Frame k fault)) result file written source sink counts middle told mid w last l h t =
-    told_ends c (Frame k fault) result file written source sink counts middle told mid w tt last l h t
-listing_ends c (Err Write) result file written source sink counts middle told mid w last l h t = absurd (h.no_write refl)
+listing_ends c (Err Read) result file written source sink counts middle told mid w last last_added l h t =
+    told_ends c Read result file written source sink counts middle told mid w tt last last_added l h t
+listing_ends c (Err (Memory refused)) result file written source sink counts middle told mid w last last_added l h t =
+    told_ends c (Memory refused) result file written source sink counts middle told mid w tt last last_added l h t
+listing_ends c (Err (File fault)) result file written source sink counts middle told mid w last last_added l h t =
+    told_ends c (File fault) result file written source sink counts middle told mid w tt last last_added l h t
+listing_ends c (Err (Frame k fault)) result file written source sink counts middle told mid w last last_added l h t =
+    told_ends c (Frame k fault) result file written source sink counts middle told mid w tt last last_added l h t
+listing_ends c (Err Write) result file written source sink counts middle told mid w last last_added l h t = absurd (h.no_write refl)
 
 -- ---- causes
 moved : (counts middle : Counts) → middle.before ≡ counts.before → middle.now ≡ counts.now → Rose middle.before middle.now → Rose counts.before counts.now
 moved counts middle a b rose = subst (λ m. Rose counts.before m) b (subst (λ m. Rose m middle.now) a rose)
 
-seven_has_cause : (r : Result Numbers Fault) (result : ℕ) (source counts middle : Counts) (told mid : Held) → middle.now ≡ counts.now →
+seven_has_cause : (r : Result Numbers Fault) (result : ℕ) (source counts middle : Counts) (told mid : Told) → middle.now ≡ counts.now →
     Lists r source counts middle told mid → TellsFault r result middle mid → result ≡ 7 → Rose counts.before counts.now
 seven_has_cause (Ok s) result source counts middle told mid last h t seven = let d = t.done s refl in absurd (omega (arith, d.0))
 seven_has_cause (Err Report) result source counts middle told mid last h t seven =
@@ -160,13 +173,13 @@ seven_has_cause (Err (Frame k fault)) result source counts middle told mid last 
 seven_has_cause (Err Write) result source counts middle told mid last h t seven = absurd (h.no_write refl)
 
 -- ---- a report that is sure to take the outcome's lines takes the line of a fault
-abbrev IsSure : Result Numbers Fault → Command → Option (List ℕ) → Held → Type 0
+abbrev IsSure : Result Numbers Fault → Command → Option (List ℕ) → Told → Type 0
 IsSure r c bytes told =
     r ≡ Err Report → (file : List ℕ) → bytes ≡ Some file → (o : Answer) → OutcomeOf c file o → (n : ℕ) → told.room ≡ Some n → length (report o.lines) ≤ n → ⊥
 
 fault_fits : (c : Command) (fault : Fault) (result n : ℕ) (file : List ℕ) (written : Option (List ℕ)) (o : Answer) (source counts middle : Counts)
-    (told mid : Held) → HasOutcome c → AreBytes file → IsTold fault →
-    OutcomeOf c file o → IsListing c (Err fault) file told.old mid.old → Lists (Err fault) source counts middle told mid →
+    (told mid : Told) → HasOutcome c → AreBytes file → IsTold fault →
+    OutcomeOf c file o → IsListing c (Err fault) file told mid → Lists (Err fault) source counts middle told mid →
     TellsFault (Err fault) result middle mid →
     DidNotRise source.before source.now → told.room ≡ Some n → 7 ≤ n → length (report o.lines) ≤ n → result ≡ 7 → ⊥
 fault_fits c Read result n file written o source counts middle told mid reads bytes h is l s t no_read room least fits seven = no_read (s.read refl)
@@ -186,8 +199,8 @@ fault_fits c Write result n file written o source counts middle told mid reads b
 fault_fits c Report result n file written o source counts middle told mid reads bytes h is l s t no_read room least fits seven = absurd h
 
 listing_fits : (c : Command) (r : Result Numbers Fault) (result n : ℕ) (bytes : Option (List ℕ)) (file : List ℕ) (written : Option (List ℕ))
-    (o : Answer) (source counts middle : Counts) (told mid : Held) → HasOutcome c → AreBytes file → bytes ≡ Some file →
-    OutcomeOf c file o → IsListing c r file told.old mid.old → Lists r source counts middle told mid → TellsFault r result middle mid → IsSure r c bytes told →
+    (o : Answer) (source counts middle : Counts) (told mid : Told) → HasOutcome c → AreBytes file → bytes ≡ Some file →
+    OutcomeOf c file o → IsListing c r file told mid → Lists r source counts middle told mid → TellsFault r result middle mid → IsSure r c bytes told →
     DidNotRise source.before source.now → told.room ≡ Some n → 7 ≤ n → length (report o.lines) ≤ n → result ≡ 7 → ⊥
 listing_fits c (Ok s) result n bytes file written o source counts middle told mid reads are e is l h t sure no_read room least fits seven = let d =
     t.done s refl in omega (arith, d.0)
@@ -218,18 +231,18 @@ at_most (Err (File fault)) result (inl e) = omega arith
 at_most (Err (Frame k fault)) result (inl e) = omega arith
 
 pub run_of_listing : (c : Command) (r : Result Numbers Fault) (result : ℕ) (bytes : Option (List ℕ)) (source sink counts middle given : Counts)
-    (written told mid : Held) (Same Settled Unread Kept Silent : Type 0) → HasOutcome c → WritesNowhere c → (ReadsNothing c → ⊥) →
+    (written : Held) (told mid : Told) (Same Settled Unread Kept Silent : Type 0) → HasOutcome c → WritesNowhere c → (ReadsNothing c → ⊥) →
     ((k : ℕ) → c ≡ frame k true → ⊥) →
     ((file : List ℕ) → bytes ≡ Some file → AreBytes file) → written.old ≡ written.new → Same → sink.before ≤ sink.now → Kept → mid.new ≡ told.new →
-    middle.now ≡ counts.now →
-    ((file : List ℕ) → bytes ≡ Some file → IsListing c r file told.old mid.old) → Lists r source counts middle told mid →
+    middle.now ≡ counts.now → mid.now ≡ told.now →
+    ((file : List ℕ) → bytes ≡ Some file → IsListing c r file told mid) → Lists r source counts middle told mid →
     TellsFault r result middle mid → IsSure r c bytes told →
     (c ≡ index → (file : List ℕ) → bytes ≡ Some file → (accepted file).frames ≡ 0 → (s : Numbers) → r ≡ Ok s → Silent) →
     IsRun c result bytes source sink counts given written told Same Settled Unread Kept Silent
 run_of_listing c r result bytes source sink counts middle given written told mid Same Settled Unread Kept Silent reads nowhere reading not_by_index are
-    still same later_sink kept last_told last_count listing h t sure silent = record {
+    still same later_sink kept last_told last_count last_added listing h t sure silent = record {
       ends = λ file e.
-          let ends = listing_ends c r result file written.old source sink counts middle told mid nowhere last_told (listing file e) h t in
+          let ends = listing_ends c r result file written.old source sink counts middle told mid nowhere last_told last_added (listing file e) h t in
           (ends.0, ends.1, subst (λ w. EndsBy (OutcomeOf c file) (Some c) file ⊤ ends.0 ends.1 written.old w) still ends.2, ends.3, ends.4);
       read = λ e. h.read (status_of_two r result t.reported e);
       write = λ e. absurd (h.no_write (status_is_write r (status_told (status_of r) result 3 t.reported e (omega arith))));

@@ -1,5 +1,6 @@
 -- What a run of words leaves, from what its command does.
-use Rattle.std.proofs.Common.{◌≡◌, ◌⊎◌, inl, inr, ℕ, ◌<◌, ◌≤◌, true, false, List, [], ◌∷◌, ◌++◌, Option, Some, None, refl, ap, sym, subst, ◌∙◌, arith}
+use Rattle.std.proofs.Common.{◌≡◌, ◌⊎◌, inl, inr, ℕ, ◌+◌, ◌<◌, ◌≤◌, true, false, List, [], ◌∷◌, ◌++◌, length, Option, Some, None, refl, ap}
+use Rattle.std.proofs.Common.{sym, subst, ◌∙◌, arith}
 use Rattle.std.specs.Prelude.{⊤}
 use Rattle.dst_spec.specs.declared.faults.FrameFault.{FrameFault}
 use Rattle.dst_streams.specs.Told.{and_then, IsCutShort}
@@ -14,8 +15,9 @@ use Rattle.dsdiff_spec.specs.Outcome.{Answer, not_understood, frame_refused, Non
 use Rattle.words_spec.specs.Outcome.{OfWords, Outcome}
 use Rattle.dsdiff_spec.proofs.Stopping.{not_both}
 use Rattle.dst_commands.specs.Commands.{OutcomeOf}
-use Rattle.dst_tool.specs.Runs.{DidNotRise, WholeOf, PartOf, EndsAsOne, EndsBy, EndsAs, Ends, Reports, IsRefused, NoFrameIsRefused, Counts, Held, IsRun}
-use Rattle.dst_tool.specs.Runs.{IsCaused}
+use Rattle.dst_tool.specs.Runs.{DidNotRise, WholeOf, PartOf, EndsAsOne, EndsBy, EndsAs, Ends, Reports, IsRefused, NoFrameIsRefused, Counts, Held}
+use Rattle.dst_tool.specs.Runs.{Told, IsRun, IsCaused}
+use Rattle.dst_read.proofs.LineByLine.{none_of_one}
 use Rattle.dst_commands.proofs.Writing.{and_then-nothing}
 
 -- ---- words and their command
@@ -59,7 +61,7 @@ Headline words file result old new told_old told_new = (result ≡ 4)
     ⊎ ((lines : List Line) × EndsAs words file result lines old new × (told_new ≡ and_then told_old (report lines)))
 
 pub run_headline : (words : List Word) (c : Command) (file : List ℕ) (result : ℕ) (bytes : Option (List ℕ)) (source sink counts given : Counts)
-    (written told : Held) (Same Settled Unread Kept Silent : Type 0) → command_of words ≡ Some c →
+    (written : Held) (told : Told) (Same Settled Unread Kept Silent : Type 0) → command_of words ≡ Some c →
     IsRun c result bytes source sink counts given written told Same Settled Unread Kept Silent → bytes ≡ Some file →
     DidNotRise source.before source.now → DidNotRise sink.before sink.now → DidNotRise counts.before counts.now →
     Headline words file result written.old written.new told.old told.new
@@ -67,12 +69,12 @@ run_headline words c file result bytes source sink counts given written told Sam
     go (r.ends file is).0 (r.ends file is).1 (r.ends file is).2 (r.ends file is).4
   where
     go : (status : ℕ) (lines : List Line) → EndsBy (OutcomeOf c file) (Some c) file ⊤ status lines written.old written.new →
-        Reports status lines result told.old told.new → Headline words file result written.old written.new told.old told.new
+        Reports status lines result told.old told.new told.before told.now → Headline words file result written.old written.new told.old told.new
     go status lines ends (inr (seven, piece)) = absurd (no_report (r.reported seven))
-    go status lines (inl (s, l, short)) (inl (same, w)) = absurd (no_read (r.read (same ∙ s)))
-    go status lines (inr (inl (s, l, short))) (inl (same, w)) = absurd (no_write (r.write (same ∙ s)))
-    go status lines (inr (inr (inl (s, l, free, still)))) (inl (same, w)) = inl (same ∙ s)
-    go status lines (inr (inr (inr h))) (inl (same, w)) =
+    go status lines (inl (s, l, short)) (inl (same, w, added)) = absurd (no_read (r.read (same ∙ s)))
+    go status lines (inr (inl (s, l, short))) (inl (same, w, added)) = absurd (no_write (r.write (same ∙ s)))
+    go status lines (inr (inr (inl (s, l, free, still)))) (inl (same, w, added)) = inl (same ∙ s)
+    go status lines (inr (inr (inr h))) (inl (same, w, added)) =
         inr (lines, subst (λ n. EndsAs words file n lines written.old written.new) (sym same) (as_one words c file status lines written.old written.new e h), w)
 
 -- a command that is done has status 0
@@ -110,20 +112,20 @@ refused_file c file o None e (inl s) five = let six = ap (λ (a : Answer). a.sta
 refused_file c file o None e (inr h) five = let zero_status = done_is_0 c file (accepted file) o h.1 in absurd (omega arith)
 
 pub run_refused : (words : List Word) (c : Command) (file : List ℕ) (result : ℕ) (bytes : Option (List ℕ)) (source sink counts given : Counts)
-    (written told : Held) (Same Settled Unread Kept Silent : Type 0) → command_of words ≡ Some c →
+    (written : Held) (told : Told) (Same Settled Unread Kept Silent : Type 0) → command_of words ≡ Some c →
     IsRun c result bytes source sink counts given written told Same Settled Unread Kept Silent → bytes ≡ Some file → result ≡ 5 →
     (fault : FileFault) × IsRefused words file fault × (told.new ≡ and_then told.old (report (file_line fault ∷ [])))
 run_refused words c file result bytes source sink counts given written told Same Settled Unread Kept Silent e r is five =
     go (r.ends file is).0 (r.ends file is).1 (r.ends file is).2 (r.ends file is).4
   where
     go : (status : ℕ) (lines : List Line) → EndsBy (OutcomeOf c file) (Some c) file ⊤ status lines written.old written.new →
-        Reports status lines result told.old told.new → (fault : FileFault) × IsRefused words file fault
+        Reports status lines result told.old told.new told.before told.now → (fault : FileFault) × IsRefused words file fault
         × (told.new ≡ and_then told.old (report (file_line fault ∷ [])))
     go status lines ends (inr (seven, piece)) = absurd (omega arith)
-    go status lines (inl (s, l, short)) (inl (same, w)) = absurd (omega arith)
-    go status lines (inr (inl (s, l, short))) (inl (same, w)) = absurd (omega arith)
-    go status lines (inr (inr (inl (s, l, free, still)))) (inl (same, w)) = absurd (omega arith)
-    go status lines (inr (inr (inr (o, outcome, s, l, still)))) (inl (same, w)) =
+    go status lines (inl (s, l, short)) (inl (same, w, added)) = absurd (omega arith)
+    go status lines (inr (inl (s, l, short))) (inl (same, w, added)) = absurd (omega arith)
+    go status lines (inr (inr (inl (s, l, free, still)))) (inl (same, w, added)) = absurd (omega arith)
+    go status lines (inr (inr (inr (o, outcome, s, l, still)))) (inl (same, w, added)) =
         let f = refused_file c file o (refusal c file) refl outcome (s ∙ sym same ∙ five) in
         (f.0, (c, e, f.1), w ∙ ap (λ ls. and_then told.old (report ls)) (sym l ∙ f.2))
 
@@ -160,25 +162,25 @@ whole_of_refused (encode_dsf level) file o None old new (inr h) six w =
 whole_of_refused decode_dsf file o r old new h six w = w
 whole_of_refused (range pairs) file o r old new h six w = w
 
-abbrev FrameIsTold : List Word → List ℕ → Held → Held → Type 0
+abbrev FrameIsTold : List Word → List ℕ → Held → Told → Type 0
 FrameIsTold words file written told =
     (k : ℕ) × (fault : FrameFault) × (out : List ℕ) × Outcome words file (frame_refused k fault out) × (written.new ≡ and_then written.old out)
     × (told.new ≡ and_then told.old (report (frame_fault_line k fault ∷ [])))
 
 pub run_refused_frame : (words : List Word) (c : Command) (file : List ℕ) (result : ℕ) (bytes : Option (List ℕ)) (source sink counts given : Counts)
-    (written told : Held) (Same Settled Unread Kept Silent : Type 0) → command_of words ≡ Some c →
+    (written : Held) (told : Told) (Same Settled Unread Kept Silent : Type 0) → command_of words ≡ Some c →
     IsRun c result bytes source sink counts given written told Same Settled Unread Kept Silent → bytes ≡ Some file → result ≡ 6 →
     FrameIsTold words file written told
 run_refused_frame words c file result bytes source sink counts given written told Same Settled Unread Kept Silent e r is six =
     go (r.ends file is).0 (r.ends file is).1 (r.ends file is).2 (r.ends file is).4
   where
     go : (status : ℕ) (lines : List Line) → EndsBy (OutcomeOf c file) (Some c) file ⊤ status lines written.old written.new →
-        Reports status lines result told.old told.new → FrameIsTold words file written told
+        Reports status lines result told.old told.new told.before told.now → FrameIsTold words file written told
     go status lines ends (inr (seven, piece)) = absurd (omega arith)
-    go status lines (inl (s, l, short)) (inl (same, w)) = absurd (omega arith)
-    go status lines (inr (inl (s, l, short))) (inl (same, w)) = absurd (omega arith)
-    go status lines (inr (inr (inl (s, l, free, still)))) (inl (same, w)) = absurd (omega arith)
-    go status lines (inr (inr (inr (o, outcome, s, l, still)))) (inl (same, w)) =
+    go status lines (inl (s, l, short)) (inl (same, w, added)) = absurd (omega arith)
+    go status lines (inr (inl (s, l, short))) (inl (same, w, added)) = absurd (omega arith)
+    go status lines (inr (inr (inl (s, l, free, still)))) (inl (same, w, added)) = absurd (omega arith)
+    go status lines (inr (inr (inr (o, outcome, s, l, still)))) (inl (same, w, added)) =
         let f = refused_frame c file o (refusal c file) outcome (s ∙ sym same ∙ six) in (
           f.0,
           f.1,
@@ -214,43 +216,47 @@ only_words_line words file o e h =
     let is : o ≡ not_understood = subst (λ r. OfWords r file o) e h in
     ap (λ (a : Answer). a.lines) is
 
-pub none_headline : (words : List Word) (file : List ℕ) (result : ℕ) (old new told_old told_new : Option (List ℕ)) → command_of words ≡ None → new ≡ old →
-    Reports 1 (words_line ∷ []) result told_old told_new → (result ≡ 7 → ⊥) → Headline words file result old new told_old told_new
-none_headline words file result old new told_old told_new e same (inl (is, told)) fine =
+pub none_headline : (words : List Word) (file : List ℕ) (result : ℕ) (old new told_old told_new : Option (List ℕ)) (before now : ℕ) →
+    command_of words ≡ None → new ≡ old → Reports 1 (words_line ∷ []) result told_old told_new before now → (result ≡ 7 → ⊥) →
+    Headline words file result old new told_old told_new
+none_headline words file result old new told_old told_new before now e same (inl (is, told, added)) fine =
     inr (words_line ∷ [], subst (λ status. EndsAs words file status (words_line ∷ []) old new) (sym is) (no_command words file old new e same), told)
-none_headline words file result old new told_old told_new e same (inr (is, piece)) fine = absurd (fine is)
+none_headline words file result old new told_old told_new before now e same (inr (is, piece)) fine = absurd (fine is)
 
 -- their status is 1, which no device has, or 7
-pub words_status : (result : ℕ) (old new : Option (List ℕ)) → Reports 1 (words_line ∷ []) result old new → (result ≡ 1) ⊎ (result ≡ 7)
-words_status result old new (inl (is, told)) = inl is
-words_status result old new (inr (is, piece)) = inr is
+pub words_status : (result : ℕ) (old new : Option (List ℕ)) (before now : ℕ) → Reports 1 (words_line ∷ []) result old new before now →
+    (result ≡ 1) ⊎ (result ≡ 7)
+words_status result old new before now (inl (is, told)) = inl is
+words_status result old new before now (inr (is, piece)) = inr is
 
 pub words_caused : (source_before source_now sink_before sink_now : ℕ) → IsCaused 1 source_before source_now sink_before sink_now
 words_caused source_before source_now sink_before sink_now = record { read = λ e. absurd (omega arith); write = λ e. absurd (omega arith) }
 
-pub at_most_seven : (result : ℕ) (old new : Option (List ℕ)) → Reports 1 (words_line ∷ []) result old new → result ≤ 7
-at_most_seven result old new (inl (is, told)) = omega arith
-at_most_seven result old new (inr (is, piece)) = omega arith
+pub at_most_seven : (result : ℕ) (old new : Option (List ℕ)) (before now : ℕ) → Reports 1 (words_line ∷ []) result old new before now → result ≤ 7
+at_most_seven result old new before now (inl (is, told)) = omega arith
+at_most_seven result old new before now (inr (is, piece)) = omega arith
 
-not_of_words : (status result : ℕ) (old new : Option (List ℕ)) → Reports 1 (words_line ∷ []) result old new → result ≡ status →
-    1 < status → status < 7 → ⊥
-not_of_words status result old new (inl (is, told)) same least most = omega arith
-not_of_words status result old new (inr (is, piece)) same least most = omega arith
+not_of_words : (status result : ℕ) (old new : Option (List ℕ)) (before now : ℕ) → Reports 1 (words_line ∷ []) result old new before now →
+    result ≡ status → 1 < status → status < 7 → ⊥
+not_of_words status result old new before now (inl (is, told)) same least most = omega arith
+not_of_words status result old new before now (inr (is, piece)) same least most = omega arith
 
 -- each other status is that of a command
-pub by_status : {P : Type 0} (words : List Word) (status result : ℕ) (old new : Option (List ℕ)) →
-    (command_of words ≡ None → Reports 1 (words_line ∷ []) result old new) → result ≡ status → 1 < status → status < 7 →
+pub by_status : {P : Type 0} (words : List Word) (status result : ℕ) (old new : Option (List ℕ)) (before now : ℕ) →
+    (command_of words ≡ None → Reports 1 (words_line ∷ []) result old new before now) → result ≡ status → 1 < status → status < 7 →
     ((c : Command) → command_of words ≡ Some c → P) → P
-by_status words status result old new refused same least most some =
-    by_words words (λ none. absurd (not_of_words status result old new (refused none) same least most)) some
+by_status words status result old new before now refused same least most some =
+    by_words words (λ none. absurd (not_of_words status result old new before now (refused none) same least most)) some
 
 -- a device that is what it was has failed no less often
 pub no_fewer : (now before : ℕ) → now ≡ before → before ≤ now
 no_fewer now before e = omega arith
 
 -- the line is reported, or the report failed
-pub reported : (status result : ℕ) (line : Line) (bytes : List ℕ) (old new : Option (List ℕ)) → bytes ≡ report (line ∷ []) →
+pub reported : (status result : ℕ) (line : Line) (bytes : List ℕ) (old new : Option (List ℕ)) (before now : ℕ) → bytes ≡ report (line ∷ []) →
     (result ≡ status) ⊎ (result ≡ 7) → (result ≡ status → new ≡ and_then old bytes) → (result ≡ 7 → IsCutShort old bytes new) →
-    Reports status (line ∷ []) result old new
-reported status result line bytes old new b (inl e) whole short = inl (e, whole e ∙ ap (and_then old) b)
-reported status result line bytes old new b (inr e) whole short = inr (e, subst (λ w. IsCutShort old w new) b (short e))
+    (result ≡ status → now ≡ before + length bytes) → (result ≡ 7 → now ≡ before) → Reports status (line ∷ []) result old new before now
+reported status result line bytes old new before now b (inl e) whole short added stopped =
+    inl (e, whole e ∙ ap (and_then old) b, added e ∙ ap (λ (w : List ℕ). before + length w) b)
+reported status result line bytes old new before now b (inr e) whole short added stopped =
+    inr (e, subst (λ w. IsCutShort old w new) b (short e), none_of_one line before now (stopped e))

@@ -13,6 +13,7 @@ use Rattle.dsdiff_spec.specs.Outcome.{Answer, NoneRefused, run}
 use Rattle.words_spec.specs.Outcome.{Outcome}
 use Rattle.dsdiff_spec.specs.declared.faults.FileFault.{FileFault}
 use Rattle.dst_commands.specs.Commands.{OutcomeOf}
+use Rattle.dst_read.specs.LineByLine.{AddsLines, StopsAtALine}
 use Rattle.dst_ranges.specs.Asked.{groups_asked}
 use Rattle.dst_write.specs.Unfinished.{HoldsNothing, HoldsUnfinished, sound_size_place}
 
@@ -65,10 +66,12 @@ pub record IsCaused (status source_before source_now sink_before sink_now : ℕ)
   pub read : status ≡ 2 → Rose source_before source_now
   pub write : status ≡ 3 → Rose sink_before sink_now
 
--- the lines are reported, or the report failed at them and the status is 7
-abbrev pub Reports : ℕ → List Line → ℕ → Option (List ℕ) → Option (List ℕ) → Type 0
-Reports status lines result old new =
-    ((result ≡ status) × (new ≡ and_then old (report lines))) ⊎ ((result ≡ 7) × IsCutShort old (report lines) new)
+-- The lines are reported, each appended whole by one call; or the report failed at one of them, and the status is 7. So many bytes were
+-- appended by calls that succeeded, before and now.
+abbrev pub Reports : ℕ → List Line → ℕ → Option (List ℕ) → Option (List ℕ) → (before now : ℕ) → Type 0
+Reports status lines result old new before now =
+    ((result ≡ status) × (new ≡ and_then old (report lines)) × AddsLines lines before now)
+    ⊎ ((result ≡ 7) × IsCutShort old (report lines) new × StopsAtALine lines before now)
 
 -- the words are a command that refuses the file by this fault
 abbrev pub IsRefused : List Word → List ℕ → FileFault → Type 0
@@ -137,13 +140,21 @@ pub record Held : Type 0 where
   pub new : Option (List ℕ)
   pub room : Option ℕ
 
+-- a report, and how many bytes were appended to it by calls that succeeded, before and now
+pub record Told : Type 0 where
+  pub old : Option (List ℕ)
+  pub new : Option (List ℕ)
+  pub room : Option ℕ
+  pub before : ℕ
+  pub now : ℕ
+
 -- What one command leaves over a source that may tell its bytes: `Same` says that the sink is what it was, `Settled` that all it holds is
 -- where it keeps it for good, `Unread` that the source is what it was, `Kept` that its bytes are, and `Silent` that the report is what it was.
-pub record IsRun (c : Command) (status : ℕ) (bytes : Option (List ℕ)) (source sink report_counts given : Counts) (written told : Held)
-    (Same Settled Unread Kept Silent : Type 0) : Type 0 where
+pub record IsRun (c : Command) (status : ℕ) (bytes : Option (List ℕ)) (source sink report_counts given : Counts) (written : Held)
+    (told : Told) (Same Settled Unread Kept Silent : Type 0) : Type 0 where
   pub ends : (file : List ℕ) → bytes ≡ Some file →
       (wanted : ℕ) × (lines : List Line) × EndsBy (OutcomeOf c file) (Some c) file ⊤ wanted lines written.old written.new
-      × IsCaused wanted source.before source.now sink.before sink.now × Reports wanted lines status told.old told.new
+      × IsCaused wanted source.before source.now sink.before sink.now × Reports wanted lines status told.old told.new told.before told.now
   pub read : status ≡ 2 → Rose source.before source.now
   pub write : status ≡ 3 → Rose sink.before sink.now
   pub reported : status ≡ 7 → Rose report_counts.before report_counts.now
@@ -164,7 +175,7 @@ pub record IsRun (c : Command) (status : ℕ) (bytes : Option (List ℕ)) (sourc
   pub unread : ReadsNothing c → Unread
   pub made : ReadsNothing c →
       (wanted : ℕ) × (lines : List Line) × EndsBy (OutcomeOf c []) (Some c) [] ⊤ wanted lines written.old written.new
-      × IsCaused wanted source.before source.now sink.before sink.now × Reports wanted lines status told.old told.new
+      × IsCaused wanted source.before source.now sink.before sink.now × Reports wanted lines status told.old told.new told.before told.now
   pub no_file : ReadsNothing c → (status ≢ 2) × (status ≢ 5) × (status ≢ 6)
   pub settled : WritesFile c → status ≡ 0 → Settled
   pub by_index : (k : ℕ) → c ≡ frame k true → (file : List ℕ) → bytes ≡ Some file → given.now ≤ given.before + most_given (sound_bytes_of (accepted file))

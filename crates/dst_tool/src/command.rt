@@ -1,11 +1,12 @@
 // One command, run over its devices, and its lines reported.
-ghost use Rattle.std.specs.Prelude.{◌≡◌, ◌≢◌, ◌⊎◌, ◌<◌, ◌≤◌, ℕ, [], ◌∷◌, length, true, Some, Err, Ok};
+ghost use Rattle.std.specs.Prelude.{◌≡◌, ◌≢◌, ◌⊎◌, ◌+◌, ◌<◌, ◌≤◌, ℕ, [], ◌∷◌, length, true, Some, Err, Ok};
 ghost use Rattle.dst_streams.specs.Causes.{Rose};
 ghost use Rattle.dst_streams.specs.Told.{IsCutShort, and_then};
 ghost use Rattle.dsdiff_spec.specs.Lines as reports;
 ghost use Rattle.dst_words.specs.Commands.{command_seen, NumbersAreLawful};
 ghost use Rattle.dst_tool.specs.Answers.{status_of, done_line, fault_line, line_of, TellsOneLine};
-ghost use Rattle.dst_tool.specs.Runs.{IsRun, Counts, Held, ReadsAndWrites};
+ghost use Rattle.dst_read.specs.LineByLine.{AddsLines};
+ghost use Rattle.dst_tool.specs.Runs.{IsRun, Counts, Held, Told, ReadsAndWrites};
 
 use crate::answers::{
     Fault, Numbers, checked, cut_out, decoded, encoded, frame_written, listed, made, ran,
@@ -44,7 +45,7 @@ pub(crate) fn run_command<E: Threads + Sync, S: Source, K: Sink, R: Sink, G: Gat
         (record { before = S.faults source.old; now = S.faults source.new }) (record { before = K.faults sink.old; now = K.faults sink.new })
         (record { before = R.faults report.old; now = R.faults report.new }) (record { before = S.given source.old; now = S.given source.new })
         (record { old = K.written sink.old; new = K.written sink.new; room = K.room sink.old })
-        (record { old = R.written report.old; new = R.written report.new; room = R.room report.old })
+        (record { old = R.written report.old; new = R.written report.new; room = R.room report.old; before = R.appended report.old; now = R.appended report.new })
         (sink.new ≡ sink.old) (K.settled sink.new ≡ true) (source.new ≡ source.old) (S.bytes source.new ≡ S.bytes source.old) (report.new ≡ report.old) }
 {
     match command {
@@ -103,7 +104,7 @@ fn run_on_files<E: Threads + Sync, S: Source, K: Sink, R: Sink, G: Gate>(
         (record { before = S.faults source.old; now = S.faults source.new }) (record { before = K.faults sink.old; now = K.faults sink.new })
         (record { before = R.faults report.old; now = R.faults report.new }) (record { before = S.given source.old; now = S.given source.new })
         (record { old = K.written sink.old; new = K.written sink.new; room = K.room sink.old })
-        (record { old = R.written report.old; new = R.written report.new; room = R.room report.old })
+        (record { old = R.written report.old; new = R.written report.new; room = R.room report.old; before = R.appended report.old; now = R.appended report.new })
         (sink.new ≡ sink.old) (K.settled sink.new ≡ true) (source.new ≡ source.old) (S.bytes source.new ≡ S.bytes source.old) (report.new ≡ report.old) }
 {
     match command {
@@ -159,6 +160,8 @@ fn tell<R: Sink>(report: &mut R, command: Command, answer: Result<Numbers, Fault
     ensures reported { (result ≡ status_of answer) ⊎ (result ≡ 7) }
     ensures whole { result ≡ status_of answer → R.written report.new ≡ and_then (R.written report.old) (reports.report (line_of (command_seen command) answer ∷ [])) }
     ensures cut_short { result ≡ 7 → IsCutShort (R.written report.old) (reports.report (line_of (command_seen command) answer ∷ [])) (R.written report.new) }
+    ensures added { result ≡ status_of answer → AddsLines (line_of (command_seen command) answer ∷ []) (R.appended report.old) (R.appended report.new) }
+    ensures stopped { result ≡ 7 → R.appended report.new ≡ R.appended report.old }
     ensures cause { result ≡ 7 → Rose (R.faults report.old) (R.faults report.new) }
     ensures later { R.faults report.old ≤ R.faults report.new }
     ensures sure { result ≡ 7 → (room : ℕ) → R.room report.old ≡ Some room → length (reports.report (line_of (command_seen command) answer ∷ [])) ≤ room → ⊥ }
@@ -181,6 +184,9 @@ fn tell_fault<R: Sink>(report: &mut R, answer: Result<Numbers, Fault>) -> u8
         → R.written report.new ≡ and_then (R.written report.old) (reports.report (fault_line fault ∷ [])) }
     ensures cut_short { (fault : Fault) → answer ≡ Err fault → (fault ≢ Fault.Report) → result ≡ 7
         → IsCutShort (R.written report.old) (reports.report (fault_line fault ∷ [])) (R.written report.new) }
+    ensures added { (fault : Fault) → answer ≡ Err fault → (fault ≢ Fault.Report) → result ≡ status_of answer
+        → AddsLines (fault_line fault ∷ []) (R.appended report.old) (R.appended report.new) }
+    ensures stopped { (fault : Fault) → answer ≡ Err fault → (fault ≢ Fault.Report) → result ≡ 7 → R.appended report.new ≡ R.appended report.old }
     ensures cause { (fault : Fault) → answer ≡ Err fault → (fault ≢ Fault.Report) → result ≡ 7 → Rose (R.faults report.old) (R.faults report.new) }
     ensures later { R.faults report.old ≤ R.faults report.new }
     ensures sure { (fault : Fault) → answer ≡ Err fault → (fault ≢ Fault.Report) → result ≡ 7
@@ -242,6 +248,8 @@ pub(crate) fn report_line<R: Sink>(report: &mut R, status: u8, line: lines::Line
     ensures reported { (result ≡ status) ⊎ (result ≡ 7) }
     ensures whole { result ≡ status → R.written report.new ≡ and_then (R.written report.old) line.bytes }
     ensures cut_short { result ≡ 7 → IsCutShort (R.written report.old) line.bytes (R.written report.new) }
+    ensures added { result ≡ status → R.appended report.new ≡ R.appended report.old + length line.bytes }
+    ensures stopped { result ≡ 7 → R.appended report.new ≡ R.appended report.old }
     ensures cause { result ≡ 7 → Rose (R.faults report.old) (R.faults report.new) }
     ensures later { R.faults report.old ≤ R.faults report.new }
     ensures sure { result ≡ 7 → (room : ℕ) → R.room report.old ≡ Some room → length line.bytes ≤ room → ⊥ }

@@ -43,11 +43,12 @@ pub fn dst_run<E: Threads + Sync, S: Source, K: Sink, R: Sink>(
         DidNotRise (S.faults source.old) (S.faults source.new) → DidNotRise (K.faults sink.old) (K.faults sink.new) → DidNotRise (R.faults report.old) (R.faults report.new) →
         (result ≡ 0) ⊎ (result ≡ 4) }
     // What sink and report hold behind each status; 7 comes where the lines of another one failed, and a fault of source or
-    // sink behind it has its cause too.
+    // sink behind it has its cause too. Each line is added whole, by one call: what calls that succeeded appended is all of the
+    // lines, or behind 7 the first few of them whole.
     ensures ends { (file : List ℕ) → S.bytes source.old ≡ Some file →
         (status : ℕ) × (lines : List reports.Line) × Ends (map string_bytes words.now) file status lines (K.written sink.old) (K.written sink.new)
         × IsCaused status (S.faults source.old) (S.faults source.new) (K.faults sink.old) (K.faults sink.new)
-        × Reports status lines result (R.written report.old) (R.written report.new) }
+        × Reports status lines result (R.written report.old) (R.written report.new) (R.appended report.old) (R.appended report.new) }
     // Words are refused by themselves, and touch nothing.
     ensures words { command_of (map string_bytes words.now) ≡ None → (result ≡ 1) ⊎ (result ≡ 7) }
     ensures only_words { result ≡ 1 → command_of (map string_bytes words.now) ≡ None }
@@ -61,7 +62,7 @@ pub fn dst_run<E: Threads + Sync, S: Source, K: Sink, R: Sink>(
     ensures made { (c : asked.Command) → command_of (map string_bytes words.now) ≡ Some c → ReadsNothing c →
         (status : ℕ) × (lines : List reports.Line) × Ends (map string_bytes words.now) [] status lines (K.written sink.old) (K.written sink.new)
         × IsCaused status (S.faults source.old) (S.faults source.new) (K.faults sink.old) (K.faults sink.new)
-        × Reports status lines result (R.written report.old) (R.written report.new) }
+        × Reports status lines result (R.written report.old) (R.written report.new) (R.appended report.old) (R.appended report.new) }
     ensures no_file { (c : asked.Command) → command_of (map string_bytes words.now) ≡ Some c → ReadsNothing c → (result ≢ 2) × (result ≢ 5) × (result ≢ 6) }
     // What a done command has written is where the sink keeps it for good: of a real file, on its disk.
     ensures settled { (c : asked.Command) → command_of (map string_bytes words.now) ≡ Some c → WritesFile c → result ≡ 0 → K.settled sink.new ≡ true }

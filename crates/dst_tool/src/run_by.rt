@@ -5,7 +5,7 @@ ghost use Rattle.dst_streams.specs.Causes.{Rose};
 ghost use Rattle.dsdiff_spec.specs.Lines as reports;
 ghost use Rattle.dsdiff_spec.specs.Words as asked;
 ghost use Rattle.words_spec.specs.Rows.{command_of};
-ghost use Rattle.dst_tool.specs.Runs.{Counts, Held, IsRun, Reports};
+ghost use Rattle.dst_tool.specs.Runs.{Counts, Held, Told, IsRun, Reports};
 
 use crate::command::{report_line, run_command};
 use dst_lines::lines;
@@ -33,12 +33,12 @@ pub fn dst_run_by<E: Threads + Sync, S: Source, K: Sink, R: Sink, G: Gate>(
         (record { before = S.faults source.old; now = S.faults source.new }) (record { before = K.faults sink.old; now = K.faults sink.new })
         (record { before = R.faults report.old; now = R.faults report.new }) (record { before = S.given source.old; now = S.given source.new })
         (record { old = K.written sink.old; new = K.written sink.new; room = K.room sink.old })
-        (record { old = R.written report.old; new = R.written report.new; room = R.room report.old })
+        (record { old = R.written report.old; new = R.written report.new; room = R.room report.old; before = R.appended report.old; now = R.appended report.new })
         (sink.new ≡ sink.old) (K.settled sink.new ≡ true) (source.new ≡ source.old) (S.bytes source.new ≡ S.bytes source.old) (report.new ≡ report.old) }
     // Others touch neither source nor sink, and have a line of their own.
     ensures untouched { command_of (map string_bytes words.now) ≡ None → (source.new ≡ source.old) × (sink.new ≡ sink.old) }
     ensures words { command_of (map string_bytes words.now) ≡ None →
-        Reports 1 (reports.words_line ∷ []) result (R.written report.old) (R.written report.new) }
+        Reports 1 (reports.words_line ∷ []) result (R.written report.old) (R.written report.new) (R.appended report.old) (R.appended report.new) }
     ensures reported { result ≡ 7 → Rose (R.faults report.old) (R.faults report.new) }
     ensures later { R.faults report.old ≤ R.faults report.new }
     ensures sure { command_of (map string_bytes words.now) ≡ None → result ≡ 7 →

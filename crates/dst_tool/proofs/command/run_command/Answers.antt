@@ -5,7 +5,7 @@ use Rattle.std.specs.declared.alloc.AllocError.{AllocError}
 use Rattle.dst_streams.specs.Told.{and_then}
 use Rattle.dsdiff_spec.specs.Words as asked
 use Rattle.dsdiff_spec.specs.Rules.{accepted}
-use Rattle.dsdiff_spec.specs.Outcome.{done, coded_at}
+use Rattle.dsdiff_spec.specs.Outcome.{Answer, done, coded_at}
 use Rattle.dsdiff_spec.specs.Lines.{Line, report, check_line, made_line}
 use Rattle.dsdiff_spec.proofs.Stopping.{One}
 use Rattle.dsdiff_spec.proofs.OneAnswer.{command_has_one_outcome}
@@ -18,6 +18,7 @@ use Rattle.dst_tool.proofs.OneLine.{IsAnswer, few_given, most_for_any, TellsLine
 use Rattle.dst_tool.proofs.OneLine.{finished_alone, cut_or_nothing, encoding_is_no_frame, decoding_is_no_frame, encoding_dsf_is_no_frame}
 use Rattle.dst_tool.proofs.OneLine.{decoding_dsf_is_no_frame, cutting_is_no_frame, making_is_no_frame, running_is_no_frame, checking_is_no_frame}
 use Rattle.dst_tool.proofs.OneLine.{showing_is_no_frame, showing_one_is_no_frame, listing_is_no_frame}
+use Rattle.dst_read.specs.LineByLine.{AddsLines}
 use Rattle.dst_read.specs.declared.faults.DecodeFault.{DecodeFault}
 use Rattle.dst_read.specs.declared.faults.DecodeFault.TheVariants as decoding
 use Rattle.dst_make.specs.declared.make.MakeFault.TheVariants as making
@@ -106,8 +107,23 @@ returns-in-Check g c =
     })
     (subst (λ q. TellsLine (status_of r) (line_of q r) c.tell.result
     (record { before = g.R.Sink.faults c.args.report.now; now = g.R.Sink.faults c.tell.new.report })
-    (record { old = g.R.Sink.written c.args.report.now; new = g.R.Sink.written c.tell.new.report; room = g.R.Sink.room c.args.report.now }))
-    same (record { reported = t.reported; whole = t.whole; cut_short = t.cut_short; cause = t.cause; later = t.later; sure = t.sure })))
+    (record {
+      old = g.R.Sink.written c.args.report.now;
+      new = g.R.Sink.written c.tell.new.report;
+      room = g.R.Sink.room c.args.report.now;
+      before = g.R.Sink.appended c.args.report.now;
+      now = g.R.Sink.appended c.tell.new.report;
+    }))
+    same (record {
+      reported = t.reported;
+      whole = t.whole;
+      cut_short = t.cut_short;
+      added = t.added;
+      stopped = t.stopped;
+      cause = t.cause;
+      later = t.later;
+      sure = t.sure;
+    })))
 
 pub returns-in-Make : goal.returns-in-Make
 returns-in-Make g c =
@@ -167,7 +183,16 @@ returns-in-Make g c =
       any_source = λ k h. absurd (making_is_no_frame start frames _ _ k h);
       no_report = λ h. other Report (λ q. absurd cc) (λ x q. absurd cc) h;
     })
-    (record { reported = t.reported; whole = t.whole; cut_short = t.cut_short; cause = t.cause; later = t.later; sure = t.sure }))
+    (record {
+      reported = t.reported;
+      whole = t.whole;
+      cut_short = t.cut_short;
+      added = t.added;
+      stopped = t.stopped;
+      cause = t.cause;
+      later = t.later;
+      sure = t.sure;
+    }))
   where
     when_ok : {A E : Type 0} (d : Result A E) (P : Type 0) → IfOk d (λ a. P) → OnOk d P
     when_ok (Ok a) P p = p
@@ -225,7 +250,16 @@ returns-in-MakeRun g c =
       any_source = λ k h. absurd (running_is_no_frame start frames _ _ k h);
       no_report = λ h. other Report (λ x q. absurd cc) h;
     })
-    (record { reported = t.reported; whole = t.whole; cut_short = t.cut_short; cause = t.cause; later = t.later; sure = t.sure }))
+    (record {
+      reported = t.reported;
+      whole = t.whole;
+      cut_short = t.cut_short;
+      added = t.added;
+      stopped = t.stopped;
+      cause = t.cause;
+      later = t.later;
+      sure = t.sure;
+    }))
 
 -- ---- commands that report their lines themselves
 showing_is_no_listing : asked.show ≡ asked.index → ⊥
@@ -239,6 +273,16 @@ silent_listing : (d : Result Reported ListFault) (bytes : Option (List ℕ)) (fi
     IfOk d (λ s. (xs : List ℕ) → bytes ≡ Some xs → s.frames ≡ (accepted xs).frames) → IfOk d (λ s. s.frames ≡ 0 → Q) → OnOk d Q
 silent_listing (Ok s) bytes file Q told none frames silent = silent (frames file told ∙ none)
 silent_listing (Err fault) bytes file Q told none frames silent = tt {0}
+
+-- what is done has appended each line by one call
+added_lines : {A E : Type 0} (f : A → Numbers) (h : E → Fault) (d : Result A E) (r : Result Numbers Fault) (c : asked.Command) (bytes : Option (List ℕ))
+    (file : List ℕ) (before now : ℕ) → r ≡ answered f h d → bytes ≡ Some file →
+    IfOk d (λ s. (file : List ℕ) → bytes ≡ Some file → (o : Answer) → OutcomeOf c file o → AddsLines o.lines before now) →
+    IfOk r (λ s. (o : Answer) → OutcomeOf c file o → AddsLines o.lines before now)
+added_lines f h d r c bytes file before now is told e =
+    subst (λ r. IfOk r (λ s. (o : Answer) → OutcomeOf c file o → AddsLines o.lines before now)) (sym is)
+    (if_answered f h d (λ s. (o : Answer) → OutcomeOf c file o → AddsLines o.lines before now)
+    (at_file d (λ s file. (o : Answer) → OutcomeOf c file o → AddsLines o.lines before now) bytes file told e))
 
 pub returns-in-Show : goal.returns-in-Show
 returns-in-Show g c =
@@ -257,10 +301,11 @@ returns-in-Show g c =
     (record {
       old = g.R.Sink.written c.show_file-answer.new.report;
       new = g.R.Sink.written c.tell_fault.new.report;
-      room =
-          g.R.Sink.room c.show_file-answer.new.report;
+      room = g.R.Sink.room c.show_file-answer.new.report;
+      before = g.R.Sink.appended c.show_file-answer.new.report;
+      now = g.R.Sink.appended c.tell_fault.new.report;
     }) _ _ _ _ _ tt tt (λ w. w) (λ k h. showing_is_no_frame k h)
-    (λ file told. g.met.S.Source.told_are_bytes c.args.source.now file told) refl refl (at_most_itself _) e.bytes refl refl
+    (λ file told. g.met.S.Source.told_are_bytes c.args.source.now file told) refl refl (at_most_itself _) e.bytes refl refl refl
     (λ file told. record {
       lines = subst (λ r. IfOk r (λ s. (lines : List Line) × OutcomeOf asks file (done [] lines)
           × (g.R.Sink.written c.show_file-answer.new.report ≡ and_then (g.R.Sink.written c.args.report.now) (report lines)))) (sym is)
@@ -271,6 +316,8 @@ returns-in-Show g c =
       frame_is = λ k fault h. e.frame k fault (back (Frame k fault) h) file told;
       some = let one = command_has_one_outcome asks file tt (g.met.S.Source.told_are_bytes c.args.source.now file told) in (one.0, one.1);
       cut_short = λ h. e.cut_short (back Report h) file told;
+      added = added_lines of_reported of_show d r asks bytes file _ _ is told e.added;
+      stopped = λ h. e.stopped (back Report h) file told;
     })
     (record {
       later = e.later;
@@ -279,14 +326,17 @@ returns-in-Show g c =
       reported = λ h. e.reported (back Report h);
       untouched = λ fault h other. let still =
           e.untouched (to_show fault) (back fault h)
-          (λ same. other_report fault other h same) in (ap g.R.Sink.written still, ap g.R.Sink.room still, ap g.R.Sink.faults still);
+          (λ same. other_report fault other h same) in
+          (ap g.R.Sink.written still, ap g.R.Sink.room still, ap g.R.Sink.faults still, ap g.R.Sink.appended still);
     })
     (record {
       reported = t.reported;
-      done = λ s h. let d = t.done s h in (d.0, ap g.R.Sink.written d.1, ap g.R.Sink.faults d.1);
-      failed = λ h. let f = t.failed h in (f.0, ap g.R.Sink.written f.1, ap g.R.Sink.faults f.1);
+      done = λ s h. let d = t.done s h in (d.0, ap g.R.Sink.written d.1, ap g.R.Sink.faults d.1, ap g.R.Sink.appended d.1);
+      failed = λ h. let f = t.failed h in (f.0, ap g.R.Sink.written f.1, ap g.R.Sink.faults f.1, ap g.R.Sink.appended f.1);
       whole = t.whole;
       cut_short = t.cut_short;
+      added = t.added;
+      stopped = t.stopped;
       cause = t.cause;
       later = t.later;
       sure = t.sure;
@@ -319,10 +369,11 @@ returns-in-ShowFrame g c =
     (record {
       old = g.R.Sink.written c.show_file-answer-in-ShowFrame.new.report;
       new = g.R.Sink.written c.tell_fault-in-ShowFrame.new.report;
-      room =
-          g.R.Sink.room c.show_file-answer-in-ShowFrame.new.report;
+      room = g.R.Sink.room c.show_file-answer-in-ShowFrame.new.report;
+      before = g.R.Sink.appended c.show_file-answer-in-ShowFrame.new.report;
+      now = g.R.Sink.appended c.tell_fault-in-ShowFrame.new.report;
     }) _ _ _ _ _ tt tt (λ w. w) (λ k h. showing_one_is_no_frame c.in-ShowFrame.frame k h)
-    (λ file told. g.met.S.Source.told_are_bytes c.args.source.now file told) refl refl (at_most_itself _) e.bytes refl refl
+    (λ file told. g.met.S.Source.told_are_bytes c.args.source.now file told) refl refl (at_most_itself _) e.bytes refl refl refl
     (λ file told. record {
       lines = subst (λ r. IfOk r (λ s. (lines : List Line) × OutcomeOf asks file (done [] lines)
           × (g.R.Sink.written c.show_file-answer-in-ShowFrame.new.report ≡ and_then (g.R.Sink.written c.args.report.now) (report lines)))) (sym is)
@@ -334,6 +385,8 @@ returns-in-ShowFrame g c =
       frame_is = λ k fault h. e.frame k fault (back (Frame k fault) h) file told;
       some = let one = command_has_one_outcome asks file tt (g.met.S.Source.told_are_bytes c.args.source.now file told) in (one.0, one.1);
       cut_short = λ h. e.cut_short (back Report h) file told;
+      added = added_lines of_reported of_show d r asks bytes file _ _ is told e.added;
+      stopped = λ h. e.stopped (back Report h) file told;
     })
     (record {
       later = e.later;
@@ -342,14 +395,17 @@ returns-in-ShowFrame g c =
       reported = λ h. e.reported (back Report h);
       untouched = λ fault h other. let still =
           e.untouched (to_show fault) (back fault h)
-          (λ same. other_report fault other h same) in (ap g.R.Sink.written still, ap g.R.Sink.room still, ap g.R.Sink.faults still);
+          (λ same. other_report fault other h same) in
+          (ap g.R.Sink.written still, ap g.R.Sink.room still, ap g.R.Sink.faults still, ap g.R.Sink.appended still);
     })
     (record {
       reported = t.reported;
-      done = λ s h. let d = t.done s h in (d.0, ap g.R.Sink.written d.1, ap g.R.Sink.faults d.1);
-      failed = λ h. let f = t.failed h in (f.0, ap g.R.Sink.written f.1, ap g.R.Sink.faults f.1);
+      done = λ s h. let d = t.done s h in (d.0, ap g.R.Sink.written d.1, ap g.R.Sink.faults d.1, ap g.R.Sink.appended d.1);
+      failed = λ h. let f = t.failed h in (f.0, ap g.R.Sink.written f.1, ap g.R.Sink.faults f.1, ap g.R.Sink.appended f.1);
       whole = t.whole;
       cut_short = t.cut_short;
+      added = t.added;
+      stopped = t.stopped;
       cause = t.cause;
       later = t.later;
       sure = t.sure;
@@ -382,10 +438,11 @@ returns-in-Index g c =
     (record {
       old = g.R.Sink.written c.index_file-answer.new.report;
       new = g.R.Sink.written c.tell_fault-in-Index.new.report;
-      room =
-          g.R.Sink.room c.index_file-answer.new.report;
+      room = g.R.Sink.room c.index_file-answer.new.report;
+      before = g.R.Sink.appended c.index_file-answer.new.report;
+      now = g.R.Sink.appended c.tell_fault-in-Index.new.report;
     }) _ _ _ _ _ tt tt (λ w. w) (λ k h. listing_is_no_frame k h)
-    (λ file told. g.met.S.Source.told_are_bytes c.args.source.now file told) refl refl (at_most_itself _) e.bytes refl refl
+    (λ file told. g.met.S.Source.told_are_bytes c.args.source.now file told) refl refl (at_most_itself _) e.bytes refl refl refl
     (λ file told. record {
       lines = subst (λ r. IfOk r (λ s. (lines : List Line) × OutcomeOf asks file (done [] lines)
           × (g.R.Sink.written c.index_file-answer.new.report ≡ and_then (g.R.Sink.written c.args.report.now) (report lines)))) (sym is)
@@ -396,6 +453,8 @@ returns-in-Index g c =
       frame_is = λ k fault h. absurd (list_refuses of_reported d k fault (sym is ∙ h));
       some = let one = command_has_one_outcome asks file tt (g.met.S.Source.told_are_bytes c.args.source.now file told) in (one.0, one.1);
       cut_short = λ h. e.cut_short (back Report h) file told;
+      added = added_lines of_reported of_list d r asks bytes file _ _ is told e.added;
+      stopped = λ h. e.stopped (back Report h) file told;
     })
     (record {
       later = e.later;
@@ -404,14 +463,17 @@ returns-in-Index g c =
       reported = λ h. e.reported (back Report h);
       untouched = λ fault h other. let still =
           e.untouched (to_list fault) (back fault h)
-          (λ same. other_report fault other h same) in (ap g.R.Sink.written still, ap g.R.Sink.room still, ap g.R.Sink.faults still);
+          (λ same. other_report fault other h same) in
+          (ap g.R.Sink.written still, ap g.R.Sink.room still, ap g.R.Sink.faults still, ap g.R.Sink.appended still);
     })
     (record {
       reported = t.reported;
-      done = λ s h. let d = t.done s h in (d.0, ap g.R.Sink.written d.1, ap g.R.Sink.faults d.1);
-      failed = λ h. let f = t.failed h in (f.0, ap g.R.Sink.written f.1, ap g.R.Sink.faults f.1);
+      done = λ s h. let d = t.done s h in (d.0, ap g.R.Sink.written d.1, ap g.R.Sink.faults d.1, ap g.R.Sink.appended d.1);
+      failed = λ h. let f = t.failed h in (f.0, ap g.R.Sink.written f.1, ap g.R.Sink.faults f.1, ap g.R.Sink.appended f.1);
       whole = t.whole;
       cut_short = t.cut_short;
+      added = t.added;
+      stopped = t.stopped;
       cause = t.cause;
       later = t.later;
       sure = t.sure;

@@ -117,7 +117,16 @@ returns-in-Encode g c =
       any_source = λ k h. absurd (encoding_is_no_frame level k h);
       no_report = λ h. encode_reports of_encoded d (sym is ∙ h);
     })
-    (record { reported = t.reported; whole = t.whole; cut_short = t.cut_short; cause = t.cause; later = t.later; sure = t.sure }))
+    (record {
+      reported = t.reported;
+      whole = t.whole;
+      cut_short = t.cut_short;
+      added = t.added;
+      stopped = t.stopped;
+      cause = t.cause;
+      later = t.later;
+      sure = t.sure;
+    }))
 
 pub returns-in-Decode : goal.returns-in-Decode
 returns-in-Decode g c =
@@ -170,10 +179,20 @@ returns-in-Decode g c =
     (record {
       old = g.R.Sink.written c.args.report.now;
       new = g.R.Sink.written c.tell-in-Decode.new.report;
-      room =
-          g.R.Sink.room c.args.report.now;
+      room = g.R.Sink.room c.args.report.now;
+      before = g.R.Sink.appended c.args.report.now;
+      now = g.R.Sink.appended c.tell-in-Decode.new.report;
     })) same
-    (record { reported = t.reported; whole = t.whole; cut_short = t.cut_short; cause = t.cause; later = t.later; sure = t.sure })))
+    (record {
+      reported = t.reported;
+      whole = t.whole;
+      cut_short = t.cut_short;
+      added = t.added;
+      stopped = t.stopped;
+      cause = t.cause;
+      later = t.later;
+      sure = t.sure;
+    })))
 
 pub returns-in-EncodeDsf : goal.returns-in-EncodeDsf
 returns-in-EncodeDsf g c =
@@ -228,7 +247,16 @@ returns-in-EncodeDsf g c =
       any_source = λ k h. absurd (encoding_dsf_is_no_frame level k h);
       no_report = λ h. encode_reports of_encoded d (sym is ∙ h);
     })
-    (record { reported = t.reported; whole = t.whole; cut_short = t.cut_short; cause = t.cause; later = t.later; sure = t.sure }))
+    (record {
+      reported = t.reported;
+      whole = t.whole;
+      cut_short = t.cut_short;
+      added = t.added;
+      stopped = t.stopped;
+      cause = t.cause;
+      later = t.later;
+      sure = t.sure;
+    }))
 
 pub returns-in-DecodeDsf : goal.returns-in-DecodeDsf
 returns-in-DecodeDsf g c =
@@ -281,10 +309,20 @@ returns-in-DecodeDsf g c =
     (record {
       old = g.R.Sink.written c.args.report.now;
       new = g.R.Sink.written c.tell-in-DecodeDsf.new.report;
-      room =
-          g.R.Sink.room c.args.report.now;
+      room = g.R.Sink.room c.args.report.now;
+      before = g.R.Sink.appended c.args.report.now;
+      now = g.R.Sink.appended c.tell-in-DecodeDsf.new.report;
     })) same
-    (record { reported = t.reported; whole = t.whole; cut_short = t.cut_short; cause = t.cause; later = t.later; sure = t.sure })))
+    (record {
+      reported = t.reported;
+      whole = t.whole;
+      cut_short = t.cut_short;
+      added = t.added;
+      stopped = t.stopped;
+      cause = t.cause;
+      later = t.later;
+      sure = t.sure;
+    })))
 
 pub returns-in-Cut : goal.returns-in-Cut
 returns-in-Cut g c =
@@ -332,7 +370,16 @@ returns-in-Cut g c =
       any_source = λ k h. absurd (cutting_is_no_frame c.in-Cut.first c.in-Cut.last k h);
       no_report = λ h. cut_reports of_cut_out d (sym is ∙ h);
     })
-    (record { reported = t.reported; whole = t.whole; cut_short = t.cut_short; cause = t.cause; later = t.later; sure = t.sure }))
+    (record {
+      reported = t.reported;
+      whole = t.whole;
+      cut_short = t.cut_short;
+      added = t.added;
+      stopped = t.stopped;
+      cause = t.cause;
+      later = t.later;
+      sure = t.sure;
+    }))
 
 pub returns-in-Frame : goal.returns-in-Frame
 returns-in-Frame g c =
@@ -389,7 +436,16 @@ returns-in-Frame g c =
       any_source = λ k h. most_for_any _ _ (e.given_any (by_index_is c.in-Frame.frame k c.in-Frame.by_index h));
       no_report = λ h. decode_reports of_written d (sym is ∙ h);
     })
-    (record { reported = t.reported; whole = t.whole; cut_short = t.cut_short; cause = t.cause; later = t.later; sure = t.sure }))
+    (record {
+      reported = t.reported;
+      whole = t.whole;
+      cut_short = t.cut_short;
+      added = t.added;
+      stopped = t.stopped;
+      cause = t.cause;
+      later = t.later;
+      sure = t.sure;
+    }))
   where
     by_index_is : (j k : ℕ) (b : Bool) → asked.frame j b ≡ asked.frame k true → b ≡ true
     by_index_is j k b is = cc
@@ -443,4 +499,13 @@ returns-in-Range g c =
       any_source = λ k h. absurd (ranging_is_no_frame pairs k h);
       no_report = λ h. decode_reports of_ranged d (sym is ∙ h);
     })
-    (record { reported = t.reported; whole = t.whole; cut_short = t.cut_short; cause = t.cause; later = t.later; sure = t.sure }))
+    (record {
+      reported = t.reported;
+      whole = t.whole;
+      cut_short = t.cut_short;
+      added = t.added;
+      stopped = t.stopped;
+      cause = t.cause;
+      later = t.later;
+      sure = t.sure;
+    }))

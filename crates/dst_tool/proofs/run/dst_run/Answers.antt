@@ -12,7 +12,7 @@ returns-clause-headline g c file told no_read no_write no_report =
     let words = map string_bytes c.args.words.now in
     let r = c.dst_run_by.ensures in
     by_words words
-    (λ none. none_headline words file c.dst_run_by.result _ _ _ _ none (ap g.K.Sink.written (r.untouched none).1) (r.words none)
+    (λ none. none_headline words file c.dst_run_by.result _ _ _ _ _ _ none (ap g.K.Sink.written (r.untouched none).1) (r.words none)
     (λ e. no_report (r.reported e)))
     (λ asks is. run_headline words asks file c.dst_run_by.result _ _ _ _ _ _ _ _ _ _ _ _ is (r.run asks is) told no_read no_write no_report)
 
@@ -41,7 +41,7 @@ returns-clause-ends g c file told =
 pub returns-clause-words : goal.returns-clause-words
 returns-clause-words g c none =
     let r = c.dst_run_by.ensures in
-    words_status _ _ _ (r.words none)
+    words_status _ _ _ _ _ (r.words none)
 
 pub returns-clause-only_words : goal.returns-clause-only_words
 returns-clause-only_words g c one =
@@ -113,14 +113,14 @@ pub returns-clause-read : goal.returns-clause-read
 returns-clause-read g c two =
     let words = map string_bytes c.args.words.now in
     let r = c.dst_run_by.ensures in
-    by_status words 2 c.dst_run_by.result _ _ r.words two (omega arith) (omega arith)
+    by_status words 2 c.dst_run_by.result _ _ _ _ r.words two (omega arith) (omega arith)
     (λ asks is. (r.run asks is).read two)
 
 pub returns-clause-write : goal.returns-clause-write
 returns-clause-write g c three =
     let words = map string_bytes c.args.words.now in
     let r = c.dst_run_by.ensures in
-    by_status words 3 c.dst_run_by.result _ _ r.words three (omega arith) (omega arith)
+    by_status words 3 c.dst_run_by.result _ _ _ _ r.words three (omega arith) (omega arith)
     (λ asks is. (r.run asks is).write three)
 
 pub returns-clause-reported : goal.returns-clause-reported
@@ -132,7 +132,7 @@ pub returns-clause-sure_sink : goal.returns-clause-sure_sink
 returns-clause-sure_sink g c file told o outcome room known fits three =
     let words = map string_bytes c.args.words.now in
     let r = c.dst_run_by.ensures in
-    by_status words 3 c.dst_run_by.result _ _ r.words three (omega arith) (omega arith)
+    by_status words 3 c.dst_run_by.result _ _ _ _ r.words three (omega arith) (omega arith)
     (λ asks is. (r.run asks is).sure_sink file told o (of_command words asks file o is outcome) room known fits three)
 
 pub returns-clause-sure_report : goal.returns-clause-sure_report
@@ -147,14 +147,14 @@ pub returns-clause-memory : goal.returns-clause-memory
 returns-clause-memory g c four =
     let words = map string_bytes c.args.words.now in
     let r = c.dst_run_by.ensures in
-    by_status words 4 c.dst_run_by.result _ _ r.words four (omega arith) (omega arith)
+    by_status words 4 c.dst_run_by.result _ _ _ _ r.words four (omega arith) (omega arith)
     (λ asks is. (r.run asks is).memory four)
 
 pub returns-clause-memory_line : goal.returns-clause-memory_line
 returns-clause-memory_line g c four =
     let words = map string_bytes c.args.words.now in
     let r = c.dst_run_by.ensures in
-    by_status words 4 c.dst_run_by.result _ _ r.words four (omega arith) (omega arith)
+    by_status words 4 c.dst_run_by.result _ _ _ _ r.words four (omega arith) (omega arith)
     (λ asks is. (r.run asks is).memory_told four)
 
 pub returns-clause-silent : goal.returns-clause-silent
@@ -166,21 +166,21 @@ pub returns-clause-file : goal.returns-clause-file
 returns-clause-file g c five =
     let words = map string_bytes c.args.words.now in
     let r = c.dst_run_by.ensures in
-    by_status words 5 c.dst_run_by.result _ _ r.words five (omega arith) (omega arith)
+    by_status words 5 c.dst_run_by.result _ _ _ _ r.words five (omega arith) (omega arith)
     (λ asks is. (r.run asks is).file_refused five)
 
 pub returns-clause-refused : goal.returns-clause-refused
 returns-clause-refused g c five file told =
     let words = map string_bytes c.args.words.now in
     let r = c.dst_run_by.ensures in
-    by_status words 5 c.dst_run_by.result _ _ r.words five (omega arith) (omega arith)
+    by_status words 5 c.dst_run_by.result _ _ _ _ r.words five (omega arith) (omega arith)
     (λ asks is. run_refused words asks file c.dst_run_by.result _ _ _ _ _ _ _ _ _ _ _ _ is (r.run asks is) told five)
 
 pub returns-clause-frame : goal.returns-clause-frame
 returns-clause-frame g c six file told =
     let words = map string_bytes c.args.words.now in
     let r = c.dst_run_by.ensures in
-    by_status words 6 c.dst_run_by.result _ _ r.words six (omega arith) (omega arith)
+    by_status words 6 c.dst_run_by.result _ _ _ _ r.words six (omega arith) (omega arith)
     (λ asks is. run_refused_frame words asks file c.dst_run_by.result _ _ _ _ _ _ _ _ _ _ _ _ is (r.run asks is) told six)
 
 pub returns-clause-by_index : goal.returns-clause-by_index
@@ -197,4 +197,4 @@ pub returns-clause-status : goal.returns-clause-status
 returns-clause-status g c =
     let words = map string_bytes c.args.words.now in
     let r = c.dst_run_by.ensures in
-    by_words words (λ none. at_most_seven _ _ _ (r.words none)) (λ asks is. (r.run asks is).most_status)
+    by_words words (λ none. at_most_seven _ _ _ _ _ (r.words none)) (λ asks is. (r.run asks is).most_status)

@@ -18,8 +18,8 @@ returns-in-None-clause-run g c asks is = absurd (some_command _ asks is (sym (co
 
 pub returns-in-None-clause-words : goal.returns-in-None-clause-words
 returns-in-None-clause-words g c none =
-    reported 1 c.report_line.result words_line _ _ _ c.words_not_understood.ensures c.report_line.ensures.reported c.report_line.ensures.whole
-    c.report_line.ensures.cut_short
+    reported 1 c.report_line.result words_line _ _ _ _ _ c.words_not_understood.ensures c.report_line.ensures.reported c.report_line.ensures.whole
+    c.report_line.ensures.cut_short c.report_line.ensures.added c.report_line.ensures.stopped
 
 pub returns-in-None-clause-sure : goal.returns-in-None-clause-sure
 returns-in-None-clause-sure g c none seven room known fits =
