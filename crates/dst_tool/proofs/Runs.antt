@@ -70,7 +70,7 @@ run_headline words c file result bytes source sink counts given written told Sam
   where
     go : (status : ℕ) (lines : List Line) → EndsBy (OutcomeOf c file) (Some c) file ⊤ status lines written.old written.new →
         Reports status lines result told.old told.new told.before told.now → Headline words file result written.old written.new told.old told.new
-    go status lines ends (inr (seven, piece)) = absurd (no_report (r.reported seven))
+    go status lines ends (inr (seven, piece, stopped)) = absurd (no_report (r.reported seven))
     go status lines (inl (s, l, short)) (inl (same, w, added)) = absurd (no_read (r.read (same ∙ s)))
     go status lines (inr (inl (s, l, short))) (inl (same, w, added)) = absurd (no_write (r.write (same ∙ s)))
     go status lines (inr (inr (inl (s, l, free, still)))) (inl (same, w, added)) = inl (same ∙ s)
@@ -121,7 +121,7 @@ run_refused words c file result bytes source sink counts given written told Same
     go : (status : ℕ) (lines : List Line) → EndsBy (OutcomeOf c file) (Some c) file ⊤ status lines written.old written.new →
         Reports status lines result told.old told.new told.before told.now → (fault : FileFault) × IsRefused words file fault
         × (told.new ≡ and_then told.old (report (file_line fault ∷ [])))
-    go status lines ends (inr (seven, piece)) = absurd (omega arith)
+    go status lines ends (inr (seven, piece, stopped)) = absurd (omega arith)
     go status lines (inl (s, l, short)) (inl (same, w, added)) = absurd (omega arith)
     go status lines (inr (inl (s, l, short))) (inl (same, w, added)) = absurd (omega arith)
     go status lines (inr (inr (inl (s, l, free, still)))) (inl (same, w, added)) = absurd (omega arith)
@@ -176,7 +176,7 @@ run_refused_frame words c file result bytes source sink counts given written tol
   where
     go : (status : ℕ) (lines : List Line) → EndsBy (OutcomeOf c file) (Some c) file ⊤ status lines written.old written.new →
         Reports status lines result told.old told.new told.before told.now → FrameIsTold words file written told
-    go status lines ends (inr (seven, piece)) = absurd (omega arith)
+    go status lines ends (inr (seven, piece, stopped)) = absurd (omega arith)
     go status lines (inl (s, l, short)) (inl (same, w, added)) = absurd (omega arith)
     go status lines (inr (inl (s, l, short))) (inl (same, w, added)) = absurd (omega arith)
     go status lines (inr (inr (inl (s, l, free, still)))) (inl (same, w, added)) = absurd (omega arith)
@@ -221,25 +221,25 @@ pub none_headline : (words : List Word) (file : List ℕ) (result : ℕ) (old ne
     Headline words file result old new told_old told_new
 none_headline words file result old new told_old told_new before now e same (inl (is, told, added)) fine =
     inr (words_line ∷ [], subst (λ status. EndsAs words file status (words_line ∷ []) old new) (sym is) (no_command words file old new e same), told)
-none_headline words file result old new told_old told_new before now e same (inr (is, piece)) fine = absurd (fine is)
+none_headline words file result old new told_old told_new before now e same (inr (is, piece, stopped)) fine = absurd (fine is)
 
 -- their status is 1, which no device has, or 7
 pub words_status : (result : ℕ) (old new : Option (List ℕ)) (before now : ℕ) → Reports 1 (words_line ∷ []) result old new before now →
     (result ≡ 1) ⊎ (result ≡ 7)
-words_status result old new before now (inl (is, told)) = inl is
-words_status result old new before now (inr (is, piece)) = inr is
+words_status result old new before now (inl (is, told, added)) = inl is
+words_status result old new before now (inr (is, piece, stopped)) = inr is
 
 pub words_caused : (source_before source_now sink_before sink_now : ℕ) → IsCaused 1 source_before source_now sink_before sink_now
 words_caused source_before source_now sink_before sink_now = record { read = λ e. absurd (omega arith); write = λ e. absurd (omega arith) }
 
 pub at_most_seven : (result : ℕ) (old new : Option (List ℕ)) (before now : ℕ) → Reports 1 (words_line ∷ []) result old new before now → result ≤ 7
-at_most_seven result old new before now (inl (is, told)) = omega arith
-at_most_seven result old new before now (inr (is, piece)) = omega arith
+at_most_seven result old new before now (inl (is, told, added)) = omega arith
+at_most_seven result old new before now (inr (is, piece, stopped)) = omega arith
 
 not_of_words : (status result : ℕ) (old new : Option (List ℕ)) (before now : ℕ) → Reports 1 (words_line ∷ []) result old new before now →
     result ≡ status → 1 < status → status < 7 → ⊥
-not_of_words status result old new before now (inl (is, told)) same least most = omega arith
-not_of_words status result old new before now (inr (is, piece)) same least most = omega arith
+not_of_words status result old new before now (inl (is, told, added)) same least most = omega arith
+not_of_words status result old new before now (inr (is, piece, stopped)) same least most = omega arith
 
 -- each other status is that of a command
 pub by_status : {P : Type 0} (words : List Word) (status result : ℕ) (old new : Option (List ℕ)) (before now : ℕ) →
