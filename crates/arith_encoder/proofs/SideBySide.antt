@@ -13,9 +13,9 @@ use Rattle.arith_encoder.specs.declared.scaling.Scaling.{Scaling}
 use Rattle.arith_encoder.specs.Lanes.{IsStep, AreSteps, Narrows, TakesStep, Leaves}
 use Rattle.arith_encoder.proofs.Narrowing.{IsNarrowed, narrow_is}
 
-doubled_is : (m : ℕ) → m < 4096 → (e : Bool) → (if e then m * 2 % 65536 else m) ≡ m + (if e then m else 0)
-doubled_is m lt true = omega arith
-doubled_is m lt false = omega arith
+doubled_is : (m more : ℕ) → m < 4096 → (e : Bool) → more ≡ (if e then m else 0) → (m + more) % 65536 ≡ m + (if e then m else 0)
+doubled_is m more lt true is = omega arith
+doubled_is m more lt false is = omega arith
 
 narrows-of : (range p : ℕ) (symbol : Bool) (start after d after_is d_is : ℕ) → after_is ≡ after → d_is ≡ d → IsNarrowed range p symbol start after d →
     Narrows range symbol p after_is d_is
@@ -25,11 +25,11 @@ narrows-of range p symbol start after d after_is d_is e g n = rw (e, g) (record 
   alike = λ i is. (ap (λ j. j.range) (n.narrowed_is i is), ap (λ j. j.doublings) (n.narrowed_is i is));
 })
 
-pub lane_is : (symbol : Bool) (p range step s size part after d : ℕ) → IsStep symbol p step → IsRange range → s ≡ scale range →
+pub lane_is : (symbol : Bool) (p range step s size part more after d : ℕ) → IsStep symbol p step → IsRange range → s ≡ scale range →
     size ≡ s * (step % 256) % 65536 →
-    part ≡ (if nat_lt step 32768 then size else (range + (65536 - size)) % 65536) → after ≡ (if nat_lt part 2048 then part * 2 % 65536 else part) →
+    part ≡ (if nat_lt step 32768 then size else (range + (65536 - size)) % 65536) → more ≡ (if nat_lt part 2048 then part else 0) → after ≡ (part + more) % 65536 →
     d ≡ step / 256 % 8 + bool_byte (nat_lt part 2048) → Narrows range symbol p after d
-lane_is true p range step s size part after d is r scale_is size_is part_is after_is d_is =
+lane_is true p range step s size part more after d is r scale_is size_is part_is more_is after_is d_is =
     let step_is = is.2 in
     let few = is.1 in
     let low : step % 256 ≡ p = omega arith in
@@ -42,8 +42,8 @@ lane_is true p range step s size part after d is r scale_is size_is part_is afte
     let e : Scaling = record { scaled = p * 2 ^ shift_of p; shift = shift_of p } in
     let n = narrow_is range p true e s part 0 0 r is.0 is.1 (record { scaled = refl; shifted = is_shift p is.0 is.1 }) scale_is part_of refl refl in
     narrows-of range p true 0 (part + (if nat_lt part 2048 then part else 0)) (0 + bool_byte (nat_lt part 2048)) after d
-    (after_is ∙ doubled_is part (omega arith) (nat_lt part 2048)) (omega arith) n
-lane_is false p range step s size part after d is r scale_is size_is part_is after_is d_is =
+    (after_is ∙ doubled_is part more (omega arith) (nat_lt part 2048) more_is) (omega arith) n
+lane_is false p range step s size part more after d is r scale_is size_is part_is more_is after_is d_is =
     let shift = is.2.0 in
     let shifted = is.2.1 in
     let step_is = is.2.2 in
@@ -60,7 +60,7 @@ lane_is false p range step s size part after d is r scale_is size_is part_is aft
     let e : Scaling = record { scaled = scaled; shift = shift } in
     let n = narrow_is range p false e s part (range - s * p) shift r is.0 is.1 (record { scaled = refl; shifted = shifted }) scale_is part_of refl refl in
     narrows-of range p false (range - s * p) (part + (if nat_lt part 2048 then part else 0)) (shift + bool_byte (nat_lt part 2048)) after d
-    (after_is ∙ doubled_is part (omega arith) (nat_lt part 2048)) (omega arith) n
+    (after_is ∙ doubled_is part more (omega arith) (nat_lt part 2048) more_is) (omega arith) n
 
 -- ---- one symbol after the other
 pub none-taken : (before : ℕ) → IsRange before → Leaves before [] before 0

@@ -57,8 +57,8 @@ fn narrow_lane(range: u16, step: u16) -> (u16, u16)
     let size = scale.wrapping_mul(step % 256);
     let part = either(step < 32_768, size, range.wrapping_sub(size));
     let short = part < 2048;
-    let after = either(short, part.wrapping_mul(2), part);
-    (after, step / 256 % 8 + u16::from(short))
+    let more = either(short, part, 0);
+    (part.wrapping_add(more), step / 256 % 8 + u16::from(short))
 }
 
 #[inline(always)]

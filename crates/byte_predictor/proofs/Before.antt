@@ -1,13 +1,14 @@
 -- Samples before a place, and predictions from them.
-use Rattle.std.proofs.Common.{◌≡◌, ℕ, zero, suc, ◌+◌, ◌*◌, ◌<◌, ◌≤◌, ℤ, pos, negsuc, ◌+ℤ◌, ◌-ℤ◌, List, [], ◌∷◌, length, get_or, take, replicate, refl}
-use Rattle.std.proofs.Common.{ap, ap₂, sym, ◌∙◌, arith}
+use Rattle.std.proofs.Common.{◌≡◌, ℕ, zero, suc, ◌+◌, ◌-◌, ◌*◌, ◌/◌, ◌%◌, ◌^◌, ◌<◌, ◌≤◌, ◌⊎◌, inl, inr, ℤ, pos, negsuc, ◌+ℤ◌, ◌-ℤ◌, List, [], ◌∷◌, ◌++◌}
+use Rattle.std.proofs.Common.{length, get_or, take, drop, replicate, refl, ap, ap₂, sym, ◌∙◌, arith, length-append}
 use Rattle.std.proofs.lemmas.Int.{ints}
-use Rattle.std.proofs.lemmas.List.{get_or-take, length-take}
+use Rattle.std.proofs.lemmas.List.{get_or-take, length-take, get_or-drop, length-drop, get_or_append_left, get_or-append-add}
+use Rattle.std.proofs.lemmas.Bool.{cases_lt}
 use lib.IntN.{pred_ℤ}
 use Rattle.dst_spec.specs.Sample.{Shape, sample}
 use Rattle.dst_spec.specs.Guess.{signed, sum_before}
-use Rattle.byte_predictor.specs.Samples.{IsBefore, samples_of, signed_sum}
-use Rattle.byte_predictor.proofs.Bits.{alternating, length-samples_of}
+use Rattle.byte_predictor.specs.Samples.{IsBefore, rising_bits, samples_of, signed_sum}
+use Rattle.byte_predictor.proofs.Bits.{alternating, length-samples_of, length-rising_bits, rising_bits-at}
 
 same_sample : (f : Shape) (sound : List ℕ) (c : ℕ) (y z : ℤ) → y ≡ z → sample f sound c y ≡ sample f sound c z
 same_sample f sound c y z e = ap (sample f sound c) e
@@ -35,6 +36,40 @@ before_next f sound c t bit samples e before = record { long = omega (arith, bef
     at : (j : ℕ) → j < 128 → get_or (bit ∷ samples) j 0 ≡ sample f sound c (pos (t + 1) -ℤ pos (suc j))
     at zero h = e ∙ same_sample f sound c (pos t) (pos (t + 1) -ℤ pos 1) (omega (arith, ints))
     at (suc j) h = before.each j (omega arith) ∙ same_sample f sound c (pos t -ℤ pos (suc j)) (pos (t + 1) -ℤ pos (suc (suc j))) (omega (arith, ints))
+
+-- one bit of a byte of sound is a sample
+sample_bit : (f : Shape) (sound : List ℕ) (c m i : ℕ) (z : ℤ) → i < 8 → z ≡ pos (8 * m + (7 - i)) →
+    get_or sound (m * f.channels + c) 0 / 2 ^ i % 2 ≡ sample f sound c z
+sample_bit f sound c m i z h e =
+    let byte : (8 * m + (7 - i)) / 8 ≡ m = omega arith in
+    let place : 7 - (8 * m + (7 - i)) % 8 ≡ i = omega arith in
+    sym (same_sample f sound c z (pos (8 * m + (7 - i))) e ∙ ap₂ (λ b k. get_or sound (b * f.channels + c) 0 / 2 ^ k % 2) byte place)
+
+-- before each of the eight samples of a byte
+pub before_in_a_byte : (f : Shape) (sound : List ℕ) (c m place : ℕ) (samples : List ℕ) → place ≤ 8 → IsBefore f sound c (8 * m) samples →
+    IsBefore f sound c (8 * m + place) (drop (8 - place) (rising_bits 8 (get_or sound (m * f.channels + c) 0) ++ samples))
+before_in_a_byte f sound c m place samples h before = record {
+  long = omega (arith, length-drop (8 - place) (rising_bits 8 byte ++ samples), length-append (rising_bits 8 byte) samples, length-rising_bits 8 byte, before.long);
+  each = λ j lt. get_or-drop (8 - place) (rising_bits 8 byte ++ samples) j 0 ∙ at j lt (cases_lt j place);
+}
+  where
+    byte : ℕ
+    byte = get_or sound (m * f.channels + c) 0
+
+    at : (j : ℕ) → j < 128 → (j < place) ⊎ (place ≤ j) →
+        get_or (rising_bits 8 byte ++ samples) (8 - place + j) 0 ≡ sample f sound c (pos (8 * m + place) -ℤ pos (suc j))
+    at j lt (inl near) =
+        let inside : 8 - place + j < length (rising_bits 8 byte) = omega (arith, length-rising_bits 8 byte) in
+        let i = 8 - place + j in
+        get_or_append_left (rising_bits 8 byte) samples 0 i inside ∙ rising_bits-at 8 byte i (omega arith)
+        ∙ sample_bit f sound c m i (pos (8 * m + place) -ℤ pos (suc j)) (omega arith) (omega (arith, ints))
+    at j lt (inr further) =
+        let long = length-rising_bits 8 byte in
+        let behind : 8 - place + j ≡ length (rising_bits 8 byte) + (j - place) = omega (arith, long) in
+        ap (λ n. get_or (rising_bits 8 byte ++ samples) n 0) behind
+        ∙ get_or-append-add (rising_bits 8 byte) samples (j - place) 0
+        ∙ before.each (j - place) (omega arith)
+        ∙ same_sample f sound c (pos (8 * m) -ℤ pos (suc (j - place))) (pos (8 * m + place) -ℤ pos (suc j)) (omega (arith, ints))
 
 pub before_front : (f : Shape) (sound : List ℕ) (c t bit : ℕ) (samples : List ℕ) → IsBefore f sound c t (bit ∷ samples) → 127 ≤ length samples →
     IsBefore f sound c t (bit ∷ take 127 samples)

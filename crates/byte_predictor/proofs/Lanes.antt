@@ -2,7 +2,7 @@
 use Rattle.std.proofs.Common.{◌≡◌, ℕ, zero, suc, ◌+◌, ◌-◌, ◌*◌, ◌/◌, ◌%◌, ◌^◌, ◌<◌, ◌≤◌, ◌⊎◌, inl, inr, ℤ, pos, ◌+ℤ◌, neg_ℤ, List, [], ◌∷◌, ◌++◌}
 use Rattle.std.proofs.Common.{length, get_or, take, drop, set, replicate, refl, ap, subst, sym, ◌∙◌, arith, add-one}
 use Rattle.std.proofs.lemmas.Int.{ints}
-use Rattle.std.proofs.lemmas.List.{get_or-drop, get_or_past, length-drop, take_at, drop_at, take-take}
+use Rattle.std.proofs.lemmas.List.{get_or-drop, get_or_past, length-drop, take_at, drop_at, take-take, take-append-drop}
 use Rattle.std.proofs.lemmas.Bool.{cases_lt}
 use Rattle.std.specs.List.{AllByRecursion}
 use Rattle.dst_spec.specs.Table.{filter_kind, InRange}
@@ -12,7 +12,7 @@ use Rattle.byte_predictor.specs.RowSums.{HasRows}
 use Rattle.byte_predictor.proofs.Bits.{length-rising_bits, carry-through}
 use Rattle.byte_predictor.proofs.Sums.{each-drop, coef-range}
 use Rattle.byte_predictor.proofs.Upward.{upward_sum-none, upward_sum-raised, upward_sum-zeros, upward_sum-below, upward_sum-within, upward_sum-same}
-use Rattle.byte_predictor.proofs.Upward.{upward_sum-empty, upward_sum-split, upward_sum-taken}
+use Rattle.byte_predictor.proofs.Upward.{upward_sum-empty, upward_sum-split, upward_sum-byte}
 
 pub far-front : (coefs : List ℤ) (j : ℕ) → j < 8 → get_or (far coefs) j (pos 0) ≡ pos 0
 unfolding far
@@ -67,11 +67,15 @@ far-short : (coefs : List ℤ) → length coefs ≤ 128 → length (far coefs) �
 unfolding far
 far-short coefs h = omega (arith, length-drop 8 coefs)
 
-lane-below : (coefs : List ℤ) (lane : ℕ) (samples : List ℕ) → AllByRecursion (InRange filter_kind) coefs → length coefs ≤ 128 →
-    upward_sum (drop lane (far coefs)) samples ≤ 256 * (128 - lane)
-lane-below coefs lane samples each short =
-    let bound = upward_sum-below (drop lane (far coefs)) samples (each-drop lane (far coefs) (far-all coefs each)) in
-    omega (arith, bound, length-drop lane (far coefs), far-short coefs short)
+far-each : (coefs : List ℤ) → AllByRecursion (InRange filter_kind) coefs → length coefs ≤ 128 →
+    AllByRecursion (InRange filter_kind) (far coefs) × (length (far coefs) ≤ 128)
+far-each coefs each short = (far-all coefs each, far-short coefs short)
+
+lane-below : (n : ℕ) (xs : List ℤ) (lane : ℕ) (samples : List ℕ) → AllByRecursion (InRange filter_kind) xs → length xs ≤ n →
+    upward_sum (drop lane xs) samples ≤ 256 * (n - lane)
+lane-below n xs lane samples each short =
+    let bound = upward_sum-below (drop lane xs) samples (each-drop lane xs each) in
+    omega (arith, bound, length-drop lane xs)
 
 -- a table of numbers that is right below a place is right at one place more
 pub row-more : (table : List ℕ) (n : ℕ) (y : ℕ) (F : ℕ → ℕ) → n < length table → ((b : ℕ) → b < n → get_or table b 0 ≡ F b) → y ≡ F n → (b : ℕ) →
@@ -83,15 +87,15 @@ row-more (x ∷ table) (suc n) y F h below here zero lt = below 0 (omega arith)
 row-more (x ∷ table) (suc n) y F h below here (suc b) lt =
     row-more table n y (λ k. F (suc k)) (omega arith) (λ k j. below (suc k) (omega arith)) here b (omega arith)
 
-pub rows-more : (rows : List (List ℕ)) (n : ℕ) (row : List ℕ) (F : ℕ → ℕ → ℕ) → n < length rows →
-    ((b lane : ℕ) → b < n → lane < 128 → get_or (get_or rows b []) lane 0 ≡ F b lane) → ((lane : ℕ) → lane < 128 → get_or row lane 0 ≡ F n lane) →
-    (b lane : ℕ) → b < suc n → lane < 128 → get_or (get_or (set rows n row) b []) lane 0 ≡ F b lane
-rows-more [] n row F h below here b lane lt l = absurd (omega arith)
-rows-more (x ∷ rows) zero row F h below here zero lane lt l = here lane l
-rows-more (x ∷ rows) zero row F h below here (suc b) lane lt l = absurd (omega arith)
-rows-more (x ∷ rows) (suc n) row F h below here zero lane lt l = below 0 lane (omega arith) l
-rows-more (x ∷ rows) (suc n) row F h below here (suc b) lane lt l =
-    rows-more rows n row (λ k. F (suc k)) (omega arith) (λ k m i. below (suc k) m (omega arith)) here b lane (omega arith) l
+pub rows-more : (w : ℕ) (rows : List (List ℕ)) (n : ℕ) (row : List ℕ) (F : ℕ → ℕ → ℕ) → n < length rows →
+    ((b lane : ℕ) → b < n → lane < w → get_or (get_or rows b []) lane 0 ≡ F b lane) → ((lane : ℕ) → lane < w → get_or row lane 0 ≡ F n lane) →
+    (b lane : ℕ) → b < suc n → lane < w → get_or (get_or (set rows n row) b []) lane 0 ≡ F b lane
+rows-more w [] n row F h below here b lane lt l = absurd (omega arith)
+rows-more w (x ∷ rows) zero row F h below here zero lane lt l = here lane l
+rows-more w (x ∷ rows) zero row F h below here (suc b) lane lt l = absurd (omega arith)
+rows-more w (x ∷ rows) (suc n) row F h below here zero lane lt l = below 0 lane (omega arith) l
+rows-more w (x ∷ rows) (suc n) row F h below here (suc b) lane lt l =
+    rows-more w rows n row (λ k. F (suc k)) (omega arith) (λ k m i. below (suc k) m (omega arith)) here b lane (omega arith) l
 
 -- the sum of a lane where one sample more of a byte is 1, which is a number of sixteen bits
 pub raised-lane : (coefs : List ℤ) (lane i half byte low : ℕ) → ((j : ℕ) → InRange filter_kind (get_or coefs j (pos 0))) → i < 8 → half ≡ 2 ^ i →
@@ -123,28 +127,41 @@ zeros-step coefs first i sum size coef range h is e s =
     (rw add-one whole, omega (arith, whole, bound, length-rising_bits (suc i) 0))
 
 -- a byte of samples goes into a lane
+pub added-lane : (n total : ℕ) (xs : List ℤ) (older lanes row new : List ℕ) (byte : ℕ) → AllByRecursion (InRange filter_kind) xs → length xs ≤ n → n ≤ 136 → n + 8 ≤ total →
+    ((lane : ℕ) → lane < total → get_or lanes lane 0 ≡ upward_sum (drop lane xs) older) →
+    ((lane : ℕ) → lane < n → get_or row lane 0 ≡ upward_sum (drop lane xs) (rising_bits 8 byte)) →
+    ((lane : ℕ) → lane < n → get_or new lane 0 ≡ (get_or lanes (lane + 8) 0 + get_or row lane 0) % 65536) →
+    ((lane : ℕ) → n ≤ lane → get_or new lane 0 ≡ get_or lanes lane 0) → (lane : ℕ) → lane < total →
+    get_or new lane 0 ≡ upward_sum (drop lane xs) (rising_bits 8 byte ++ older)
+added-lane n total xs older lanes row new byte each short few room sums is moved stays lane h = by_case (cases_lt lane n)
+  where
+    samples : List ℕ
+    samples = rising_bits 8 byte ++ older
+
+    by_case : (lane < n) ⊎ (n ≤ lane) → get_or new lane 0 ≡ upward_sum (drop lane xs) (rising_bits 8 byte ++ older)
+    by_case (inl lt) =
+        let whole = upward_sum-byte xs lane byte older in
+        let old = sums (lane + 8) (omega arith) in
+        let bound = lane-below n xs lane samples each short in
+        let after = moved lane lt in
+        omega (arith, whole, old, is lane lt, bound, after)
+    by_case (inr le) =
+        let old = sums lane h in
+        let none = lane-below n xs lane older each short in
+        let still_none = lane-below n xs lane samples each short in
+        omega (arith, old, none, still_none, stays lane le)
+
+-- the same where the samples are told whole
 pub taken-lane : (coefs : List ℤ) (samples lanes row new : List ℕ) (byte : ℕ) → AllByRecursion (InRange filter_kind) coefs → length coefs ≤ 128 →
     rising_bits 8 byte ≡ take 8 samples → ((lane : ℕ) → lane < 136 → get_or lanes lane 0 ≡ upward_sum (drop lane (far coefs)) (drop 8 samples)) →
     ((lane : ℕ) → lane < 128 → get_or row lane 0 ≡ upward_sum (drop lane (far coefs)) (rising_bits 8 byte)) →
     ((lane : ℕ) → lane < 128 → get_or new lane 0 ≡ (get_or lanes (lane + 8) 0 + get_or row lane 0) % 65536) →
     ((lane : ℕ) → 128 ≤ lane → get_or new lane 0 ≡ get_or lanes lane 0) → (lane : ℕ) → lane < 136 →
     get_or new lane 0 ≡ upward_sum (drop lane (far coefs)) samples
-taken-lane coefs samples lanes row new byte each short newest sums is moved stays lane h = by_case (cases_lt lane 128)
-  where
-    by_case : (lane < 128) ⊎ (128 ≤ lane) → get_or new lane 0 ≡ upward_sum (drop lane (far coefs)) samples
-    by_case (inl lt) =
-        let long : length (take 8 samples) ≡ 8 = ap length (sym newest) ∙ length-rising_bits 8 byte in
-        let whole = upward_sum-taken (far coefs) lane samples long in
-        let old = sums (lane + 8) (omega arith) in
-        let added = is lane lt ∙ ap (upward_sum (drop lane (far coefs))) newest in
-        let bound = lane-below coefs lane samples each short in
-        let after = moved lane lt in
-        omega (arith, whole, old, added, bound, after)
-    by_case (inr le) =
-        let old = sums lane h in
-        let none = lane-below coefs lane (drop 8 samples) each short in
-        let still_none = lane-below coefs lane samples each short in
-        omega (arith, old, none, still_none, stays lane le)
+taken-lane coefs samples lanes row new byte each short newest sums is moved stays lane h =
+    let far_is = far-each coefs each short in
+    added-lane 128 136 (far coefs) (drop 8 samples) lanes row new byte far_is.0 far_is.1 (omega arith) (omega arith) sums is moved stays lane h
+    ∙ ap (upward_sum (drop lane (far coefs))) (ap (λ t. t ++ drop 8 samples) newest ∙ take-append-drop 8 samples)
 
 -- what the newest samples and a lane give together
 pub looked-up : (coefs : List ℤ) (place : ℕ) (samples : List ℕ) (byte lane near : ℕ) → AllByRecursion (InRange filter_kind) coefs → length coefs ≤ 128 →
@@ -199,10 +216,10 @@ byte-again byte n =
 pub drop-pushed : (place bit : ℕ) (samples : List ℕ) → drop place samples ≡ drop (place + 1) (bit ∷ samples)
 drop-pushed place bit samples = rw add-one refl
 
-pub no_rows-at : (n k lane : ℕ) → ◌≡◌ {A = ℕ} (get_or {A = ℕ} (get_or {A = List ℕ} (replicate {A = List ℕ} n (replicate {A = ℕ} 128 0)) k []) lane 0) 0
-no_rows-at zero k lane = refl
-no_rows-at (suc n) zero lane = no_sums-at 128 lane
-no_rows-at (suc n) (suc k) lane = no_rows-at n k lane
+pub no_rows-at : (w n k lane : ℕ) → ◌≡◌ {A = ℕ} (get_or {A = ℕ} (get_or {A = List ℕ} (replicate {A = List ℕ} n (replicate {A = ℕ} w 0)) k []) lane 0) 0
+no_rows-at w zero k lane = refl
+no_rows-at w (suc n) zero lane = no_sums-at w lane
+no_rows-at w (suc n) (suc k) lane = no_rows-at w n k lane
 
 lone-far : (j : ℕ) → get_or (far (pos 0 ∷ [])) j (pos 0) ≡ pos 0
 unfolding far
@@ -214,7 +231,7 @@ unfolding size_sum
 rows-none = record {
   table = record { least = omega arith; most = omega arith; each = ((omega (arith, ints), omega (arith, ints)), tt); alone = λ lone. absurd cc };
   added = λ byte lane h i.
-      no_rows-at 256 byte lane ∙ sym (upward_sum-same (drop lane (far (pos 0 ∷ []))) [] (rising_bits 8 byte)
+      no_rows-at 128 256 byte lane ∙ sym (upward_sum-same (drop lane (far (pos 0 ∷ []))) [] (rising_bits 8 byte)
       (λ j. get_or-drop lane (far (pos 0 ∷ [])) j (pos 0) ∙ lone-far (lane + j)) ∙ upward_sum-empty (rising_bits 8 byte));
   newest = λ byte h.
       no_sums-at 256 byte ∙ sym (upward_sum-same (pos 0 ∷ []) [] (rising_bits 8 byte) (λ j. zeros-at 1 j) ∙ upward_sum-empty (rising_bits 8 byte));

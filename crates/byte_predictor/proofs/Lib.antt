@@ -5,3 +5,4 @@ pub mod Upward
 pub mod Lanes
 pub mod Ones
 pub mod Pushed
+pub mod KnownSums

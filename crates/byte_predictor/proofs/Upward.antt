@@ -1,14 +1,15 @@
 -- Sums of what coefficients add upward.
-use Rattle.std.proofs.Common.{◌≡◌, ℕ, zero, suc, ◌+◌, ◌*◌, ◌/◌, ◌%◌, ◌^◌, ◌<◌, ◌≤◌, true, false, cond, eqb, ℤ, pos, negsuc, ◌+ℤ◌, ◌-ℤ◌, neg_ℤ}
+use Rattle.std.proofs.Common.{◌≡◌, ℕ, zero, suc, ◌+◌, ◌-◌, ◌*◌, ◌/◌, ◌%◌, ◌^◌, ◌<◌, ◌≤◌, true, false, cond, eqb, ℤ, pos, negsuc, ◌+ℤ◌, ◌-ℤ◌, neg_ℤ}
 use Rattle.std.proofs.Common.{nat_abs, List, [], ◌∷◌, ◌++◌, length, get_or, take, drop, replicate, refl, ap, ap₂, sym, ◌∙◌, arith, add-one}
 use Rattle.std.proofs.lemmas.Int.{ints}
-use Rattle.std.proofs.lemmas.List.{take-append-drop, drop-drop}
+use Rattle.std.proofs.lemmas.List.{drop-drop}
 use Rattle.std.proofs.Math.Nat.{pow-suc}
 use Rattle.std.specs.List.{AllByRecursion}
 use Rattle.dst_spec.specs.Guess.{signed}
 use Rattle.dst_spec.specs.Table.{filter_kind, InRange}
 use Rattle.byte_predictor.specs.Samples.{rising_bits, signed_sum}
-use Rattle.byte_predictor.specs.Upward.{above_zero, upward_sum, size_sum, far}
+use Rattle.byte_predictor.specs.Upward.{above_zero, upward_sum, size_sum, far, shifted}
+use Rattle.byte_predictor.proofs.Bits.{length-rising_bits}
 
 above_zero-turned : (a : ℤ) → pos (above_zero a) ≡ pos (above_zero (neg_ℤ a)) +ℤ a
 above_zero-turned (pos zero) = refl
@@ -142,13 +143,37 @@ upward_sum-split coefs place samples h =
     split-at 8 coefs samples ∙ ap (λ n. upward_sum coefs (take 8 samples) + n) (skip-zeros 8 place (drop 8 coefs) samples h)
 
 -- a whole byte goes into the sums
-pub upward_sum-taken : (xs : List ℤ) (lane : ℕ) (samples : List ℕ) → length (take 8 samples) ≡ 8 →
-    upward_sum (drop lane xs) samples ≡ upward_sum (drop lane xs) (take 8 samples) + upward_sum (drop (lane + 8) xs) (drop 8 samples)
-upward_sum-taken xs lane samples long =
-    ap (upward_sum (drop lane xs)) (sym (take-append-drop 8 samples))
-    ∙ upward_sum-append (drop lane xs) (take 8 samples) (drop 8 samples)
-    ∙ ap (λ n. upward_sum (drop lane xs) (take 8 samples) + upward_sum (drop n (drop lane xs)) (drop 8 samples)) long
-    ∙ ap (λ t. upward_sum (drop lane xs) (take 8 samples) + upward_sum t (drop 8 samples)) (drop-drop 8 lane xs)
+pub upward_sum-byte : (xs : List ℤ) (lane byte : ℕ) (older : List ℕ) →
+    upward_sum (drop lane xs) (rising_bits 8 byte ++ older) ≡ upward_sum (drop lane xs) (rising_bits 8 byte) + upward_sum (drop (lane + 8) xs) older
+upward_sum-byte xs lane byte older =
+    upward_sum-append (drop lane xs) (rising_bits 8 byte) older
+    ∙ ap (λ n. upward_sum (drop lane xs) (rising_bits 8 byte) + upward_sum (drop n (drop lane xs)) older) (length-rising_bits 8 byte)
+    ∙ ap (λ t. upward_sum (drop lane xs) (rising_bits 8 byte) + upward_sum t older) (drop-drop 8 lane xs)
+
+-- coefficients behind eight zeros leave out the newest of the byte
+pub upward_sum-shifted : (coefs : List ℤ) (place : ℕ) (samples : List ℕ) → place ≤ 8 →
+    upward_sum (drop place (shifted coefs)) samples ≡ upward_sum coefs (drop (8 - place) samples)
+unfolding shifted
+upward_sum-shifted coefs place samples h =
+    ap (λ t. upward_sum t samples) (front place coefs h)
+    ∙ skip-zeros (8 - place) (8 - place) coefs samples (omega arith)
+    ∙ ap (λ t. upward_sum t (drop (8 - place) samples)) (behind (8 - place) coefs)
+  where
+    front : (p : ℕ) (coefs : List ℤ) → p ≤ 8 → drop p (replicate 8 (pos 0) ++ coefs) ≡ replicate (8 - p) (pos 0) ++ coefs
+    front zero coefs h = refl
+    front (suc zero) coefs h = refl
+    front (suc (suc zero)) coefs h = refl
+    front (suc (suc (suc zero))) coefs h = refl
+    front (suc (suc (suc (suc zero)))) coefs h = refl
+    front (suc (suc (suc (suc (suc zero))))) coefs h = refl
+    front (suc (suc (suc (suc (suc (suc zero)))))) coefs h = refl
+    front (suc (suc (suc (suc (suc (suc (suc zero))))))) coefs h = refl
+    front (suc (suc (suc (suc (suc (suc (suc (suc zero)))))))) coefs h = refl
+    front (suc (suc (suc (suc (suc (suc (suc (suc (suc p))))))))) coefs h = absurd (omega arith)
+
+    behind : (n : ℕ) (coefs : List ℤ) → drop n (replicate n (pos 0) ++ coefs) ≡ coefs
+    behind zero coefs = refl
+    behind (suc n) coefs = behind n coefs
 
 pub upward_sum-within : (coefs : List ℤ) (samples : List ℕ) → ((j : ℕ) → InRange filter_kind (get_or coefs j (pos 0))) →
     upward_sum coefs samples ≤ 256 * length samples

@@ -4,3 +4,5 @@ pub mod Upward
 pub mod RowSums
 pub mod SumsAhead
 pub mod Eight
+pub mod KnownRows
+pub mod KnownAhead

@@ -22,6 +22,10 @@ size_sum (a ∷ coefs) = nat_abs a + size_sum coefs
 unfoldable pub far : List ℤ → List ℤ
 far coefs = replicate 8 (pos 0) ++ drop 8 coefs
 
+-- the coefficients behind eight zeros: the lanes of a byte's own samples
+unfoldable pub shifted : List ℤ → List ℤ
+shifted coefs = replicate 8 (pos 0) ++ coefs
+
 -- the sum of the coefficients whose sample is 1, the first with the newest sample
 unfoldable pub ones_sum : List ℤ → List ℕ → ℤ
 ones_sum [] samples = pos 0

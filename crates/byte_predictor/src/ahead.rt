@@ -6,6 +6,7 @@ ghost use Rattle.byte_predictor.specs.Upward.{upward_sum};
 ghost use Rattle.byte_predictor.specs.SumsAhead.{IsAhead};
 
 use crate::row_filter::RowFilter;
+use crate::rows::add_row;
 
 /// What the samples of a channel add to the predictions of those that follow, and the newest eight samples.
 #[derive(Drop)]
@@ -79,18 +80,5 @@ impl Ahead {
             → (k : ℕ) → k < 8 → result / 2 ^ k % 2 ≡ get_or samples k 0 }
     {
         self.newest
-    }
-}
-
-// Moves the lanes on by eight samples, and adds what these add.
-#[inline(always)]
-pub(crate) fn add_row(lanes: &mut [u16; 136], row: &[u16; 128])
-    ensures long { length lanes.new ≡ 136 }
-    ensures added { (lane : ℕ) → lane < 128 → get_or lanes.new lane 0 ≡ (get_or lanes.old (lane + 8) 0 + get_or row.now lane 0) % 65536 }
-    ensures last { (lane : ℕ) → 128 ≤ lane → get_or lanes.new lane 0 ≡ get_or lanes.old lane 0 }
-{
-    for lane in 0..128 {
-        let sum = lanes[lane + 8].wrapping_add(row[lane]);
-        lanes[lane] = sum;
     }
 }

@@ -6,8 +6,9 @@ ghost use Rattle.byte_predictor.specs.Upward.{upward_sum};
 ghost use Rattle.byte_predictor.specs.SumsAhead.{IsAhead};
 ghost use Rattle.byte_predictor.specs.Eight.{ahead_at};
 
-use crate::ahead::{Ahead, add_row};
+use crate::ahead::Ahead;
 use crate::row_filter::RowFilter;
+use crate::rows::add_row;
 
 /// What [`Ahead`] has, of one channel of eight frames side by side. The newest samples of all eight are in one array, so that a plain
 /// loop takes the next one of each.

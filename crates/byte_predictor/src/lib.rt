@@ -28,15 +28,26 @@
 //! }
 //! ```
 //!
-//! `EightAhead` has the same of eight frames side by side, for loops over one sample of each.
+//! `EightAhead` has the same of eight frames side by side, for loops over one sample of each. An encoder knows the samples, and
+//! takes a byte of them at a time:
+//!
+//! ```text
+//! filter.build(&table);                  // a `KnownFilter` for sound after sound
+//! let mut ahead = KnownAhead::fresh(&filter);
+//! for byte in sound.iter() {
+//!     let upward = ahead.take_byte(&filter, *byte);   // for each of the eight samples
+//! }
+//! ```
 #![tactic(auto)]
 
 mod ahead;
 mod byte_filter;
 mod eight;
 mod history;
+mod known;
 pub mod laws;
 mod row_filter;
+mod rows;
 #[cfg(test)]
 mod tests;
 
@@ -44,4 +55,5 @@ pub use ahead::Ahead;
 pub use byte_filter::{ByteFilter, predict};
 pub use eight::EightAhead;
 pub use history::History;
+pub use known::{KnownAhead, KnownFilter};
 pub use row_filter::{RowFilter, filter_size};

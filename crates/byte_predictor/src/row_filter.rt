@@ -5,6 +5,7 @@ ghost use Rattle.byte_predictor.specs.Samples.{rising_bits, signed_sum};
 ghost use Rattle.byte_predictor.specs.Upward.{above_zero, upward_sum, size_sum, far, twice_ones};
 
 use crate::byte_filter::{coef_at, with_zeros};
+use crate::rows::{fill_rows, moved, zeros_sum};
 use dst_num::FilterTable;
 use std::marker::Model;
 
@@ -105,7 +106,7 @@ fn far_coefs(coefs: &[i16]) -> [i16; 136]
     later
 }
 
-fn size_of_all(coefs: &[i16]) -> u32
+pub(crate) fn size_of_all(coefs: &[i16]) -> u32
     requires { IsTable filter_kind coefs.now }
     ensures { result ≡ size_sum coefs.now }
 {
@@ -114,38 +115,6 @@ fn size_of_all(coefs: &[i16]) -> u32
         size += u32::from(coef.unsigned_abs());
     }
     size
-}
-
-// A sum where a coefficient is taken positive in place of negative.
-#[inline(always)]
-fn moved(sum: u16, coef: i16) -> u16
-    requires least { pos 0 ≤ℤ (pos sum +ℤ coef) }
-    requires most { (pos sum +ℤ coef) ≤ℤ pos 65535 }
-    ensures { pos result ≡ pos sum +ℤ coef }
-{
-    (i32::from(sum) + i32::from(coef)) as u16
-}
-
-// The size of a coefficient below 0.
-#[inline(always)]
-fn below_zero(coef: i16) -> u16
-    ensures { result ≡ above_zero (neg_ℤ coef) }
-{
-    if coef < 0 { coef.unsigned_abs() } else { 0 }
-}
-
-// What eight samples 0 add.
-fn zeros_sum(coefs: &[i16], first: usize) -> u16
-    requires range { (j : ℕ) → InRange filter_kind (get_or coefs.now j (pos 0)) }
-    requires inside { first < 128 }
-    ensures { result ≡ upward_sum (drop first coefs.now) (rising_bits 8 0) }
-{
-    let mut sum = 0;
-    for i in 0..8 {
-        let size = below_zero(coef_at(coefs, first + i));
-        sum += size;
-    }
-    sum
 }
 
 fn fill_near(near: &mut [u16; 256], coefs: &[i16])
@@ -159,47 +128,6 @@ fn fill_near(near: &mut [u16; 256], coefs: &[i16])
         for byte in 0..half {
             let sum = moved(near[byte], coef);
             near[half + byte] = sum;
-        }
-        half *= 2;
-    }
-}
-
-fn lowest_row(row: &mut [u16; 128], later: &[i16; 136])
-    requires { (j : ℕ) → InRange filter_kind (get_or later.now j (pos 0)) }
-    ensures { (lane : ℕ) → lane < 128 → get_or row.new lane 0 ≡ upward_sum (drop lane later.now) (rising_bits 8 0) }
-{
-    for lane in 0..128 {
-        let sum = zeros_sum(later, lane);
-        row[lane] = sum;
-    }
-}
-
-// The row of a byte with bit i from that of the byte without it.
-#[inline(always)]
-fn raise_row(high: &mut [u16; 128], low: &[u16; 128], later: &[i16; 136], i: usize)
-    requires place { i < 8 }
-    requires least { (lane : ℕ) → lane < 128 → pos 0 ≤ℤ (pos (get_or low.now lane 0) +ℤ get_or later.now (lane + i) (pos 0)) }
-    requires most { (lane : ℕ) → lane < 128 → (pos (get_or low.now lane 0) +ℤ get_or later.now (lane + i) (pos 0)) ≤ℤ pos 65535 }
-    ensures { (lane : ℕ) → lane < 128
-        → pos (get_or high.new lane 0) ≡ pos (get_or low.now lane 0) +ℤ get_or later.now (lane + i) (pos 0) }
-{
-    for lane in 0..128 {
-        let sum = moved(low[lane], later[lane + i]);
-        high[lane] = sum;
-    }
-}
-
-fn fill_rows(rows: &mut [[u16; 128]; 256], later: &[i16; 136])
-    requires { (j : ℕ) → InRange filter_kind (get_or later.now j (pos 0)) }
-    ensures { (byte lane : ℕ) → byte < 256 → lane < 128
-        → get_or (get_or rows.new byte []) lane 0 ≡ upward_sum (drop lane later.now) (rising_bits 8 byte) }
-{
-    lowest_row(&mut rows[0], later);
-    let mut half = 1;
-    for i in 0..8 {
-        for byte in 0..half {
-            let low = rows[byte];
-            raise_row(&mut rows[half + byte], &low, later, i);
         }
         half *= 2;
     }

@@ -1,4 +1,4 @@
-use crate::{Ahead, ByteFilter, EightAhead, History, RowFilter, predict};
+use crate::{Ahead, ByteFilter, EightAhead, History, KnownAhead, KnownFilter, RowFilter, predict};
 use dst_num::FilterTable;
 use std::test::Fail;
 
@@ -71,6 +71,7 @@ fn predictions_are_plain_sums(rt: HostRuntime) -> Result<(), Fail> {
 fn sums_ahead_predict_what_the_tables_do(rt: HostRuntime) -> Result<(), Fail> {
     let mut state = 7u32;
     let mut rows = RowFilter::new();
+    let mut known = KnownFilter::new();
     for length in [1usize, 7, 8, 9, 100, 128] {
         let mut coefs = [0i16; 128];
         for place in 0..length {
@@ -79,12 +80,16 @@ fn sums_ahead_predict_what_the_tables_do(rt: HostRuntime) -> Result<(), Fail> {
         }
         let table = FilterTable::new(&coefs[..length]).ok_or("no table")?;
         rows.build(&table);
+        known.build(&table);
+        assert_eq!(rt; u32::from(known.size()), rows.size());
         let filter = ByteFilter::build(&table);
         let mut history = History::fresh();
         let mut ahead = Ahead::fresh(&rows);
         let mut eight = EightAhead::new();
         eight.begin(5, &rows);
+        let mut whole = KnownAhead::fresh(&known);
         for _ in 0..40 {
+            let mut upward = [0u16; 8];
             for place in 0..8usize {
                 state = state.wrapping_mul(1_664_525).wrapping_add(1_013_904_223);
                 let sample = state >> 31 == 1;
@@ -93,7 +98,8 @@ fn sums_ahead_predict_what_the_tables_do(rt: HostRuntime) -> Result<(), Fail> {
                     rows.prediction(ahead.upward(&rows, place)),
                     predict(&filter, &history)
                 );
-                assert_eq!(rt; eight.upward(5, &rows, place), ahead.upward(&rows, place));
+                upward[place] = ahead.upward(&rows, place);
+                assert_eq!(rt; eight.upward(5, &rows, place), upward[place]);
                 history.push(sample);
                 ahead.push(sample);
                 let mut given = [2u16; 8];
@@ -105,6 +111,7 @@ fn sums_ahead_predict_what_the_tables_do(rt: HostRuntime) -> Result<(), Fail> {
             eight.take_byte(5, &rows);
             assert_eq!(rt; ahead.newest(), history.bytes()[0]);
             assert_eq!(rt; eight.newest(5), ahead.newest());
+            assert_eq!(rt; whole.take_byte(&known, ahead.newest()), upward);
         }
         assert!(rt; rows.size() <= 32768);
     }

@@ -5,7 +5,7 @@ ghost use Rattle.dst_spec.specs.Sample.{samples, sound_bytes};
 ghost use Rattle.level_spec.specs.Counts.{count_from, entry as entry_of, table_of, counted};
 ghost use Rattle.frame_predictions.specs.Codes.{code_at};
 
-use byte_predictor::RowFilter;
+use byte_predictor::KnownFilter;
 use dst_num::{Channels, FilterTable, ProbTable};
 use frame_predictions::write_codes;
 
@@ -25,24 +25,24 @@ pub fn count_table(
     requires few { length members.now ≤ 6 }
     ensures { result ≡ counted channels sound.now members.now filter.now }
 {
-    let mut sums = RowFilter::new();
-    sums.build(filter);
+    let mut known = KnownFilter::new();
+    known.build(filter);
     let mut codes = [0u8; SAMPLES];
     let row = &mut codes[..37_632 * channels.multiple()];
-    let counts = count_channels(row, &sums, sound, channels, members, filter.coefs().len());
+    let counts = count_channels(row, &known, sound, channels, members, filter.coefs().len());
     table_from(&counts)
 }
 
 // Counts the codes of channels, of each those from a sample on. The row has room for the codes of a channel.
 fn count_channels(
     row: &mut [u8],
-    sums: &RowFilter,
+    known: &KnownFilter,
     sound: &[u8],
     channels: Channels,
     members: &[usize],
     first: usize,
 ) -> [u32; 128]
-    requires filter { length sums.now ≤ 128 }
+    requires filter { length known.now ≤ 128 }
     requires row { length row.old ≡ samples channels }
     requires short { length row.old ≤ 150528 }
     requires sound { length sound.now ≡ sound_bytes channels }
@@ -51,12 +51,12 @@ fn count_channels(
     requires first { first ≤ length row.old }
     ensures long { length result ≡ 128 }
     ensures counts { (q : ℕ) → q < 128 → get_or result q 0
-        ≡ count_from first channels (λ c t. code_at channels sound.now c sums.now t == q) members.now }
+        ≡ count_from first channels (λ c t. code_at channels sound.now c known.now t == q) members.now }
     ensures most { (q : ℕ) → get_or result q 0 < 2 ^ 23 }
 {
     let mut counts = [0; 128];
     for member in members {
-        write_codes(row, sums, sound, channels, *member);
+        write_codes(row, known, sound, channels, *member);
         count_codes(&mut counts, &row[first..]);
     }
     counts

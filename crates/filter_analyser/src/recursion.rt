@@ -60,11 +60,12 @@ pub fn keep_rows(lags: &[i64; 129]) -> (Rows, [i64; 128])
     (rows, run.padded())
 }
 
-/// The state of the recursion after some steps.
+/// The state of the recursion after some steps, and room for the values of the next one.
 #[derive(Drop)]
 struct Run {
     error: i64,
     values: [i64; 128],
+    next: [i64; 128],
     steps: usize,
 }
 
@@ -88,6 +89,7 @@ impl Run {
         Run {
             error: lags[0] * ONE,
             values: [0; 128],
+            next: [0; 128],
             steps: 0,
         }
     }
@@ -121,12 +123,12 @@ impl Run {
             return false;
         }
         let reflection = next_value as i64;
-        let next = moved(values, reflection);
-        if has_large(&next[..place]) {
+        fill_moved(&mut self.next[..place], values, reflection);
+        if has_large(&self.next[..place]) {
             return false;
         }
         self.error = fallen(self.error, reflection);
-        self.values = next;
+        self.values[..place].copy_from_slice(&self.next[..place]);
         self.steps = place;
         true
     }
@@ -139,6 +141,7 @@ impl Run {
         Run {
             error: lags[0] * (ONE + 64),
             values: [0; 128],
+            next: [0; 128],
             steps: 0,
         }
     }
@@ -157,13 +160,13 @@ impl Run {
             return false;
         }
         let reflection = added as i64;
-        let next = moved(&self.values[..self.steps], reflection);
+        fill_moved(&mut self.next[..place], &self.values[..self.steps], reflection);
         let error = fallen(self.error, reflection);
-        if is_past(error, lags[0], &next[..place]) {
+        if is_past(error, lags[0], &self.next[..place]) {
             return false;
         }
         self.error = error;
-        self.values = next;
+        self.values[..place].copy_from_slice(&self.next[..place]);
         self.steps = place;
         true
     }
@@ -225,17 +228,6 @@ fn next_value(lags: &[i64; 129], values: &[i64], error: i64) -> i128
 }
 
 // The values, moved by the next one, and that one.
-fn moved(values: &[i64], reflection: i64) -> [i64; 128]
-    requires values { (k : ℕ) → nat_abs (get_or values.now k (pos 0)) ≤ 2 ^ 40 }
-    requires few { length values.now < 128 }
-    requires reflection { nat_abs reflection < 2 ^ 24 }
-    ensures { take (length values.now + 1) result ≡ moved_of values.now reflection (length values.now + 1) }
-{
-    let mut next = [0; 128];
-    fill_moved(&mut next[..values.len() + 1], values, reflection);
-    next
-}
-
 fn fill_moved(next: &mut [i64], values: &[i64], reflection: i64)
     requires values { (k : ℕ) → nat_abs (get_or values.now k (pos 0)) ≤ 2 ^ 40 }
     requires reflection { nat_abs reflection < 2 ^ 24 }

@@ -1,4 +1,3 @@
-pub mod CodeTable
 pub mod Codes
 pub mod Filling
 pub mod Predicting

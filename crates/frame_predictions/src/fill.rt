@@ -1,84 +1,61 @@
 // The codes of a channel's samples.
-ghost use Rattle.std.specs.Prelude.{◌≡◌, ℕ, ◌+◌, ◌-◌, ◌*◌, ◌/◌, ◌%◌, ◌^◌, ◌<◌, ◌≤◌, ◌==◌, ◌∷◌, List, length, get_or};
+ghost use Rattle.std.specs.Prelude.{◌≡◌, ℕ, ◌+◌, ◌-◌, ◌*◌, ◌/◌, ◌%◌, ◌^◌, ◌<◌, ◌≤◌, ◌==◌, pos, ◌-ℤ◌, length, get_or};
 ghost use Rattle.dst_spec.specs.Sample.{Shape};
-ghost use Rattle.dst_spec.specs.Header.{bit_of};
-ghost use Rattle.byte_predictor.specs.Samples.{signed_sum};
-ghost use Rattle.byte_predictor.specs.SumsAhead.{IsAhead};
-ghost use Rattle.frame_predictions.specs.Codes.{code_of, codes as codes_of};
-ghost use Rattle.frame_predictions.specs.CodeTable.{IsCodeTable};
-ghost use Rattle.frame_predictions.specs.Filling.{IsFilling};
+ghost use Rattle.frame_predictions.specs.Codes.{code_of as code_from, codes as codes_of};
 
-use crate::code_table::CodeTable;
-use byte_predictor::{Ahead, RowFilter};
+use byte_predictor::{KnownAhead, KnownFilter};
 
-/// Writes the codes of a channel's samples with the filter of the sums, the channel having so many bytes.
+/// Writes the codes of a channel's samples with a filter, the channel having so many bytes.
 pub(crate) fn fill(
     codes: &mut [u8],
-    sums: &RowFilter,
-    table: &CodeTable,
+    filter: &KnownFilter,
     sound: &[u8],
     channels: usize,
     channel: usize,
     octets: usize,
 )
-    requires filter { length sums.now ≤ 128 }
-    requires table { IsCodeTable sums.now table.now }
+    requires filter { length filter.now ≤ 128 }
     requires channel { channel < channels }
     requires long { length codes.old ≡ 8 * octets }
     requires sound { length sound.now ≡ octets * channels }
     requires short { octets < 2 ^ 32 }
-    ensures { (f : Shape) → f.channels ≡ channels → f.octets ≡ octets → codes.new ≡ codes_of f sound.now channel sums.now }
+    ensures { (f : Shape) → f.channels ≡ channels → f.octets ≡ octets → codes.new ≡ codes_of f sound.now channel filter.now }
 {
-    let mut ahead = Ahead::fresh(sums);
+    let mut ahead = KnownAhead::fresh(filter);
     for byte in 0..octets {
         let samples = sound[byte * channels + channel];
-        fill_byte(codes, byte, sums, table, &mut ahead, samples);
-        ahead.take_byte(sums);
+        let size = filter.size();
+        let upward = ahead.take_byte(filter, samples);
+        write_byte(&mut codes[8 * byte..8 * byte + 8], &upward, size, samples);
     }
 }
 
-// The codes of the eight samples of a byte.
+// The codes of the eight samples of a byte, by what goes upward to the prediction of each.
 #[inline(always)]
-fn fill_byte(
-    codes: &mut [u8],
-    byte: usize,
-    sums: &RowFilter,
-    table: &CodeTable,
-    ahead: &mut Ahead,
-    samples: u8,
-)
-    requires filter { length sums.now ≤ 128 }
-    requires table { IsCodeTable sums.now table.now }
-    requires room { 8 * byte + 8 ≤ length codes.old }
-    ensures long { length codes.new ≡ length codes.old }
-    ensures filling { (f : Shape) (sound : List ℕ) (c : ℕ) → get_or sound (byte * f.channels + c) 0 ≡ samples
-        → IsFilling f sound c sums.now (8 * byte) 0 codes.old ahead.old → IsFilling f sound c sums.now (8 * byte + 8) 8 codes.new ahead.new }
+fn write_byte(codes: &mut [u8], upward: &[u16; 8], size: u16, samples: u8)
+    requires upward { (place : ℕ) → place < 8 → get_or upward.now place 0 ≤ size }
+    requires size { size ≤ 32768 }
+    requires eight { length codes.old ≡ 8 }
+    ensures eight { length codes.new ≡ 8 }
+    ensures each { (place : ℕ) → place < 8 → get_or codes.new place 0
+        ≡ code_from (pos (2 * get_or upward.now place 0) -ℤ pos size) (samples / 2 ^ (7 - place) % 2 == 1) }
 {
     for place in 0..8usize {
-        let one = sample_at(samples, place);
-        let code = take_sample(sums, table, ahead, place, one);
-        codes[8 * byte + place] = code;
+        codes[place] = code_of(upward[place], size, sample_at(samples, place));
     }
 }
 
-// The code of the next sample.
+// The code of a sample whose prediction is twice what goes upward, less all sizes.
 #[inline(always)]
-fn take_sample(
-    sums: &RowFilter,
-    table: &CodeTable,
-    ahead: &mut Ahead,
-    place: usize,
-    one: bool,
-) -> u8
-    requires place { place < 8 }
-    requires table { IsCodeTable sums.now table.now }
-    ensures code { (samples : List ℕ) → IsAhead sums.now place samples ahead.old → result ≡ code_of (signed_sum sums.now samples) one }
-    ensures ahead { (samples : List ℕ) → IsAhead sums.now place samples ahead.old → IsAhead sums.now (place + 1) (bit_of one ∷ samples) ahead.new }
+fn code_of(upward: u16, size: u16, one: bool) -> u8
+    requires upward { upward ≤ size }
+    requires size { size ≤ 32768 }
+    ensures { result ≡ code_from (pos (2 * upward) -ℤ pos size) one }
 {
-    let _size = sums.size();
-    let upward = ahead.upward(sums, place);
-    ahead.push(one);
-    table[upward as usize][usize::from(one)]
+    let downward = size - upward;
+    let place = (upward.abs_diff(downward) / 8).min(63) as u8;
+    let guess = upward >= downward;
+    if one == guess { place } else { place + 64 }
 }
 
 // The earliest sample is in the most significant bit.

@@ -13,7 +13,6 @@
 //! ```
 #![tactic(auto)]
 
-mod code_table;
 mod fill;
 pub mod laws;
 mod predictions;

@@ -4,9 +4,8 @@ ghost use Rattle.dst_spec.specs.Sample.{IsShape, samples, sound_bytes};
 ghost use Rattle.frame_predictions.specs.Codes.{codes};
 ghost use Rattle.frame_predictions.specs.Predicting.{Predicted, nothing};
 
-use crate::code_table::CodeTable;
 use crate::row::{Row, provide};
-use byte_predictor::RowFilter;
+use byte_predictor::KnownFilter;
 use dst_num::{Channels, FilterTable};
 use std::alloc::{AllocError, Global};
 use std::marker::Model;
@@ -17,8 +16,7 @@ use std::marker::Model;
 pub struct Predictions {
     channels: Channels,
     sound: Vec<u8>,
-    sums: RowFilter,
-    table: CodeTable,
+    known: KnownFilter,
     rows: Vec<Row>,
     held: usize,
     filled: usize,
@@ -58,8 +56,7 @@ impl Predictions {
         Ok(Predictions {
             channels,
             sound: vec![in alloc; 0u8; channels.sound_bytes()]?,
-            sums: RowFilter::new(),
-            table: [[0; 2]; 65536],
+            known: KnownFilter::new(),
             rows,
             held: 0,
             filled: 0,
@@ -104,8 +101,7 @@ impl Predictions {
         let held = next_place(self.held, self.rows.len());
         let place = provide(
             self.rows.as_mut_slice(),
-            &mut self.sums,
-            &mut self.table,
+            &mut self.known,
             self.sound.as_slice(),
             self.channels,
             self.filled,

@@ -2,12 +2,10 @@
 ghost use Rattle.std.specs.Prelude.{◌≡◌, ◌≢◌, ℕ, ◌+◌, ◌*◌, ◌<◌, ◌≤◌, max, true, length, get_or};
 ghost use Rattle.dst_spec.specs.Sample.{samples, sound_bytes};
 ghost use Rattle.frame_predictions.specs.Codes.{codes as codes_of};
-ghost use Rattle.frame_predictions.specs.CodeTable.{IsCodeTable};
 ghost use Rattle.frame_predictions.specs.Rows.{predicted, AreFilled};
 
-use crate::code_table::{CodeTable, fill_table};
 use crate::fill::fill;
-use byte_predictor::RowFilter;
+use byte_predictor::KnownFilter;
 use dst_num::{Channels, FilterTable};
 
 /// The codes of a channel's samples with a filter.
@@ -45,8 +43,7 @@ fn is_of(row: &Row, channel: usize, filter: &FilterTable) -> bool
 /// one where all are filled.
 pub(crate) fn provide(
     rows: &mut [Row],
-    sums: &mut RowFilter,
-    table: &mut CodeTable,
+    known: &mut KnownFilter,
     sound: &[u8],
     channels: Channels,
     filled: usize,
@@ -70,32 +67,21 @@ pub(crate) fn provide(
         return place;
     }
     let place = place.min(rows.len() - 1);
-    sums.build(filter);
-    fill_table(table, sums);
-    make(
-        &mut rows[place],
-        sums,
-        table,
-        sound,
-        channels,
-        channel,
-        filter,
-    );
+    known.build(filter);
+    make(&mut rows[place], known, sound, channels, channel, filter);
     place
 }
 
-// Makes a row that of a channel with the filter of the sums.
+// Makes a row that of a channel with a filter, which the known one is.
 fn make(
     row: &mut Row,
-    sums: &RowFilter,
-    table: &CodeTable,
+    known: &KnownFilter,
     sound: &[u8],
     channels: Channels,
     channel: usize,
     filter: &FilterTable,
 )
-    requires sums { sums.now ≡ filter.now }
-    requires table { IsCodeTable sums.now table.now }
+    requires known { known.now ≡ filter.now }
     requires channel { channel < channels.channels }
     requires sound { length sound.now ≡ sound_bytes channels }
     requires long { length row.old.codes.items ≡ samples channels }
@@ -109,8 +95,7 @@ fn make(
     let count = channels.count();
     fill(
         row.codes.as_mut_slice(),
-        sums,
-        table,
+        known,
         sound,
         count,
         channel,

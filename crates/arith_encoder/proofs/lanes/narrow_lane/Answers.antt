@@ -8,6 +8,6 @@ returns c = λ symbol p is r.
     let range = c.args.range in
     let step = c.args.step in
     let s = bit_or (range / 256) (bit_and (range / 128) 1) in
-    lane_is symbol p range step s (s * (step % 256) % 65536) c.either-part.result c.either-after.result (step / 256 % 8 + c.from.result) is r
+    lane_is symbol p range step s (s * (step % 256) % 65536) c.either-part.result c.either-more.result _ (step / 256 % 8 + c.from.result) is r
     (scale_shifted range) refl c.either-part.ensures
-    c.either-after.ensures (ap (λ n. step / 256 % 8 + n) c.from.ensures)
+    c.either-more.ensures refl (ap (λ n. step / 256 % 8 + n) c.from.ensures)

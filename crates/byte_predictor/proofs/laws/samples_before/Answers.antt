@@ -1,6 +1,6 @@
 use Rattle.std.proofs.Common.{pos, refl}
 use Rattle.dst_spec.specs.Sample.{sample}
-use Rattle.byte_predictor.proofs.Before.{before_a_frame, before_next, predicted}
+use Rattle.byte_predictor.proofs.Before.{before_a_frame, before_next, before_in_a_byte, predicted}
 use Rattle.byte_predictor.proofs.laws.samples_before.Goals as goal
 
 pub returns-clause-frame : goal.returns-clause-frame
@@ -11,3 +11,6 @@ returns-clause-next c = λ f sound ch t samples before. before_next f sound ch t
 
 pub returns-clause-predicts : goal.returns-clause-predicts
 returns-clause-predicts c = predicted
+
+pub returns-clause-byte : goal.returns-clause-byte
+returns-clause-byte c = before_in_a_byte

@@ -19,7 +19,7 @@ pub count_codes-requires : goal.count_codes-requires
 count_codes-requires c =
     let f = c.args.channels in
     let sound = c.args.sound.now in
-    let coefs = c.args.sums.now in
+    let coefs = c.args.known.now in
     let first = c.args.first in
     let i = c.loop-member.member-index in
     let ch = get_or c.args.members.now i 0 in
@@ -46,7 +46,7 @@ pub loop-member-preserved : goal.loop-member-preserved
 loop-member-preserved c =
     let f = c.args.channels in
     let sound = c.args.sound.now in
-    let coefs = c.args.sums.now in
+    let coefs = c.args.known.now in
     let first = c.args.first in
     let i = c.loop-member.member-index in
     let ch = get_or c.args.members.now i 0 in
@@ -71,14 +71,14 @@ returns c =
     let short : T ≤ 150528 = omega (arith, c.requires.row, c.requires.short) in
     let all : take c.loop-member.member-index members ≡ members = take_all c.loop-member.member-index members (omega arith) in
     let counts : (q : ℕ) → q < 128 → get_or c.loop-member.counts q 0 ≡ count_from first f
-    (λ c' t. code_at f c.args.sound.now c' c.args.sums.now t == q) members =
-    λ q h. c.loop-member.invariant.1 q h ∙ ap (count_from first f (λ c' t. code_at f c.args.sound.now c' c.args.sums.now t == q)) all in
+    (λ c' t. code_at f c.args.sound.now c' c.args.known.now t == q) members =
+    λ q h. c.loop-member.invariant.1 q h ∙ ap (count_from first f (λ c' t. code_at f c.args.sound.now c' c.args.known.now t == q)) all in
     let product : length members * T ≤ 6 * 150528 = Rattle.std.proofs.lemmas.Nat.mul-le (length members) T 6 150528 c.requires.few short in
     record {
       long = c.loop-member.invariant.0;
       counts = counts;
       most = λ q. elim (cases_lt q 128) [
-        | inl h ↦ omega (arith, counts q h, count_from-most first f (λ c' t. code_at f c.args.sound.now c' c.args.sums.now t == q) members)
+        | inl h ↦ omega (arith, counts q h, count_from-most first f (λ c' t. code_at f c.args.sound.now c' c.args.known.now t == q) members)
         | inr h ↦ let past : get_or c.loop-member.counts q 0 ≡ 0 =
             get_or_past c.loop-member.counts q 0 (omega (arith, c.loop-member.invariant.0)) in omega arith
       ];

@@ -7,6 +7,6 @@ use Rattle.filter_analyser.proofs.counts.count_channels.Given as goal
 abbrev pub invariant-loop-member : goal.invariant-loop-member
 invariant-loop-member l =
     (length l.counts ≡ 128)
-    × ((q : ℕ) → q < 128 → get_or l.counts q 0 ≡ count_from l.first l.channels (λ c t. code_at l.channels l.sound c l.sums t == q)
+    × ((q : ℕ) → q < 128 → get_or l.counts q 0 ≡ count_from l.first l.channels (λ c t. code_at l.channels l.sound c l.known t == q)
     (take l.member-index l.members))
     × (length l.row ≡ samples l.channels)

@@ -6,5 +6,5 @@ use Rattle.frame_predictions.proofs.fill.fill.Given as goal
 abbrev pub invariant-loop-byte : goal.invariant-loop-byte
 invariant-loop-byte l = record {
   long : length l.codes ≡ 8 * l.octets;
-  filling : (f : Shape) → f.channels ≡ l.channels → IsFilling f l.sound l.channel l.sums (8 * l.byte) 0 l.codes l.ahead;
+  filling : (f : Shape) → f.channels ≡ l.channels → IsFilling f l.sound l.channel l.filter l.byte l.codes l.ahead;
 }

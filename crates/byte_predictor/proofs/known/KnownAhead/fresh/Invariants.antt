@@ -1,0 +1,9 @@
+use Rattle.std.proofs.Common.{◌≡◌, ℕ, ◌<◌, length, get_or, drop, replicate}
+use Rattle.byte_predictor.specs.Samples.{samples_of}
+use Rattle.byte_predictor.specs.Upward.{upward_sum, shifted}
+use Rattle.byte_predictor.proofs.known.KnownAhead.fresh.Given as goal
+
+abbrev pub invariant-loop-turn : goal.invariant-loop-turn
+invariant-loop-turn l =
+    (length l.lanes ≡ 144)
+    × ((lane : ℕ) → lane < 144 → get_or l.lanes lane 0 ≡ upward_sum (drop lane (shifted l.filter)) (samples_of (replicate l.turn 170)))
