@@ -1,5 +1,5 @@
 -- Coefficients at a scale, and the last of them that isn't 0.
-use Rattle.std.proofs.Common.{◌≡◌, ℕ, ◌+◌, ◌*◌, ◌%◌, ◌^◌, ◌<◌, ◌≤◌, ℤ, pos, ◌+ℤ◌, ◌*ℤ◌, nat_abs, to_z, of_z, true}
+use Rattle.std.proofs.Common.{◌≡◌, ℕ, ◌*◌, ◌%◌, ◌^◌, ◌<◌, ◌≤◌, ℤ, pos, ◌+ℤ◌, ◌*ℤ◌, nat_abs, to_z, of_z, true}
 use Rattle.std.proofs.Common.{not, ◌==◌, ap, ◌∙◌, arith}
 use mir.Syntax.{w64}
 use lib.Signed.{shr_z}

@@ -123,12 +123,12 @@ impl Run {
             return false;
         }
         let reflection = next_value as i64;
-        fill_moved(&mut self.next[..place], values, reflection);
+        move_values(&mut self.next, values, reflection);
         if has_large(&self.next[..place]) {
             return false;
         }
         self.error = fallen(self.error, reflection);
-        self.values[..place].copy_from_slice(&self.next[..place]);
+        copy_first(&mut self.values, &self.next, place);
         self.steps = place;
         true
     }
@@ -155,18 +155,19 @@ impl Run {
         ensures made { result ≡ true → length self.new.values ≡ length self.old.values + 1 }
     {
         let place = self.steps + 1;
-        let added = next_value(lags, &self.values[..self.steps], self.error);
+        let values = &self.values[..self.steps];
+        let added = next_value(lags, values, self.error);
         if added.unsigned_abs() >= 1 << 24 {
             return false;
         }
         let reflection = added as i64;
-        fill_moved(&mut self.next[..place], &self.values[..self.steps], reflection);
+        move_values(&mut self.next, values, reflection);
         let error = fallen(self.error, reflection);
         if is_past(error, lags[0], &self.next[..place]) {
             return false;
         }
         self.error = error;
-        self.values[..place].copy_from_slice(&self.next[..place]);
+        copy_first(&mut self.values, &self.next, place);
         self.steps = place;
         true
     }
@@ -227,7 +228,26 @@ fn next_value(lags: &[i64; 129], values: &[i64], error: i64) -> i128
     (rest * i128::from(ONE)).div_euclid(i128::from(error))
 }
 
-// The values, moved by the next one, and that one.
+// The values, moved by the next one, and that one, in front of an array.
+fn move_values(next: &mut [i64; 128], values: &[i64], reflection: i64)
+    requires values { (k : ℕ) → nat_abs (get_or values.now k (pos 0)) ≤ 2 ^ 40 }
+    requires few { length values.now < 128 }
+    requires reflection { nat_abs reflection < 2 ^ 24 }
+    ensures moved { take (length values.now + 1) next.new ≡ moved_of values.now reflection (length values.now + 1) }
+    ensures long { length next.new ≡ 128 }
+{
+    fill_moved(&mut next[..values.len() + 1], values, reflection);
+}
+
+// Copies the first values.
+fn copy_first(values: &mut [i64; 128], next: &[i64; 128], count: usize)
+    requires { count ≤ 128 }
+    ensures first { take count values.new ≡ take count next.now }
+    ensures long { length values.new ≡ 128 }
+{
+    values[..count].copy_from_slice(&next[..count]);
+}
+
 fn fill_moved(next: &mut [i64], values: &[i64], reflection: i64)
     requires values { (k : ℕ) → nat_abs (get_or values.now k (pos 0)) ≤ 2 ^ 40 }
     requires reflection { nat_abs reflection < 2 ^ 24 }

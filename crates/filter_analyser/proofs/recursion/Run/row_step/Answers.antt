@@ -49,8 +49,8 @@ returns-then-is_past-clause-state c =
     let small : nat_abs F < 2 ^ 24 = let v : c.unsigned_abs.result ≡ nat_abs F = c.unsigned_abs.ensures.value ∙ ap nat_abs same in omega arith in
     let cut : to_z w64 (of_z w64 (to_z w128 (of_z w128 F))) ≡ F = omega (arith, ints) in
     let long : length values ≡ c.self.inside.steps = omega (arith, length-take c.self.inside.steps c.self.inside.values, c.self.told, c.self.invariant.0) in
-    let next : take (c.self.inside.steps + 1) c.moved-next.result ≡ moved values F n =
-    ap (λ k. take (k + 1) c.moved-next.result) (sym long) ∙ c.moved-next.ensures ∙ ap (λ z. moved values z n) cut in
+    let next : take (c.self.inside.steps + 1) c.move_values.new.next ≡ moved values F n =
+    ap (λ k. take (k + 1) c.move_values.new.next) (sym long) ∙ c.move_values.ensures.moved ∙ ap (λ z. moved values z n) cut in
     let less = c.fallen-error.ensures.most in
     let least = c.fallen-error.ensures.least in
     let most = c.self.invariant.1.most in
@@ -63,26 +63,27 @@ returns-then-is_past-clause-state c =
     let kept : to_z w64 (of_z w64 r) ≡ r = omega (arith, ints) in
     let test : c.is_past.result ≡ (int_lt (fallen error F) (lag lags 0) || list_any (λ b. nat_lt (2 ^ 32) (nat_abs b)) (moved values F n)) =
     c.is_past.ensures
-    ∙ ap (λ e. int_lt e (to_z w64 (of_z w64 r)) || list_any (λ b. nat_lt (2 ^ 32) (nat_abs b)) (take (c.self.inside.steps + 1) c.moved-next.result))
+    ∙ ap (λ e. int_lt e (to_z w64 (of_z w64 r)) || list_any (λ b. nat_lt (2 ^ 32) (nat_abs b)) (take (c.self.inside.steps + 1) c.move_values.new.next))
     (back ∙ fell)
-    ∙ ap (λ z. int_lt (fallen error F) z || list_any (λ b. nat_lt (2 ^ 32) (nat_abs b)) (take (c.self.inside.steps + 1) c.moved-next.result)) kept
+    ∙ ap (λ z. int_lt (fallen error F) z || list_any (λ b. nat_lt (2 ^ 32) (nat_abs b)) (take (c.self.inside.steps + 1) c.move_values.new.next)) kept
     ∙ ap (λ v. int_lt (fallen error F) r || list_any (λ b. nat_lt (2 ^ 32) (nat_abs b)) v) next in
     let stop = row-step-by_test lags s F c.is_past.result is small test in
-    sym (subst (λ t. next_row lags t ≡ t) c.self.view_is (stop ∙ ap
+    c.self.view_is ∙ sym (subst (λ t. next_row lags t ≡ t) c.self.view_is (stop ∙ ap
     (λ b. cond b s (record { error = fallen error F; values = moved values F n })) c.if-is_past.true))
 
-pub invariant_of-self : goal.invariant_of-self
-invariant_of-self c =
+pub invariant_of-self-2 : goal.invariant_of-self-2
+invariant_of-self-2 c =
     let values = take c.self.inside.steps c.self.inside.values in
     let seen : length values ≡ length c.args.self.now.values = ap (λ t. length t.values) c.self.view_is in
     let long : length values ≡ c.self.inside.steps = omega (arith, length-take c.self.inside.steps c.self.inside.values, c.self.told, c.self.invariant.0) in
     let room : length c.args.self.now.values < 128 = c.requires.room in
-    let front = length-take (c.self.inside.steps + 1) c.moved-next.result in
+    let front = length-take (c.self.inside.steps + 1) c.copy_first.new.values in
+    let first = c.copy_first.ensures.first in
     let least = c.fallen-error.ensures.least in
     let less = c.fallen-error.ensures.most in
     let most = c.self.invariant.1.most in
     let positive = c.self.invariant.1.positive in
-    let kept = take (c.self.inside.steps + 1) c.moved-next.result in
+    let kept = take (c.self.inside.steps + 1) c.move_values.new.next in
     let past = or_parts (int_lt (to_z w64 (of_z w64 c.fallen-error.result)) (to_z w64 (of_z w64 (get_or c.args.lags.now 0 (pos 0)))))
     (list_any (λ b. nat_lt (2 ^ 32) (nat_abs b)) kept) (sym c.is_past.ensures ∙ c.if-is_past.false) in (
       omega arith,
@@ -90,7 +91,8 @@ invariant_of-self c =
         positive = omega (arith, ints);
         most = omega (arith, ints);
         few = omega (arith, front);
-        small = below-40 (take (c.self.inside.steps + 1) c.moved-next.result) (none_above_32 (take (c.self.inside.steps + 1) c.moved-next.result) past.1);
+        small = below-40 (take (c.self.inside.steps + 1) c.copy_first.new.values) (none_above_32 (take (c.self.inside.steps + 1) c.copy_first.new.values)
+            (ap (list_any (λ b. nat_lt (2 ^ 32) (nat_abs b))) first ∙ past.1));
       },
     )
 
@@ -108,8 +110,8 @@ returns-clause-state c =
     let small : nat_abs F < 2 ^ 24 = let v : c.unsigned_abs.result ≡ nat_abs F = c.unsigned_abs.ensures.value ∙ ap nat_abs same in omega arith in
     let cut : to_z w64 (of_z w64 (to_z w128 (of_z w128 F))) ≡ F = omega (arith, ints) in
     let long : length values ≡ c.self.inside.steps = omega (arith, length-take c.self.inside.steps c.self.inside.values, c.self.told, c.self.invariant.0) in
-    let next : take (c.self.inside.steps + 1) c.moved-next.result ≡ moved values F n =
-    ap (λ k. take (k + 1) c.moved-next.result) (sym long) ∙ c.moved-next.ensures ∙ ap (λ z. moved values z n) cut in
+    let next : take (c.self.inside.steps + 1) c.move_values.new.next ≡ moved values F n =
+    ap (λ k. take (k + 1) c.move_values.new.next) (sym long) ∙ c.move_values.ensures.moved ∙ ap (λ z. moved values z n) cut in
     let less = c.fallen-error.ensures.most in
     let least = c.fallen-error.ensures.least in
     let most = c.self.invariant.1.most in
@@ -122,11 +124,12 @@ returns-clause-state c =
     let kept : to_z w64 (of_z w64 r) ≡ r = omega (arith, ints) in
     let test : c.is_past.result ≡ (int_lt (fallen error F) (lag lags 0) || list_any (λ b. nat_lt (2 ^ 32) (nat_abs b)) (moved values F n)) =
     c.is_past.ensures
-    ∙ ap (λ e. int_lt e (to_z w64 (of_z w64 r)) || list_any (λ b. nat_lt (2 ^ 32) (nat_abs b)) (take (c.self.inside.steps + 1) c.moved-next.result))
+    ∙ ap (λ e. int_lt e (to_z w64 (of_z w64 r)) || list_any (λ b. nat_lt (2 ^ 32) (nat_abs b)) (take (c.self.inside.steps + 1) c.move_values.new.next))
     (back ∙ fell)
-    ∙ ap (λ z. int_lt (fallen error F) z || list_any (λ b. nat_lt (2 ^ 32) (nat_abs b)) (take (c.self.inside.steps + 1) c.moved-next.result)) kept
+    ∙ ap (λ z. int_lt (fallen error F) z || list_any (λ b. nat_lt (2 ^ 32) (nat_abs b)) (take (c.self.inside.steps + 1) c.move_values.new.next)) kept
     ∙ ap (λ v. int_lt (fallen error F) r || list_any (λ b. nat_lt (2 ^ 32) (nat_abs b)) v) next in
     let stop = row-step-by_test lags s F c.is_past.result is small test in
     let state : ℤ → List ℤ → State = λ e v. record { error = e; values = v } in
-    ap (λ e. state e (take (c.self.inside.steps + 1) c.moved-next.result)) (back ∙ fell) ∙ ap (state (fallen error F)) next
+    ap (λ e. state e (take (c.self.inside.steps + 1) c.copy_first.new.values)) (back ∙ fell)
+    ∙ ap (state (fallen error F)) (c.copy_first.ensures.first ∙ next)
     ∙ sym (ap (next_row lags) (sym c.self.view_is) ∙ stop ∙ ap (λ b. cond b s (state (fallen error F) (moved values F n))) c.if-is_past.false)

@@ -36,21 +36,22 @@ returns-then-has_large-clause-state c =
     let small : nat_abs F < 2 ^ 24 = let v : c.unsigned_abs.result ≡ nat_abs F = c.unsigned_abs.ensures.value ∙ ap nat_abs same in omega arith in
     let cut : to_z w64 (of_z w64 (to_z w128 (of_z w128 F))) ≡ F = omega (arith, ints) in
     let long : length values ≡ c.self.inside.steps = omega (arith, length-take c.self.inside.steps c.self.inside.values, c.self.told, c.self.invariant.0) in
-    let next : take (c.self.inside.steps + 1) c.moved-next.result ≡ moved values F n =
-    ap (λ k. take (k + 1) c.moved-next.result) (sym long) ∙ c.moved-next.ensures ∙ ap (λ z. moved values z n) cut in
+    let next : take (c.self.inside.steps + 1) c.move_values.new.next ≡ moved values F n =
+    ap (λ k. take (k + 1) c.move_values.new.next) (sym long) ∙ c.move_values.ensures.moved ∙ ap (λ z. moved values z n) cut in
     let large : c.has_large.result ≡ list_any (λ b. nat_lt (2 ^ 40) (nat_abs b)) (moved values F n) = c.has_large.ensures
     ∙ ap (list_any (λ b. nat_lt (2 ^ 40) (nat_abs b))) next in
     let stop = stop-by_large lags s F c.has_large.result is small large in
-    sym (subst (λ t. step lags t ≡ t) c.self.view_is (stop ∙ ap
+    c.self.view_is ∙ sym (subst (λ t. step lags t ≡ t) c.self.view_is (stop ∙ ap
     (λ b. cond b s (record { error = fallen error F; values = moved values F n })) c.if-has_large.true))
 
-pub invariant_of-self : goal.invariant_of-self
-invariant_of-self c =
+pub invariant_of-self-2 : goal.invariant_of-self-2
+invariant_of-self-2 c =
     let values = take c.self.inside.steps c.self.inside.values in
     let seen : length values ≡ length c.args.self.now.values = ap (λ t. length t.values) c.self.view_is in
     let long : length values ≡ c.self.inside.steps = omega (arith, length-take c.self.inside.steps c.self.inside.values, c.self.told, c.self.invariant.0) in
     let room : length c.args.self.now.values < 128 = c.requires.room in
-    let front = length-take (c.self.inside.steps + 1) c.moved-next.result in
+    let front = length-take (c.self.inside.steps + 1) c.copy_first.new.values in
+    let first = c.copy_first.ensures.first in
     let least = c.fallen-self-inside.ensures.least in
     let less = c.fallen-self-inside.ensures.most in
     let most = c.self.invariant.1.most in
@@ -60,7 +61,8 @@ invariant_of-self c =
         positive = omega (arith, ints);
         most = omega (arith, ints);
         few = omega (arith, front);
-        small = none_above (take (c.self.inside.steps + 1) c.moved-next.result) (sym c.has_large.ensures ∙ c.if-has_large.false);
+        small = none_above (take (c.self.inside.steps + 1) c.copy_first.new.values)
+            (ap (list_any (λ b. nat_lt (2 ^ 40) (nat_abs b))) first ∙ sym c.has_large.ensures ∙ c.if-has_large.false);
       },
     )
 
@@ -78,8 +80,8 @@ returns-clause-state c =
     let small : nat_abs F < 2 ^ 24 = let v : c.unsigned_abs.result ≡ nat_abs F = c.unsigned_abs.ensures.value ∙ ap nat_abs same in omega arith in
     let cut : to_z w64 (of_z w64 (to_z w128 (of_z w128 F))) ≡ F = omega (arith, ints) in
     let long : length values ≡ c.self.inside.steps = omega (arith, length-take c.self.inside.steps c.self.inside.values, c.self.told, c.self.invariant.0) in
-    let next : take (c.self.inside.steps + 1) c.moved-next.result ≡ moved values F n =
-    ap (λ k. take (k + 1) c.moved-next.result) (sym long) ∙ c.moved-next.ensures ∙ ap (λ z. moved values z n) cut in
+    let next : take (c.self.inside.steps + 1) c.move_values.new.next ≡ moved values F n =
+    ap (λ k. take (k + 1) c.move_values.new.next) (sym long) ∙ c.move_values.ensures.moved ∙ ap (λ z. moved values z n) cut in
     let large : c.has_large.result ≡ list_any (λ b. nat_lt (2 ^ 40) (nat_abs b)) (moved values F n) = c.has_large.ensures
     ∙ ap (list_any (λ b. nat_lt (2 ^ 40) (nat_abs b))) next in
     let stop = stop-by_large lags s F c.has_large.result is small large in
@@ -90,5 +92,5 @@ returns-clause-state c =
     (let e : to_z w64 (of_z w64 c.fallen-self-inside.result) ≡ c.fallen-self-inside.result = omega (arith, ints) in e)
     ∙ c.fallen-self-inside.ensures.fallen ∙ ap (λ e. fallen e (to_z w64 (of_z w64 (to_z w128 (of_z w128 F))))) held ∙ ap (λ z. fallen error z) cut in
     let state : ℤ → List ℤ → State = λ e v. record { error = e; values = v } in
-    ap (λ e. state e (take (c.self.inside.steps + 1) c.moved-next.result)) fell ∙ ap (state (fallen error F)) next
+    ap (λ e. state e (take (c.self.inside.steps + 1) c.copy_first.new.values)) fell ∙ ap (state (fallen error F)) (c.copy_first.ensures.first ∙ next)
     ∙ sym (ap (step lags) (sym c.self.view_is) ∙ stop ∙ ap (λ b. cond b s (state (fallen error F) (moved values F n))) c.if-has_large.false)
