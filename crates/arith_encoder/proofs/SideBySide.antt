@@ -27,7 +27,8 @@ narrows-of range p symbol start after d after_is d_is e g n = rw (e, g) (record 
 
 pub lane_is : (symbol : Bool) (p range step s size part more after d : ℕ) → IsStep symbol p step → IsRange range → s ≡ scale range →
     size ≡ s * (step % 256) % 65536 →
-    part ≡ (if nat_lt step 32768 then size else (range + (65536 - size)) % 65536) → more ≡ (if nat_lt part 2048 then part else 0) → after ≡ (part + more) % 65536 →
+    part ≡ (if nat_lt step 32768 then size else (range + (65536 - size)) % 65536) → more ≡ (if nat_lt part 2048 then part else 0) →
+    after ≡ (part + more) % 65536 →
     d ≡ step / 256 % 8 + bool_byte (nat_lt part 2048) → Narrows range symbol p after d
 lane_is true p range step s size part more after d is r scale_is size_is part_is more_is after_is d_is =
     let step_is = is.2 in

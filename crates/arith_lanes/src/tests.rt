@@ -1,4 +1,6 @@
 // Words, codes side by side, and codes refused.
+ghost use Rattle.std.specs.Prelude.{◌≡◌};
+
 use super::*;
 use bit_io::BitSlice;
 use dst_num::{FrameFault, Reason};
@@ -19,28 +21,22 @@ fn words_have_a_probability_and_its_factor(rt: HostRuntime) {
     }
 }
 
+// A code that begins at a bit of these bytes.
+fn code_from(bytes: &[u8], first: u64) -> BitSlice
+    ensures bytes { result.bytes.now ≡ bytes.now }
+    ensures first { result.first ≡ first }
+{
+    BitSlice { bytes, first }
+}
+
 #[test]
 fn codes_give_their_symbols_side_by_side(rt: HostRuntime) {
     let carry: [u8; 3] = [0x40, 0x18, 0x00];
     let behind: [u8; 4] = [0xfa, 0x00, 0xc0, 0x07];
     let mut lanes = ArithLanes::new();
-    let first = lanes.begin(
-        2,
-        BitSlice {
-            bytes: &carry,
-            first: 0,
-        },
-    );
-    assert_eq!(rt; first, Ok(()));
+    assert_eq!(rt; lanes.begin(2, code_from(&carry, 0)), Ok(()));
     // the same code behind five other bits
-    let second = lanes.begin(
-        5,
-        BitSlice {
-            bytes: &behind,
-            first: 5,
-        },
-    );
-    assert_eq!(rt; second, Ok(()));
+    assert_eq!(rt; lanes.begin(5, code_from(&behind, 5)), Ok(()));
     lanes.refill(5, &behind);
     assert!(rt; !lanes.are_short());
     // Lane 3 has a code of no bytes, with the probabilities 1 and 128 in turn: each of its symbols is 1.

@@ -49,7 +49,13 @@ sample_bit f sound c m i z h e =
 pub before_in_a_byte : (f : Shape) (sound : List ℕ) (c m place : ℕ) (samples : List ℕ) → place ≤ 8 → IsBefore f sound c (8 * m) samples →
     IsBefore f sound c (8 * m + place) (drop (8 - place) (rising_bits 8 (get_or sound (m * f.channels + c) 0) ++ samples))
 before_in_a_byte f sound c m place samples h before = record {
-  long = omega (arith, length-drop (8 - place) (rising_bits 8 byte ++ samples), length-append (rising_bits 8 byte) samples, length-rising_bits 8 byte, before.long);
+  long = omega (
+    arith,
+    length-drop (8 - place) (rising_bits 8 byte ++ samples),
+    length-append (rising_bits 8 byte) samples,
+    length-rising_bits 8 byte,
+    before.long,
+  );
   each = λ j lt. get_or-drop (8 - place) (rising_bits 8 byte ++ samples) j 0 ∙ at j lt (cases_lt j place);
 }
   where

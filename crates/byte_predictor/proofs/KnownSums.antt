@@ -104,4 +104,5 @@ pub known-taken : (n : ℕ) (coefs : List ℤ) (samples lanes row new : List ℕ
     get_or new lane 0 ≡ upward_sum (drop lane (shifted coefs)) (rising_bits 8 byte ++ samples)
 known-taken n coefs samples lanes row new byte range short reach few sums is moved stays =
     let each = shifted-each coefs range short in
-    added-lane n 144 (shifted coefs) samples lanes row new byte each.0 (omega (arith, each.1)) few (omega arith) sums (λ lane h. is lane (omega arith)) moved stays
+    added-lane n 144 (shifted coefs) samples lanes row new byte each.0 (omega (arith, each.1)) few (omega arith) sums
+    (λ lane h. is lane (omega arith)) moved stays

@@ -127,7 +127,8 @@ zeros-step coefs first i sum size coef range h is e s =
     (rw add-one whole, omega (arith, whole, bound, length-rising_bits (suc i) 0))
 
 -- a byte of samples goes into a lane
-pub added-lane : (n total : ℕ) (xs : List ℤ) (older lanes row new : List ℕ) (byte : ℕ) → AllByRecursion (InRange filter_kind) xs → length xs ≤ n → n ≤ 136 → n + 8 ≤ total →
+pub added-lane : (n total : ℕ) (xs : List ℤ) (older lanes row new : List ℕ) (byte : ℕ) → AllByRecursion (InRange filter_kind) xs →
+    length xs ≤ n → n ≤ 136 → n + 8 ≤ total →
     ((lane : ℕ) → lane < total → get_or lanes lane 0 ≡ upward_sum (drop lane xs) older) →
     ((lane : ℕ) → lane < n → get_or row lane 0 ≡ upward_sum (drop lane xs) (rising_bits 8 byte)) →
     ((lane : ℕ) → lane < n → get_or new lane 0 ≡ (get_or lanes (lane + 8) 0 + get_or row lane 0) % 65536) →

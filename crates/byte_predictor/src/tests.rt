@@ -47,14 +47,14 @@ fn predictions_are_plain_sums(rt: HostRuntime) -> Result<(), Fail> {
     for length in 1..129usize {
         let mut coefs = [0i16; 128];
         for place in 0..length {
-            state = state.wrapping_mul(1_664_525).wrapping_add(1_013_904_223);
+            state = next(state);
             coefs[place] = ((state >> 20) % 512) as i16 - 256;
         }
         let filter = filter_of(&coefs[..length])?;
         let mut samples = [false; 128];
         let mut history = History::fresh();
         for place in 0..128usize {
-            state = state.wrapping_mul(1_664_525).wrapping_add(1_013_904_223);
+            state = next(state);
             let sample = state >> 31 == 1;
             samples[127 - place] = sample;
             history.push(sample);
@@ -67,23 +67,67 @@ fn predictions_are_plain_sums(rt: HostRuntime) -> Result<(), Fail> {
     Ok(())
 }
 
+// The next of some numbers without a pattern.
+fn next(state: u32) -> u32 {
+    state.wrapping_mul(1_664_525).wrapping_add(1_013_904_223)
+}
+
+// A filter of so many coefficients, and the state of the numbers behind it.
+fn table_from(first: u32, length: usize) -> Result<(FilterTable, u32), Fail> {
+    let mut state = first;
+    let mut coefs = [0i16; 128];
+    let count = length.min(128);
+    for place in 0..count {
+        state = next(state);
+        coefs[place] = ((state >> 20) % 512) as i16 - 256;
+    }
+    let table = FilterTable::new(&coefs[..count]).ok_or("no table")?;
+    Ok((table, state))
+}
+
 #[test]
 fn sums_ahead_predict_what_the_tables_do(rt: HostRuntime) -> Result<(), Fail> {
     let mut state = 7u32;
     let mut rows = RowFilter::new();
-    let mut known = KnownFilter::new();
     for length in [1usize, 7, 8, 9, 100, 128] {
-        let mut coefs = [0i16; 128];
-        for place in 0..length {
-            state = state.wrapping_mul(1_664_525).wrapping_add(1_013_904_223);
-            coefs[place] = ((state >> 20) % 512) as i16 - 256;
+        let (table, behind) = table_from(state, length)?;
+        state = behind;
+        rows.build(&table);
+        let filter = ByteFilter::build(&table);
+        let mut history = History::fresh();
+        let mut ahead = Ahead::fresh(&rows);
+        for _ in 0..40 {
+            for place in 0..8usize {
+                state = next(state);
+                let sample = state >> 31 == 1;
+                let early = ahead.upward_after(&rows, place, sample);
+                assert_eq!(rt;
+                    rows.prediction(ahead.upward(&rows, place)),
+                    predict(&filter, &history)
+                );
+                history.push(sample);
+                ahead.push(sample);
+                assert_eq!(rt; rows.prediction(early), predict(&filter, &history));
+            }
+            ahead.take_byte(&rows);
+            assert_eq!(rt; ahead.newest(), history.bytes()[0]);
         }
-        let table = FilterTable::new(&coefs[..length]).ok_or("no table")?;
+        assert!(rt; rows.size() <= 32768);
+    }
+    Ok(())
+}
+
+#[test]
+fn sums_side_by_side_and_of_known_samples_are_those_ahead(rt: HostRuntime) -> Result<(), Fail> {
+    let mut state = 11u32;
+    let mut rows = RowFilter::new();
+    let mut known = KnownFilter::new();
+    for length in [1usize, 8, 9, 64, 65, 128] {
+        let (table, behind) = table_from(state, length)?;
+        state = behind;
         rows.build(&table);
         known.build(&table);
         assert_eq!(rt; u32::from(known.size()), rows.size());
-        let filter = ByteFilter::build(&table);
-        let mut history = History::fresh();
         let mut ahead = Ahead::fresh(&rows);
         let mut eight = EightAhead::new();
         eight.begin(5, &rows);
@@ -91,29 +135,19 @@ fn sums_ahead_predict_what_the_tables_do(rt: HostRuntime) -> Result<(), Fail> {
         for _ in 0..40 {
             let mut upward = [0u16; 8];
             for place in 0..8usize {
-                state = state.wrapping_mul(1_664_525).wrapping_add(1_013_904_223);
-                let sample = state >> 31 == 1;
-                let early = ahead.upward_after(&rows, place, sample);
-                assert_eq!(rt;
-                    rows.prediction(ahead.upward(&rows, place)),
-                    predict(&filter, &history)
-                );
+                state = next(state);
                 upward[place] = ahead.upward(&rows, place);
                 assert_eq!(rt; eight.upward(5, &rows, place), upward[place]);
-                history.push(sample);
-                ahead.push(sample);
+                ahead.push(state >> 31 == 1);
                 let mut given = [2u16; 8];
-                given[5] = u16::from(sample);
+                given[5] = u16::from(state >> 31 == 1);
                 eight.push(&given);
-                assert_eq!(rt; rows.prediction(early), predict(&filter, &history));
             }
             ahead.take_byte(&rows);
             eight.take_byte(5, &rows);
-            assert_eq!(rt; ahead.newest(), history.bytes()[0]);
             assert_eq!(rt; eight.newest(5), ahead.newest());
             assert_eq!(rt; whole.take_byte(&known, ahead.newest()), upward);
         }
-        assert!(rt; rows.size() <= 32768);
     }
     Ok(())
 }

@@ -13,6 +13,31 @@ use std::test::Fail;
 // One channel, the coefficient 0 and the probabilities 128 and 128: each sample is 1.
 const ONES: [u8; 6] = [0xfc, 0x00, 0x00, 0x05, 0xff, 0xf8];
 
+// The same with three coefficients 0 by method 2.
+const BY_METHOD_2: [u8; 9] = [0xfc, 0x0b, 0x00, 0x00, 0x00, 0x00, 0x0b, 0xff, 0xf0];
+
+// Two channels with the coefficients 0 and 1.
+const TWO_CHANNELS: [u8; 11] = [
+    0xfa, 0x00, 0x00, 0x00, 0x00, 0x20, 0xbf, 0xff, 0x05, 0xff, 0xf8,
+];
+
+// The first code bit is 1; the first twelve bits of the code's number are.
+const FIRST_BIT_1: [u8; 6] = [0xfc, 0x00, 0x00, 0x05, 0xff, 0xfc];
+
+const TWELVE_ONES: [u8; 8] = [0xfc, 0x00, 0x00, 0x05, 0xff, 0xfb, 0xff, 0xc0];
+
+// The second probability is 0, and 129.
+const PROBABILITY_0: [u8; 6] = [0xfc, 0x00, 0x00, 0x06, 0x00, 0x0c];
+
+const PROBABILITY_129: [u8; 6] = [0xfc, 0x00, 0x00, 0x06, 0x7f, 0x08];
+
+// A code that is no encoder's.
+fn noise() -> [u8; 9410] {
+    let mut noise = [0xbb; 9410];
+    noise[..6].copy_from_slice(&[0xfc, 0x00, 0x00, 0x04, 0x00, 0x03]);
+    noise
+}
+
 // The sound of a frame behind another one, with the same scratch, and its tail.
 fn decoded(
     alloc: Global,
@@ -35,8 +60,7 @@ fn decoded(
 fn frames_give_their_sound_and_tail(rt: HostRuntime) -> Result<(), Fail> {
     let mut long = [0x00; 9410];
     long[..6].copy_from_slice(&ONES);
-    let mut noise = [0xbb; 9410];
-    noise[..6].copy_from_slice(&[0xfc, 0x00, 0x00, 0x04, 0x00, 0x03]);
+    let before = noise();
     // the channels, the multiple, the frame, the bytes of its first two channels in turn, the tail
     let cases: [(u32, u32, &[u8], [u8; 2], u32); 10] = [
         (1, 1, &ONES, [0xff, 0xff], 0),
@@ -47,38 +71,27 @@ fn frames_give_their_sound_and_tail(rt: HostRuntime) -> Result<(), Fail> {
         // two segmentations; two maps; three coefficients by method 2; one probability
         (1, 1, &[0xbf, 0x00, 0x00, 0x01, 0x7f, 0xfe], [0xff, 0xff], 0),
         (1, 1, &[0x94, 0x00, 0x00, 0x00, 0xbf, 0xff], [0xff, 0xff], 0),
-        (
-            1,
-            1,
-            &[0xfc, 0x0b, 0x00, 0x00, 0x00, 0x00, 0x0b, 0xff, 0xf0],
-            [0xff, 0xff],
-            0,
-        ),
+        (1, 1, &BY_METHOD_2, [0xff, 0xff], 0),
         (1, 1, &[0xfc, 0x00, 0x00, 0x00], [0xff, 0xff], 0),
-        // two channels with the coefficients 0 and 1
-        (
-            2,
-            1,
-            &[
-                0xfa, 0x00, 0x00, 0x00, 0x00, 0x20, 0xbf, 0xff, 0x05, 0xff, 0xf8,
-            ],
-            [0xff, 0x00],
-            0,
-        ),
+        (2, 1, &TWO_CHANNELS, [0xff, 0x00], 0),
         // 37,689 bits are taken
         (1, 1, &long, [0xff, 0xff], 4698),
     ];
     for (count, multiple, frame, bytes, unread) in cases {
         let channels = Channels::at(count, multiple).ok_or("channels")?;
-        let (sound, tail) = decoded(rt.alloc(), channels, &noise[..9408], frame)?;
+        let (sound, tail) = decoded(rt.alloc(), channels, &before[..9408], frame)?;
         assert_eq!(rt; tail, Ok(unread), "{frame:?}");
         for (place, byte) in sound.iter().enumerate() {
             assert_eq!(rt; *byte, bytes[place % 2], "byte {place} of {frame:?}");
         }
     }
-    // a code that is no encoder's is decoded all the same
+    Ok(())
+}
+
+#[test]
+fn a_code_that_is_no_encoders_is_decoded_all_the_same(rt: HostRuntime) -> Result<(), Fail> {
     let mono = Channels::new(1).ok_or("one channel")?;
-    let (_, tail) = decoded(rt.alloc(), mono, &ONES, &noise)?;
+    let (_, tail) = decoded(rt.alloc(), mono, &ONES, &noise())?;
     assert_eq!(rt; tail, Ok(9261));
     Ok(())
 }
@@ -103,18 +116,8 @@ fn frames_are_refused_at_their_first_fault(rt: HostRuntime) -> Result<(), Fail> 
     let short = [0x00; 4704];
     let stuffed = [0x01; 4705];
     let cases: [(u32, &[u8], Reason, u64); 18] = [
-        (
-            1,
-            &[0xfc, 0x00, 0x00, 0x05, 0xff, 0xfc],
-            Reason::FirstCodeBit,
-            45,
-        ),
-        (
-            1,
-            &[0xfc, 0x00, 0x00, 0x05, 0xff, 0xfb, 0xff, 0xc0],
-            Reason::CodeRange,
-            46,
-        ),
+        (1, &FIRST_BIT_1, Reason::FirstCodeBit, 45),
+        (1, &TWELVE_ONES, Reason::CodeRange, 46),
         (1, &stuffed, Reason::PlainStuffing, 2),
         (1, &short, Reason::Truncated, 8),
         (1, &[0xe0], Reason::MultiSegment, 3),
@@ -123,18 +126,8 @@ fn frames_are_refused_at_their_first_fault(rt: HostRuntime) -> Result<(), Fail> 
         (1, &[0xfc, 0x07, 0x80], Reason::MethodReserved, 15),
         (1, &[0xfc, 0x07, 0x00], Reason::TableTooShort, 15),
         (1, &[0xfc, 0x06, 0x3f, 0xc2], Reason::CoefRange, 29),
-        (
-            1,
-            &[0xfc, 0x00, 0x00, 0x06, 0x00, 0x0c],
-            Reason::ProbRange,
-            43,
-        ),
-        (
-            1,
-            &[0xfc, 0x00, 0x00, 0x06, 0x7f, 0x08],
-            Reason::ProbRange,
-            43,
-        ),
+        (1, &PROBABILITY_0, Reason::ProbRange, 43),
+        (1, &PROBABILITY_129, Reason::ProbRange, 43),
         (1, &[], Reason::Truncated, 0),
         (1, &ONES[..1], Reason::Truncated, 7),
         (1, &ONES[..2], Reason::Truncated, 15),
@@ -176,6 +169,29 @@ fn are_fit(frames: &[StoredFrame], channels: Channels, heard: &[DecodedFrame]) -
     true
 }
 
+// A frame in a buffer of the greatest length, and room for its sound.
+fn given(alloc: Global, frame: &[u8]) -> Result<(StoredFrame, DecodedFrame), Fail> {
+    let mut bytes = vec![in alloc; 0u8; 4705]?;
+    let size = frame.len().min(4705);
+    bytes[..size].copy_from_slice(&frame[..size]);
+    let stored = StoredFrame {
+        bytes,
+        size: size as u32,
+    };
+    let heard = DecodedFrame {
+        sound: vec![in alloc; 0u8; 4704]?,
+        answer: Ok(9),
+    };
+    Ok((stored, heard))
+}
+
+// Whether a frame was decoded among others as it is alone.
+fn is_as_alone(alloc: Global, frame: &[u8], heard: &DecodedFrame) -> Result<bool, Fail> {
+    let mono = Channels::new(1).ok_or("one channel")?;
+    let (sound, tail) = decoded(alloc, mono, &ONES, frame)?;
+    Ok(heard.answer == tail && (tail.is_err() || heard.sound.as_slice() == sound.as_slice()))
+}
+
 #[test]
 fn frames_side_by_side_are_decoded_as_alone(rt: HostRuntime) -> Result<(), Fail> {
     let mono = Channels::new(1).ok_or("one channel")?;
@@ -189,12 +205,9 @@ fn frames_side_by_side_are_decoded_as_alone(rt: HostRuntime) -> Result<(), Fail>
         (&[0xfc, 0x01, 0xff, 0x05, 0xff, 0xf8], Some(0xaa)),
         (&[0xbf, 0x00, 0x00, 0x01, 0x7f, 0xfe], Some(0xff)),
         (&[0x94, 0x00, 0x00, 0x00, 0xbf, 0xff], Some(0xff)),
-        (
-            &[0xfc, 0x0b, 0x00, 0x00, 0x00, 0x00, 0x0b, 0xff, 0xf0],
-            Some(0xff),
-        ),
+        (&BY_METHOD_2, Some(0xff)),
         (&plain, Some(0x69)),
-        (&[0xfc, 0x00, 0x00, 0x05, 0xff, 0xfc], None),
+        (&FIRST_BIT_1, None),
     ];
     for count in 1..9usize {
         // from the front, so that up to six all are coded, and turned round
@@ -203,34 +216,18 @@ fn frames_side_by_side_are_decoded_as_alone(rt: HostRuntime) -> Result<(), Fail>
             let mut heard = Vec::with_capacity(rt.alloc(), count)?;
             for n in 0..count {
                 let at = if turned { 7 - n % 8 } else { n % 8 };
-                let (frame, _) = frames[at];
-                let mut bytes = vec![in rt.alloc(); 0u8; 4705]?;
-                let size = frame.len().min(4705);
-                bytes[..size].copy_from_slice(&frame[..size]);
-                stored.push(StoredFrame {
-                    bytes,
-                    size: size as u32,
-                })?;
-                heard.push(DecodedFrame {
-                    sound: vec![in rt.alloc(); 0u8; 4704]?,
-                    answer: Ok(9),
-                })?;
+                let (frame, room) = given(rt.alloc(), frames[at].0)?;
+                stored.push(frame)?;
+                heard.push(room)?;
             }
             assert!(rt; are_fit(&stored, mono, &heard));
             let mut scratch = BatchScratch::new(rt.alloc(), mono)?;
             decode_batch(&stored, mono, &mut scratch, &mut heard);
             for (n, one) in heard.iter().enumerate() {
-                let at = if turned { 7 - n % 8 } else { n % 8 };
-                let (frame, first) = frames[at];
-                let (sound, tail) = decoded(rt.alloc(), mono, &ONES, frame)?;
-                assert_eq!(rt; one.answer, tail, "{count}, frame {at}");
-                match first {
-                    Some(_) => {
-                        assert!(rt; one.sound.as_slice() == sound.as_slice());
-                        assert_eq!(rt; sound.as_slice().first().copied(), first);
-                    }
-                    None => assert!(rt; tail.is_err()),
-                }
+                let (frame, first) = frames[if turned { 7 - n % 8 } else { n % 8 }];
+                assert!(rt; is_as_alone(rt.alloc(), frame, one)?, "{count}, frame {n}");
+                assert_eq!(rt; first.is_none(), one.answer.is_err());
+                assert!(rt; first.is_none() || one.sound.as_slice().first().copied() == first);
             }
         }
     }

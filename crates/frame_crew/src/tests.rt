@@ -129,6 +129,14 @@ impl Gate for Counting {
     }
 }
 
+// How many jobs a worker has: the first workers have one more, where the jobs can't be divided.
+fn share(place: usize, workers: usize, count: usize) -> usize {
+    if place >= workers || workers == 0 {
+        return 0;
+    }
+    count / workers + usize::from(place < count % workers)
+}
+
 #[test]
 fn the_jobs_are_shared_out_evenly(rt: HostRuntime) -> Result<(), Fail> {
     for workers in 1..17usize {
@@ -148,25 +156,14 @@ fn the_jobs_are_shared_out_evenly(rt: HostRuntime) -> Result<(), Fail> {
             );
             for (place, job) in jobs.iter().enumerate() {
                 let wanted = if place < count { 8 } else { 7 };
-                assert_eq!(rt;
-                    job.value,
-                    wanted,
-                    "job {place} of {count}, {workers} workers"
-                );
+                assert_eq!(rt; job.value, wanted, "job {place} of {count}");
             }
-
-            // The first workers have one job more, where the jobs can't be divided.
             for (place, scratch) in scratches.iter().enumerate() {
-                let more = usize::from(place < count % workers);
-                let wanted = if place < workers {
-                    count / workers + more
-                } else {
-                    0
-                };
+                let wanted = share(place, workers, count);
                 assert_eq!(rt;
                     scratch.count as usize,
                     wanted,
-                    "worker {place} of {workers}, {count} jobs"
+                    "worker {place} of {workers}"
                 );
             }
             let all = count.wrapping_mul(count.saturating_sub(1)) / 2;

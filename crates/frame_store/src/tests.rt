@@ -55,29 +55,14 @@ fn spellings_are_those_worked_out(rt: HostRuntime) -> Result<(), Fail> {
     let mut one_zero = ones;
     one_zero[2] = 0xf7;
     // the sound, the entry of both places, the half bit, the spelling up to the zeros at its end, its length; none is too long
+    let alike = [0xfc, 0x00, 0x00, 0x06, 0x00, 0x17, 0xf8];
+    let half = [0xfe, 0x00, 0x00, 0x06, 0x00, 0x17, 0xf8];
+    let but_one = [0xfc, 0x00, 0x00, 0x06, 0x00, 0x17, 0xfe, 0xea];
     let cases: [(&[u8], u8, bool, &[u8], usize); 4] = [
         (&ones, 128, false, &[], 0),
-        (
-            &ones,
-            1,
-            false,
-            &[0xfc, 0x00, 0x00, 0x06, 0x00, 0x17, 0xf8],
-            35,
-        ),
-        (
-            &ones,
-            1,
-            true,
-            &[0xfe, 0x00, 0x00, 0x06, 0x00, 0x17, 0xf8],
-            35,
-        ),
-        (
-            &one_zero,
-            1,
-            false,
-            &[0xfc, 0x00, 0x00, 0x06, 0x00, 0x17, 0xfe, 0xea],
-            36,
-        ),
+        (&ones, 1, false, &alike, 35),
+        (&ones, 1, true, &half, 35),
+        (&one_zero, 1, false, &but_one, 36),
     ];
     for (sound, entry, half_prob, front, length) in cases {
         let params = params_of(&[0], &[&[0]], &[&[entry, entry]], half_prob)?;

@@ -70,43 +70,16 @@ fn a_stream_is_decoded_in_pieces_of_any_size(rt: HostRuntime) -> Result<(), Fail
     let file = FILE.as_slice();
     let mut refused = *FILE;
     refused[157] = 0xfc;
+    let out = "pipe out.dff";
+    let cut = "file refused: 3 Overrun 140\n";
+    let at_fault = "frame 0 refused: 9 FirstCodeBit at bit 45\n";
     let cases: [(&str, &[u8], u8, usize, &str); 8] = [
-        (
-            "pipe out.dff",
-            file,
-            0,
-            4_830,
-            "decoded 1 frames into 4704 bytes\n",
-        ),
-        (
-            "pipe out.dff",
-            &two,
-            0,
-            9_534,
-            "decoded 2 frames into 9408 bytes\n",
-        ),
-        (
-            "pipe out.dff",
-            &file[..157],
-            5,
-            126,
-            "file refused: 3 Overrun 140\n",
-        ),
-        (
-            "pipe out.dff",
-            &file[..15],
-            5,
-            0,
-            "file refused: 1 NotForm\n",
-        ),
-        (
-            "pipe out.dff",
-            &refused,
-            6,
-            126,
-            "frame 0 refused: 9 FirstCodeBit at bit 45\n",
-        ),
-        ("pipe out.dff", PLAIN, 5, 0, "file refused: 27 NotCoded\n"),
+        (out, file, 0, 4_830, "decoded 1 frames into 4704 bytes\n"),
+        (out, &two, 0, 9_534, "decoded 2 frames into 9408 bytes\n"),
+        (out, &file[..157], 5, 126, cut),
+        (out, &file[..15], 5, 0, "file refused: 1 NotForm\n"),
+        (out, &refused, 6, 126, at_fault),
+        (out, PLAIN, 5, 0, "file refused: 27 NotCoded\n"),
         ("pipe", file, 1, 0, "words not understood\n"),
         ("pipe in.dff out.dff", file, 1, 0, "words not understood\n"),
     ];

@@ -31,15 +31,8 @@ fn a_frame_is_written_by_the_walk_and_by_the_index(rt: HostRuntime) -> Result<()
     let line = "frame 1, 4704 bytes\n";
     answers(&rt, alloc, "frame a b 1", &two, 0, &second, line)?;
     answers(&rt, alloc, "frame a b 1 --by-index", &two, 0, &second, line)?;
-    answers(
-        &rt,
-        alloc,
-        "frame a b 0",
-        EXAMPLE,
-        0,
-        &ones,
-        "frame 0, 4704 bytes\n",
-    )?;
+    let line = "frame 0, 4704 bytes\n";
+    answers(&rt, alloc, "frame a b 0", EXAMPLE, 0, &ones, line)?;
     // The last entry of the index, which stands behind 14,280 bytes, by one byte further.
     let moved = with_bytes(alloc, &three, three.len().saturating_sub(5), b"\x75")?;
     let cases: [(&str, &[u8], &str); 7] = [
@@ -56,16 +49,8 @@ fn a_frame_is_written_by_the_walk_and_by_the_index(rt: HostRuntime) -> Result<()
         answers(&rt, alloc, words, file, 5, &[], &line)?;
     }
     let sound = vec![in alloc; 0x69; 4704]?;
-    answers(
-        &rt,
-        alloc,
-        "frame a b 2",
-        &moved,
-        0,
-        &sound,
-        "frame 2, 4704 bytes\n",
-    )?;
-    Ok(())
+    let line = "frame 2, 4704 bytes\n";
+    answers(&rt, alloc, "frame a b 2", &moved, 0, &sound, line)
 }
 
 #[test]
@@ -98,22 +83,15 @@ fn files_and_frames_are_shown(rt: HostRuntime) -> Result<(), Fail> {
     let plain_file = odd_plain(alloc)?;
     let refused = one_frame(alloc, &[b"\xfc\0\0\x05\xff\xfc"])?;
     let head = "frame 0 coded length 6 filters 1 tables 1 code 45\n";
+    let of_two =
+        "kind coded\nchannels 1\nsound 4705 bytes\nframes 2\nchunks 5\nstored 9410 bytes\nindex yes\nkept yes\n";
+    let of_one =
+        "kind coded\nchannels 1\nsound 4704 bytes\nframes 1\nchunks 3\nstored 6 bytes\nindex no\nkept no\n";
+    let of_plain = "kind plain\nchannels 1\nsound 4705 bytes\nframes 2\nchunks 3\n";
     let cases: [(&str, &[u8], &str); 8] = [
-        (
-            "show a",
-            &two,
-            "kind coded\nchannels 1\nsound 4705 bytes\nframes 2\nchunks 5\nstored 9410 bytes\nindex yes\nkept yes\n",
-        ),
-        (
-            "show a",
-            EXAMPLE,
-            "kind coded\nchannels 1\nsound 4704 bytes\nframes 1\nchunks 3\nstored 6 bytes\nindex no\nkept no\n",
-        ),
-        (
-            "show a",
-            &plain_file,
-            "kind plain\nchannels 1\nsound 4705 bytes\nframes 2\nchunks 3\n",
-        ),
+        ("show a", &two, of_two),
+        ("show a", EXAMPLE, of_one),
+        ("show a", &plain_file, of_plain),
         ("show a 0", &two, "frame 0 plain length 4705\n"),
         ("show a 0", EXAMPLE, head),
         ("show a 0", &refused, head),
@@ -128,25 +106,10 @@ fn files_and_frames_are_shown(rt: HostRuntime) -> Result<(), Fail> {
     let short = one_frame(alloc, &[b"\xe0"])?;
     let line = "frame 0 refused: 3 MultiSegment at bit 3\n";
     answers(&rt, alloc, "show a 0", &short, 6, &[], line)?;
-    answers(
-        &rt,
-        alloc,
-        "show a 2",
-        &two,
-        5,
-        &[],
-        "file refused: 22 Range 2 2\n",
-    )?;
-    answers(
-        &rt,
-        alloc,
-        "show a 0",
-        SILENT,
-        5,
-        &[],
-        "file refused: 27 NotCoded\n",
-    )?;
-    Ok(())
+    let line = "file refused: 22 Range 2 2\n";
+    answers(&rt, alloc, "show a 2", &two, 5, &[], line)?;
+    let line = "file refused: 27 NotCoded\n";
+    answers(&rt, alloc, "show a 0", SILENT, 5, &[], line)
 }
 
 #[test]
