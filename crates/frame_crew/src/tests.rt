@@ -134,7 +134,7 @@ fn share(place: usize, workers: usize, count: usize) -> usize {
     if place >= workers || workers == 0 {
         return 0;
     }
-    count / workers + usize::from(place < count % workers)
+    (count / workers).wrapping_add(usize::from(place < count % workers))
 }
 
 #[test]
