@@ -31,12 +31,8 @@ const PROBABILITY_0: [u8; 6] = [0xfc, 0x00, 0x00, 0x06, 0x00, 0x0c];
 
 const PROBABILITY_129: [u8; 6] = [0xfc, 0x00, 0x00, 0x06, 0x7f, 0x08];
 
-// A code that is no encoder's.
-fn noise() -> [u8; 9410] {
-    let mut noise = [0xbb; 9410];
-    noise[..6].copy_from_slice(&[0xfc, 0x00, 0x00, 0x04, 0x00, 0x03]);
-    noise
-}
+// The beginning of a frame whose code is no encoder's.
+const NOISE: [u8; 6] = [0xfc, 0x00, 0x00, 0x04, 0x00, 0x03];
 
 // The sound of a frame behind another one, with the same scratch, and its tail.
 fn decoded(
@@ -60,7 +56,8 @@ fn decoded(
 fn frames_give_their_sound_and_tail(rt: HostRuntime) -> Result<(), Fail> {
     let mut long = [0x00; 9410];
     long[..6].copy_from_slice(&ONES);
-    let before = noise();
+    let mut noise = [0xbb; 9410];
+    noise[..6].copy_from_slice(&NOISE);
     // the channels, the multiple, the frame, the bytes of its first two channels in turn, the tail
     let cases: [(u32, u32, &[u8], [u8; 2], u32); 10] = [
         (1, 1, &ONES, [0xff, 0xff], 0),
@@ -79,7 +76,7 @@ fn frames_give_their_sound_and_tail(rt: HostRuntime) -> Result<(), Fail> {
     ];
     for (count, multiple, frame, bytes, unread) in cases {
         let channels = Channels::at(count, multiple).ok_or("channels")?;
-        let (sound, tail) = decoded(rt.alloc(), channels, &before[..9408], frame)?;
+        let (sound, tail) = decoded(rt.alloc(), channels, &noise[..9408], frame)?;
         assert_eq!(rt; tail, Ok(unread), "{frame:?}");
         for (place, byte) in sound.iter().enumerate() {
             assert_eq!(rt; *byte, bytes[place % 2], "byte {place} of {frame:?}");
@@ -91,7 +88,9 @@ fn frames_give_their_sound_and_tail(rt: HostRuntime) -> Result<(), Fail> {
 #[test]
 fn a_code_that_is_no_encoders_is_decoded_all_the_same(rt: HostRuntime) -> Result<(), Fail> {
     let mono = Channels::new(1).ok_or("one channel")?;
-    let (_, tail) = decoded(rt.alloc(), mono, &ONES, &noise())?;
+    let mut noise = [0xbb; 9410];
+    noise[..6].copy_from_slice(&NOISE);
+    let (_, tail) = decoded(rt.alloc(), mono, &ONES, &noise)?;
     assert_eq!(rt; tail, Ok(9261));
     Ok(())
 }
