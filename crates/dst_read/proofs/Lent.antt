@@ -1,5 +1,6 @@
 -- Jobs that are decoded where their bytes are lent to, and given back.
 use Rattle.std.proofs.Common.{◌≡◌, ℕ, suc, ◌+◌, ◌*◌, ◌<◌, ◌≤◌, List, [], ◌∷◌, length, get_or, ap, sym, ◌∙◌, arith}
+use Rattle.std.specs.Prelude.{All}
 use Rattle.std.specs.List.{AllZip}
 use Rattle.dst_spec.specs.Sample.{Shape, sound_bytes}
 use Rattle.dst_commands.specs.Rooms.{shape_number, room_number}
@@ -7,6 +8,7 @@ use Rattle.dst_commands.proofs.Rooms.{room_for}
 use Rattle.dst_frames.specs.Batch.{IsDecoded, stored_in}
 use Rattle.dst_frames.specs.declared.stored.StoredFrame.{StoredFrame}
 use Rattle.dst_frames.specs.declared.stored.DecodedFrame.{DecodedFrame}
+use Rattle.dst_frames.proofs.Lanes.{one_of}
 use Rattle.dst_read.specs.declared.jobs.Job.{Job}
 use Rattle.dst_read.specs.Jobs.{longest, shape_of_job, IsWorked, stored_in as stored_in_job}
 use Rattle.dst_read.specs.Lending.{IsLent, given_back}
@@ -27,6 +29,15 @@ has_lent f before after frame heard few shape lent =
       most = rw lent.frame_is (omega (arith, room.short, room.frame_long));
       sound = ap (λ v. length v.items) lent.sound_is ∙ room.sound_long;
     }
+
+pub lent_at : (f : Shape) (before after : List Job) (frames : List StoredFrame) (heard : List DecodedFrame) (n : ℕ) (frame : StoredFrame)
+    (sound : DecodedFrame) → f.channels < 8 → n < length before → All (λ j. shape_of_job j ≡ shape_number f) before →
+    ((n : ℕ) (job : Job) (frame : StoredFrame) (sound : DecodedFrame) → n < length before →
+    IsLent (get_or before n job) (get_or after n job) (get_or frames n frame) (get_or heard n sound)) →
+    HasLent f (get_or frames n frame) (get_or heard n sound)
+lent_at f before after frames heard n frame sound few l shapes lent =
+    let job = one_of before n l in
+    has_lent f (get_or before n job) (get_or after n job) (get_or frames n frame) (get_or heard n sound) few (shapes n job l) (lent n job frame sound l)
 
 pub worked : (f : Shape) (before after : Job) (frame : StoredFrame) (lent heard : DecodedFrame) → IsLent before after frame lent →
     IsDecoded f (stored_in frame) heard.sound.items heard.answer → IsWorked f before (given_back after frame heard)

@@ -1,6 +1,5 @@
 -- Stored frames that are read in order, each once: the next one, and all of them beside the size of the sound.
 use Rattle.std.proofs.Common.{◌≡◌, ℕ, suc, ◌+◌, ◌*◌, ◌-◌, ◌<◌, ◌≤◌, List, [], ◌∷◌, length, drop, ap, subst, arith}
-use Rattle.std.specs.Prelude.{sum_by}
 use Rattle.std.proofs.lemmas.List.Sums.{sum_by-cons, sum_by-drop_more}
 use Rattle.dst_spec.specs.Sample.{IsShape, sound_bytes}
 use Rattle.dsdiff_spec.specs.Chunks.{body_place, body_end}

@@ -6,11 +6,13 @@ use Rattle.std.specs.List.{list_all}
 use Rattle.std.proofs.lemmas.Bool.{and_parts, and_from, le-ltb, lt-ltb, ltb-true, ltb-false, not-true}
 use Rattle.dst_spec.specs.Sample.{Shape, sound_bytes}
 use Rattle.dsdiff_spec.specs.Bytes.{◌below◌, ◌above◌}
-use Rattle.dsdiff_spec.specs.Walk.{Entry}
+use Rattle.dsdiff_spec.specs.Walk.{Entry, entry}
 use Rattle.dst_commands.specs.Rooms.{shape_number, has_room, room_number}
 use Rattle.dst_commands.proofs.Rooms.{room_for, never_one}
-use Rattle.dst_read.specs.Jobs.{longest}
+use Rattle.dst_read.specs.Jobs.{longest, shape_of_job}
 use Rattle.dst_read.specs.Feeding.{lies_in, feed_shape}
+use Rattle.dst_read.specs.declared.feed.StoredFrames.{StoredFrames}
+use Rattle.dst_read.specs.declared.jobs.Job.{Job}
 
 -- ---- a feed that has a job's number has the frames
 all_at : {A : Type 0} (p : A → Bool) (xs : List A) (k : ℕ) (d : A) → list_all p xs ≡ true → k < length xs → p (get_or xs k d) ≡ true
@@ -67,6 +69,26 @@ can_fill (Some bytes) index size frame sound f g e = go (g.channels below 8 && l
           fits = λ k d l. (lies bytes g (get_or index k d) (all_at (lies_in bytes g) index k d p.1 l)).1;
           short = λ k d l. let least = (lies bytes g (get_or index k d) (all_at (lies_in bytes g) index k d p.1 l)).2 in omega (arith, long, least);
         }
+
+-- the next entry of a feed lies in the source, and has room in the job
+pub record CanRead (known : Option ℕ) (e : Entry) (frame : ℕ) : Type 0 where
+  pub lies : (n : ℕ) × (known ≡ Some n) × (e.offset + e.size ≤ n)
+  pub fits : e.offset + e.size < 2 ^ 64
+  pub short : e.size ≤ frame
+
+pub can_read : {S : Type 0} (known : Option ℕ) (s : StoredFrames S) (job : Job) (e : Entry) →
+    shape_of_job job ≡ feed_shape known s.walked.now.index s.walked.now.form.channels → s.next < length s.walked.now.index →
+    e ≡ entry s.walked.now.index s.next → CanRead known e (length job.frame.items)
+can_read known s job e shapes next is =
+    let can = can_fill known s.walked.now.index job.size (length job.frame.items) (length job.sound.items) job.channels s.walked.now.form.channels shapes in
+    let offset = ap (λ (e : Entry). e.offset) is in
+    let size = ap (λ (e : Entry). e.size) is in
+    let none : Entry = record { offset = 0; size = 0 } in
+    record {
+      lies = (can.bytes, can.known_is, omega (arith, can.inside s.next none next, offset, size));
+      fits = omega (arith, can.fits s.next none next, offset, size);
+      short = omega (arith, can.short s.next none next, size);
+    }
 
 pub readable : (bytes : ℕ) (index : List Entry) (f : Shape) (d : Entry) → f.channels < 8 →
     ((k : ℕ) → k < length index → (get_or index k d).offset + (get_or index k d).size ≤ bytes) →

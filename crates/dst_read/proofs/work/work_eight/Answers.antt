@@ -2,29 +2,23 @@
 use Rattle.std.proofs.Common.{◌<◌, length, get_or, arith}
 use Rattle.dst_frames.proofs.Lanes.{one_of}
 use Rattle.dst_read.specs.Jobs.{IsWorked}
-use Rattle.dst_read.proofs.Lent.{has_lent, worked, shape_back, all_zip}
+use Rattle.dst_read.proofs.Lent.{lent_at, worked, shape_back, all_zip}
 use Rattle.dst_read.proofs.work.work_eight.Goals as goal
 
 pub decode_batch-requires-clause-stored : goal.decode_batch-requires-clause-stored
 decode_batch-requires-clause-stored c = λ n frame h.
-    let lt : n < length c.args.run.now = omega arith in
-    let job = one_of c.args.run.now n lt in
-    let sound = one_of c.lend_all.new.heard n (omega arith) in
-    (has_lent c.args.channels _ _ _ _ c.requires.few (c.requires.jobs n job lt) (c.lend_all.ensures n job frame sound lt)).short
+    (lent_at c.args.channels c.args.run.now c.lend_all.new.run c.lend_all.new.frames c.lend_all.new.heard n frame
+    (one_of c.lend_all.new.heard n (omega arith)) c.requires.few (omega arith) c.requires.jobs c.lend_all.ensures).short
 
 pub decode_batch-requires-clause-frames : goal.decode_batch-requires-clause-frames
 decode_batch-requires-clause-frames c = λ n frame h.
-    let lt : n < length c.args.run.now = omega arith in
-    let job = one_of c.args.run.now n lt in
-    let sound = one_of c.lend_all.new.heard n (omega arith) in
-    (has_lent c.args.channels _ _ _ _ c.requires.few (c.requires.jobs n job lt) (c.lend_all.ensures n job frame sound lt)).most
+    (lent_at c.args.channels c.args.run.now c.lend_all.new.run c.lend_all.new.frames c.lend_all.new.heard n frame
+    (one_of c.lend_all.new.heard n (omega arith)) c.requires.few (omega arith) c.requires.jobs c.lend_all.ensures).most
 
 pub decode_batch-requires-clause-sounds : goal.decode_batch-requires-clause-sounds
 decode_batch-requires-clause-sounds c = λ n sound h.
-    let lt : n < length c.args.run.now = omega arith in
-    let job = one_of c.args.run.now n lt in
-    let frame = one_of c.lend_all.new.frames n (omega arith) in
-    (has_lent c.args.channels _ _ _ _ c.requires.few (c.requires.jobs n job lt) (c.lend_all.ensures n job frame sound lt)).sound
+    (lent_at c.args.channels c.args.run.now c.lend_all.new.run c.lend_all.new.frames c.lend_all.new.heard n
+    (one_of c.lend_all.new.frames n (omega arith)) sound c.requires.few (omega arith) c.requires.jobs c.lend_all.ensures).sound
 
 pub returns-clause-done : goal.returns-clause-done
 returns-clause-done c =
