@@ -4,7 +4,4 @@ pub mod Draining
 pub mod Decoding
 pub mod Frames
 pub mod Checking
-pub mod OneFrame
-pub mod LineByLine
-pub mod Reporting
 pub mod Lending

@@ -1,4 +1,4 @@
-// What commands that read a file answer.
+// What commands that decode a file answer.
 use dsdiff_chunks::OpenFault;
 use dst_spec::FrameFault;
 use thiserror::Error;
@@ -15,18 +15,6 @@ pub struct Decoded {
 pub struct Checked {
     pub frames: u32,
     pub unread: u64,
-}
-
-/// The sound of one frame was written: its bytes.
-#[derive(Clone, Copy, Debug, PartialEq, Eq)]
-pub struct FrameWritten {
-    pub bytes: u64,
-}
-
-/// The lines of a file were reported: how many frames it has.
-#[derive(Clone, Copy, Debug, PartialEq, Eq)]
-pub struct Reported {
-    pub frames: u32,
 }
 
 /// Why sound wasn't written.
@@ -52,29 +40,4 @@ pub enum CheckFault {
     /// A frame offends.
     #[error("frame {frame} refused: {fault}")]
     Frame { frame: u32, fault: FrameFault },
-}
-
-/// Why a file or a frame wasn't shown.
-#[derive(Clone, Copy, Debug, Drop, PartialEq, Eq, Error)]
-pub enum ShowFault {
-    /// The source failed, memory was refused, or the file breaks a rule of the command.
-    #[error("{0}")]
-    Source(OpenFault),
-    /// The report failed.
-    #[error("report fault")]
-    Report,
-    /// A frame offends.
-    #[error("frame {frame} refused: {fault}")]
-    Frame { frame: u32, fault: FrameFault },
-}
-
-/// Why the frames of a file weren't listed.
-#[derive(Clone, Copy, Debug, Drop, PartialEq, Eq, Error)]
-pub enum ListFault {
-    /// The source failed, memory was refused, or the file breaks a rule of the command.
-    #[error("{0}")]
-    Source(OpenFault),
-    /// The report failed.
-    #[error("report fault")]
-    Report,
 }

@@ -1,8 +1,7 @@
-//! The commands that read a file: each of them alone, over a source and a sink or a report.
+//! The commands that decode every frame of a file: each of them alone, over a source and a sink, by one worker or several.
 //!
-//! [`decode_file`] writes the plain file of a coded one, [`check_file`] has every frame decoded and writes nothing,
-//! [`frame_out`] writes the sound of one frame, [`show_file`] and [`index_file`] report lines. Each answers what it did, or
-//! the first fault, of a type that has the faults that it can give and no others.
+//! [`decode_file`] writes the plain file of a coded one, [`check_file`] has every frame decoded and writes nothing. Each answers
+//! what it did, or the first fault, of a type that has the faults that it can give and no others.
 //!
 //! ```text
 //! match decode_file(&rt, alloc, &mut source, &mut sink, 4, &OpenGate) {
@@ -24,24 +23,15 @@ mod faults;
 mod feed;
 mod frames;
 mod jobs;
-mod listing;
-mod one_frame;
-mod show;
-mod summary;
 mod tails;
 mod work;
 
 pub use check::check_file;
 pub use decode::decode_file;
-pub use faults::{
-    CheckFault, Checked, DecodeFault, Decoded, FrameWritten, ListFault, Reported, ShowFault,
-};
+pub use faults::{CheckFault, Checked, DecodeFault, Decoded};
 pub use feed::StoredFrames;
 pub use frames::decode_frames;
 pub use jobs::{Job, Tables, jobs_for, tables_for};
-pub use listing::index_file;
-pub use one_frame::frame_out;
-pub use show::show_file;
 
 #[cfg(test)]
 mod tests;

@@ -1,4 +1,3 @@
 // What each command answers by itself, over files that are known byte for byte.
-mod calls;
 mod crew;
 mod devices;

@@ -7,10 +7,10 @@ use Rattle.dst_read.specs.declared.faults.DecodeFault.{DecodeFault}
 use Rattle.dst_read.specs.declared.faults.DecodeFault.TheVariants as decoding
 use Rattle.dst_read.specs.declared.faults.CheckFault.{CheckFault}
 use Rattle.dst_read.specs.declared.faults.CheckFault.TheVariants as checking
-use Rattle.dst_read.specs.declared.faults.ShowFault.{ShowFault}
-use Rattle.dst_read.specs.declared.faults.ShowFault.TheVariants as showing
-use Rattle.dst_read.specs.declared.faults.ListFault.{ListFault}
-use Rattle.dst_read.specs.declared.faults.ListFault.TheVariants as listing
+use Rattle.dst_show.specs.declared.faults.ShowFault.{ShowFault}
+use Rattle.dst_show.specs.declared.faults.ShowFault.TheVariants as showing
+use Rattle.dst_show.specs.declared.faults.ListFault.{ListFault}
+use Rattle.dst_show.specs.declared.faults.ListFault.TheVariants as listing
 use Rattle.dst_write.specs.declared.faults.EncodeFault.{EncodeFault}
 use Rattle.dst_write.specs.declared.faults.EncodeFault.TheVariants as encoding
 use Rattle.dst_cut.specs.declared.cut.CutFault.{CutFault}

@@ -23,8 +23,8 @@ use Rattle.dst_tool.specs.Answers.{status_of, done_line, fault_line, line_of, Te
 use Rattle.dst_commands.specs.Commands.{OutcomeOf}
 use Rattle.dst_tool.specs.Runs.{WholeOf, PartOf, EndsAsOne, EndsBy, Reports, WritesNowhere, ReadsNothing, WritesFile, most_given, longest_sound}
 use Rattle.dst_tool.specs.Runs.{Counts, Held, Told, IsCaused, IsRun}
-use Rattle.dst_read.specs.LineByLine.{AddsLines}
-use Rattle.dst_read.proofs.LineByLine.{none_of_one}
+use Rattle.dst_show.specs.LineByLine.{AddsLines}
+use Rattle.dst_show.proofs.LineByLine.{none_of_one}
 use Rattle.dst_tool.proofs.Statuses.{status_is_done, status_is_read, status_is_write, status_is_memory, status_is_file, status_is_frame}
 use Rattle.dst_tool.proofs.Statuses.{status_is_not_words, status_is_below}
 use Rattle.dst_commands.proofs.Writing.{and_then-nothing}

@@ -18,7 +18,7 @@ use Rattle.dst_tool.specs.declared.answers.Fault.{Fault}
 use Rattle.dst_tool.specs.declared.answers.Fault.TheVariants.{Read, Write, Memory, Report, File, Frame}
 use Rattle.dst_tool.specs.Answers.{status_of, fault_line}
 use Rattle.dst_commands.specs.Commands.{OutcomeOf}
-use Rattle.dst_read.specs.LineByLine.{AddsLines, StopsAtALine}
+use Rattle.dst_show.specs.LineByLine.{AddsLines, StopsAtALine}
 use Rattle.dst_tool.specs.Runs.{DidNotRise, EndsBy, Reports, WritesNowhere, ReadsNothing, Counts, Held, Told, IsCaused, IsRun}
 use Rattle.dst_tool.proofs.Statuses.{status_is_done, status_is_read, status_is_write, status_is_memory, status_is_not_words}
 use Rattle.dst_tool.proofs.OneLine.{refusal_is, whole_of, nothing_of, not_both_kinds, same_lines, reports_line, status_told}

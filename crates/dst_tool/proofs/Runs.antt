@@ -17,7 +17,7 @@ use Rattle.dsdiff_spec.proofs.Stopping.{not_both}
 use Rattle.dst_commands.specs.Commands.{OutcomeOf}
 use Rattle.dst_tool.specs.Runs.{DidNotRise, WholeOf, PartOf, EndsAsOne, EndsBy, EndsAs, Ends, Reports, IsRefused, NoFrameIsRefused, Counts, Held}
 use Rattle.dst_tool.specs.Runs.{Told, IsRun, IsCaused}
-use Rattle.dst_read.proofs.LineByLine.{none_of_one}
+use Rattle.dst_show.proofs.LineByLine.{none_of_one}
 use Rattle.dst_commands.proofs.Writing.{and_then-nothing}
 
 -- ---- words and their command

@@ -13,7 +13,7 @@ use Rattle.dsdiff_spec.specs.Outcome.{Answer, NoneRefused, run}
 use Rattle.words_spec.specs.Outcome.{Outcome}
 use Rattle.dsdiff_spec.specs.declared.faults.FileFault.{FileFault}
 use Rattle.dst_commands.specs.Commands.{OutcomeOf}
-use Rattle.dst_read.specs.LineByLine.{AddsLines, StopsAtALine}
+use Rattle.dst_show.specs.LineByLine.{AddsLines, StopsAtALine}
 use Rattle.dst_ranges.specs.Asked.{groups_asked}
 use Rattle.dst_write.specs.Unfinished.{HoldsNothing, HoldsUnfinished, sound_size_place}
 

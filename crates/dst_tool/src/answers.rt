@@ -8,9 +8,8 @@ use dst_cut::{Cut, CutFault};
 use dst_make::{Made, MakeFault};
 use dst_num::FrameFault;
 use dst_ranges::RangeWritten;
-use dst_read::{
-    CheckFault, Checked, DecodeFault, Decoded, FrameWritten, ListFault, Reported, ShowFault,
-};
+use dst_read::{CheckFault, Checked, DecodeFault, Decoded};
+use dst_show::{FrameWritten, ListFault, Reported, ShowFault};
 use dst_write::{EncodeFault, Encoded};
 use std::alloc::AllocError;
 

@@ -5,7 +5,7 @@ ghost use Rattle.dst_streams.specs.Told.{IsCutShort, and_then};
 ghost use Rattle.dsdiff_spec.specs.Lines as reports;
 ghost use Rattle.dst_words.specs.Commands.{command_seen, NumbersAreLawful};
 ghost use Rattle.dst_tool.specs.Answers.{status_of, done_line, fault_line, line_of, TellsOneLine};
-ghost use Rattle.dst_read.specs.LineByLine.{AddsLines};
+ghost use Rattle.dst_show.specs.LineByLine.{AddsLines};
 ghost use Rattle.dst_tool.specs.Runs.{IsRun, Counts, Held, Told, ReadsAndWrites};
 
 use crate::answers::{
@@ -18,7 +18,8 @@ use dst_dsf::{decode_dsf, encode_dsf};
 use dst_lines::lines;
 use dst_make::make_file;
 use dst_ranges::range_out;
-use dst_read::{check_file, decode_file, frame_out, index_file, show_file};
+use dst_read::{check_file, decode_file};
+use dst_show::{frame_out, index_file, show_file};
 use dst_streams::{Sink, Source};
 use dst_words::Command;
 use dst_write::encode_file;

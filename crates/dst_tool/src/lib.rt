@@ -25,9 +25,9 @@ mod run_by;
 
 pub use dst_cut::{Cut, CutFault, cut_file};
 pub use dst_make::{Made, MakeFault, make_file};
-pub use dst_read::{
-    CheckFault, Checked, DecodeFault, Decoded, FrameWritten, ListFault, Reported, ShowFault,
-    check_file, decode_file, frame_out, index_file, show_file,
+pub use dst_read::{CheckFault, Checked, DecodeFault, Decoded, check_file, decode_file};
+pub use dst_show::{
+    FrameWritten, ListFault, Reported, ShowFault, frame_out, index_file, show_file,
 };
 pub use dst_words::{Command, Task, read_words};
 pub use dst_write::{EncodeFault, Encoded, encode_file};

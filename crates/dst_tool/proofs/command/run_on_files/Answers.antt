@@ -20,8 +20,8 @@ use Rattle.dst_tool.proofs.OneLine.{checking_is_no_frame, showing_is_no_frame, s
 use Rattle.dst_read.specs.declared.faults.DecodeFault.{DecodeFault}
 use Rattle.dst_read.specs.declared.faults.DecodeFault.TheVariants as decoding
 use Rattle.dst_make.specs.declared.make.MakeFault.TheVariants as making
-use Rattle.dst_read.specs.declared.faults.ShowFault.TheVariants as showing
-use Rattle.dst_read.specs.declared.faults.ListFault.TheVariants as listing
+use Rattle.dst_show.specs.declared.faults.ShowFault.TheVariants as showing
+use Rattle.dst_show.specs.declared.faults.ListFault.TheVariants as listing
 use Rattle.dst_tool.specs.Runs.{WholeOf}
 use Rattle.dst_tool.specs.Answers.{answered, done_line, line_of, status_of, of_check, of_cut, of_decode, of_encode, of_list, of_make, of_run, of_show}
 use Rattle.dst_tool.proofs.Inverting.{back_from, encode_again, encode_refuses, encode_reports, to_encode, if_done, check_again, check_reports}
@@ -33,9 +33,9 @@ use Rattle.dst_make.specs.Making.{made_file}
 use Rattle.dst_cut.specs.declared.cut.Cut.{Cut}
 use Rattle.dst_make.specs.declared.make.Made.{Made}
 use Rattle.dst_read.specs.declared.faults.Decoded.{Decoded}
-use Rattle.dst_read.specs.declared.faults.FrameWritten.{FrameWritten}
+use Rattle.dst_show.specs.declared.faults.FrameWritten.{FrameWritten}
 use Rattle.dst_read.specs.declared.faults.Checked.{Checked}
-use Rattle.dst_read.specs.declared.faults.Reported.{Reported}
+use Rattle.dst_show.specs.declared.faults.Reported.{Reported}
 use Rattle.dst_tool.proofs.Coding.{encoded_whole, part_of_encoding, accepted_out}
 use Rattle.dst_tool.proofs.DsfCoding.{dsf_at, dsf_whole, dsf_out, part_of_dsf}
 use Rattle.dst_tool.proofs.MadeOutcomes.{asks_make, asks_run, of_ran, made_outcome, made_out, made_whole, run_done, sink_failed}
