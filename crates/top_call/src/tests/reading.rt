@@ -50,7 +50,8 @@ fn a_frame_is_written_by_the_walk_and_by_the_index(rt: HostRuntime) -> Result<()
     }
     let sound = vec![in alloc; 0x69; 4704]?;
     let line = "frame 2, 4704 bytes\n";
-    answers(&rt, alloc, "frame a b 2", &moved, 0, &sound, line)
+    answers(&rt, alloc, "frame a b 2", &moved, 0, &sound, line)?;
+    Ok(())
 }
 
 #[test]
@@ -109,7 +110,8 @@ fn files_and_frames_are_shown(rt: HostRuntime) -> Result<(), Fail> {
     let line = "file refused: 22 Range 2 2\n";
     answers(&rt, alloc, "show a 2", &two, 5, &[], line)?;
     let line = "file refused: 27 NotCoded\n";
-    answers(&rt, alloc, "show a 0", SILENT, 5, &[], line)
+    answers(&rt, alloc, "show a 0", SILENT, 5, &[], line)?;
+    Ok(())
 }
 
 #[test]
