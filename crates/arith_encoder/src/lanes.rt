@@ -48,14 +48,20 @@ fn narrow_each(ranges: &mut [u16; 8], doublings: &mut [u16; 8], step: &[u16; 8])
     }
 }
 
-// One symbol of one code: the range and the number of doublings behind it.
+// One symbol of one code: the range and the number of doublings behind it. A symbol 1 has the range less the size of a symbol 0,
+// so that size is added with its sign. The product takes the range's four highest bits, and `rounded` adds the size once more
+// where the scale is odd and they are even: the product then waits for one shift of the range alone.
 #[inline(always)]
 fn narrow_lane(range: u16, step: u16) -> (u16, u16)
     ensures { (symbol : Bool) (p : ℕ) → IsStep symbol p step → IsRange range → Narrows range symbol p result.0 result.1 }
 {
-    let scale = range >> 8 | range >> 7 & 1;
-    let size = scale.wrapping_mul(step % 256);
-    let part = either(step < 32_768, size, range.wrapping_sub(size));
+    let of_0 = step < 32_768;
+    let size = step % 256;
+    let signed = either(of_0, size, 0_u16.wrapping_sub(size));
+    let before = either(of_0, 0, range);
+    let rounded = either((range >> 7) % 4 == 1, signed, 0);
+    let product = (range >> 8).wrapping_mul(signed);
+    let part = product.wrapping_add(before.wrapping_add(rounded));
     let short = part < 2048;
     let more = either(short, part, 0);
     (part.wrapping_add(more), step / 256 % 8 + u16::from(short))
