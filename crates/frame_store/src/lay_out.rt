@@ -1,5 +1,5 @@
 // The symbols of a sound in order, as bytes.
-ghost use Rattle.std.specs.Prelude.{◌≡◌, ◌≢◌, ℕ, ◌+◌, ◌*◌, ◌<◌, ◌≤◌, ◌^◌, nat_lt, ◌&&◌, true, false, pos, map, length, get_or, take, All};
+ghost use Rattle.std.specs.Prelude.{◌≡◌, ◌≢◌, ℕ, ◌+◌, ◌*◌, ◌<◌, ◌≤◌, ◌^◌, nat_lt, ◌&&◌, true, false, pos, map, length, get_or, All};
 ghost use Rattle.dst_spec.specs.Table.{prob_kind, IsTable};
 ghost use Rattle.dst_spec.specs.Sample.{sound_bytes};
 ghost use Rattle.dst_spec.specs.Symbols.{symbols as symbols_of};
@@ -35,20 +35,6 @@ pub(crate) fn lay_out(params: &Params, predictions: &mut Predictions, symbols: &
         let row = predictions.row(c, filter);
         spread(symbols, predictions.codes(row), probs, early, c, channels);
     }
-}
-
-/// The same in front of a buffer that may be longer.
-pub(crate) fn lay_out_first(params: &Params, predictions: &mut Predictions, symbols: &mut [u8])
-    requires channels { length params.now.half_prob ≡ predictions.old.channels.channels }
-    requires room { 8 * sound_bytes predictions.old.channels ≤ length symbols.old }
-    ensures symbols { all_pairs params.now (take (8 * sound_bytes predictions.old.channels) symbols.new)
-        ≡ symbols_of predictions.old.channels params.now predictions.old.sound false }
-    ensures many { length symbols.new ≡ length symbols.old }
-    ensures sound { predictions.new.sound ≡ predictions.old.sound }
-    ensures channels { predictions.new.channels ≡ predictions.old.channels }
-{
-    let long = 8 * predictions.channels().sound_bytes();
-    lay_out(params, predictions, &mut symbols[..long]);
 }
 
 // Lays out the symbols of one channel.

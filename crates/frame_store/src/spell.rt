@@ -1,5 +1,5 @@
 // A sound, spelled.
-ghost use Rattle.std.specs.Prelude.{◌≡◌, ◌+◌, ◌*◌, ◌%◌, ◌/◌, ◌<◌, ◌≤◌, ◌^◌, ◌↔◌, ◌++◌, false, [], ◌∷◌, length, map, take, IfOk, IfErr, IsTrue};
+ghost use Rattle.std.specs.Prelude.{◌≡◌, ◌+◌, ◌*◌, ◌%◌, ◌/◌, ◌<◌, ◌≤◌, ◌^◌, ◌↔◌, ◌++◌, false, [], ◌∷◌, length, map, IfOk, IfErr, IsTrue};
 ghost use Rattle.dst_spec.specs.Bits.{octets};
 ghost use Rattle.dst_spec.specs.Sample.{IsShape, sound_bytes};
 ghost use Rattle.dst_spec.specs.Interval.{interval};
@@ -8,7 +8,7 @@ ghost use Rattle.arith_encoder.specs.Encoding.{StandsFor};
 ghost use Rattle.frame_store.specs.Pairs.{pair_of, all_pairs};
 ghost use Rattle.frame_store.specs.Storing.{written, IsWriter};
 
-use crate::lay_out::lay_out_first;
+use crate::lay_out::lay_out;
 use crate::measure::{prob_of, symbol_in};
 use crate::scratch::StoreScratch;
 use arith_encoder::ArithEncoder;
@@ -29,7 +29,7 @@ pub fn spell_frame(params: &Params, sound: &[u8], scratch: &mut StoreScratch) ->
     let channels = scratch.channels;
     scratch.predictions.begin(sound);
     let symbols = scratch.symbols.as_mut_slice();
-    lay_out_first(params, &mut scratch.predictions, symbols);
+    lay_out(params, &mut scratch.predictions, symbols);
     write_into(params, symbols, channels, &mut scratch.writer)
 }
 
@@ -42,7 +42,7 @@ pub(crate) fn spell_shorter(
 ) -> bool
     requires channels { length params.now.half_prob ≡ predictions.old.channels.channels }
     requires shape { IsShape predictions.old.channels }
-    requires room { 8 * sound_bytes predictions.old.channels ≤ length symbols.old }
+    requires many { length symbols.old ≡ 8 * sound_bytes predictions.old.channels }
     requires writer { IsWriter predictions.old.channels writer.old }
     ensures shorter { IsTrue result ↔ (length (spell predictions.old.channels params.now predictions.old.sound) ≤ sound_bytes predictions.old.channels) }
     ensures written { IsTrue result → written writer.new ≡ spell predictions.old.channels params.now predictions.old.sound }
@@ -52,7 +52,7 @@ pub(crate) fn spell_shorter(
     ensures channels { predictions.new.channels ≡ predictions.old.channels }
 {
     let channels = predictions.channels();
-    lay_out_first(params, predictions, symbols);
+    lay_out(params, predictions, symbols);
     if !write_into(params, symbols, channels, writer) {
         return false;
     }
@@ -70,8 +70,8 @@ fn bytes_in(writer: &Option<BitWriter>, channels: Channels) -> usize
     }
 }
 
-/// Writes the spelling of symbols that are laid out in front of a buffer in place of what the writer has. False, with nothing written, where it is longer than the
-/// plain form.
+/// Writes the spelling of laid out symbols in place of what the writer has. False, with nothing written, where it is longer than
+/// the plain form.
 pub(crate) fn write_into(
     params: &Params,
     symbols: &[u8],
@@ -80,19 +80,18 @@ pub(crate) fn write_into(
 ) -> bool
     requires some { 0 < length params.now.half_prob }
     requires writer { IsWriter channels writer.old }
-    requires symbols { 8 * sound_bytes channels ≤ length symbols.now }
+    requires symbols { length symbols.now ≡ 8 * sound_bytes channels }
     ensures fits { IsTrue result ↔ (length (header_spelling params.now)
-        + length (code_spelling (all_pairs params.now (take (8 * sound_bytes channels) symbols.now))) ≤ 8 * (1 + sound_bytes channels)) }
+        + length (code_spelling (all_pairs params.now symbols.now)) ≤ 8 * (1 + sound_bytes channels)) }
     ensures written { IsTrue result → written writer.new
-        ≡ octets (header_spelling params.now ++ code_spelling (all_pairs params.now (take (8 * sound_bytes channels) symbols.now))) }
+        ≡ octets (header_spelling params.now ++ code_spelling (all_pairs params.now symbols.now)) }
     ensures writer { IsWriter channels writer.new }
 {
     let Some(mut old) = writer.take() else {
         unreachable!();
     };
     old.clear();
-    let part = &symbols[..8 * channels.sound_bytes()];
-    match write_spelling(params, part, old) {
+    match write_spelling(params, symbols, old) {
         Ok(new) => {
             *writer = Some(new);
             true

@@ -5,7 +5,7 @@ ghost use Rattle.dst_spec.specs.Header.{IsParams, Params as Parameters};
 ghost use Rattle.dst_spec.specs.Spell.{spell, stored as stored_of};
 ghost use Rattle.frame_store.specs.Choosing.{IsChosen};
 
-use crate::lay_out::lay_out_first;
+use crate::lay_out::lay_out;
 use crate::measure::spelling_lengths;
 use crate::picker::Picker;
 use crate::scratch::StoreScratch;
@@ -52,7 +52,7 @@ pub fn store_frame<P: Picker>(
         }
         Some(place) => {
             let params = &found[place];
-            lay_out_first(params, &mut scratch.predictions, symbols);
+            lay_out(params, &mut scratch.predictions, symbols);
             write_into(params, symbols, channels, &mut scratch.writer);
             scratch.is_plain = false;
         }

@@ -1,4 +1,4 @@
-use Rattle.std.proofs.Common.{◌≡◌, ◌+◌, ◌*◌, ◌≤◌, false, length, get_or, take, ap, ap₂, sym, ◌∙◌, arith}
+use Rattle.std.proofs.Common.{◌≡◌, ◌+◌, ◌*◌, ◌≤◌, false, length, get_or, ap, ap₂, sym, ◌∙◌, arith}
 use Rattle.dst_spec.specs.Sample.{sound_bytes}
 use Rattle.dst_spec.specs.Symbols.{symbols}
 use Rattle.dst_spec.specs.Spell.{spell, stored, header_spelling, code_spelling}
@@ -22,11 +22,10 @@ returns-in-Some-clause-stored g c =
     sym (ap₂ (λ h s. stored h s found) shape heard) ∙ c.in-Some.ensures.some P ∙ ap₂ (λ h s. spell h (get_or found place P) s) shape heard ∙ here in
     let few = c.in-Some.ensures.fits P in
     let same = ap length (ap₂ (λ h s. spell h (get_or found place P) s) shape heard ∙ here) in
-    let xs = take (8 * sound_bytes f) c.lay_out_first.new.symbols in
+    let xs = c.lay_out.new.symbols in
     let later = c.shortest.ensures.channels ∙ shape in
     let is : all_pairs P xs ≡ symbols f P sound false =
-    sym (ap (λ h. all_pairs P (take (8 * sound_bytes h) c.lay_out_first.new.symbols)) later) ∙ c.lay_out_first.ensures.symbols
-    ∙ ap₂ (λ h s. symbols h P s false) later (c.shortest.ensures.sound ∙ heard) in
+    c.lay_out.ensures.symbols ∙ ap₂ (λ h s. symbols h P s false) later (c.shortest.ensures.sound ∙ heard) in
     let long = spelled-length f P sound xs is in
     let fits : length (header_spelling P) + length (code_spelling (all_pairs P xs)) ≤ 8 * (1 + sound_bytes f) =
     omega (arith, long, few, same, c.requires.sound) in
