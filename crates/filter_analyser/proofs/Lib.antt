@@ -5,6 +5,7 @@ pub mod Compared
 pub mod Correlating
 pub mod Shares
 pub mod Moving
+pub mod Reflecting
 pub mod Stepping
 pub mod Padding
 pub mod Scaling

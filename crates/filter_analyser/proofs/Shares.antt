@@ -4,9 +4,13 @@ use Rattle.std.proofs.Common.{get_or, refl, ap, ◌∙◌, arith}
 use mir.Syntax.{w64, w128}
 use Rattle.std.proofs.lemmas.Int.{ints}
 use lib.Signed.{shr_z}
-use Rattle.level_spec.specs.Correlation.{sum_over}
+use Rattle.std.proofs.lemmas.List.FromFn.{length-range_with_len}
+use Rattle.std.specs.List.{range_with_len}
+use Rattle.dst_spec.specs.Sample.{Shape, IsShape}
+use Rattle.level_spec.specs.Correlation.{sum_over, correlations}
 use Rattle.level_spec.specs.Recursion.{lag, value, whole}
 use Rattle.level_spec.specs.Laws.{AreCorrelations}
+use Rattle.level_spec.proofs.Sizes.{are_correlations}
 use Rattle.level_spec.proofs.Sums.{sum_over-below}
 use Rattle.filter_refiner.proofs.Numbers.{product-most, whole-most, same_64, same_128}
 
@@ -29,6 +33,17 @@ lags-most lags k h =
     let first : pos 1 ≤ℤ lag lags 0 = h.least in
     let o = h.others k in
     omega (arith, ints)
+
+-- the first correlation of some channels has few bits, and its word holds it
+pub first-held : (f : Shape) (sound : List ℕ) (first count : ℕ) (r0 : ℤ) → IsShape f → 1 ≤ count → first + count ≤ f.channels →
+    r0 ≡ lag (correlations f sound (range_with_len first count)) 0 → (to_z w64 (of_z w64 r0) ≡ r0) × (nat_abs (to_z w64 (of_z w64 r0)) ≤ 2 ^ 20)
+first-held f sound first count r0 shape some within is =
+    let members = range_with_len first count in
+    let long = length-range_with_len first count in
+    let few = shape.most in
+    let small : nat_abs r0 ≤ 2 ^ 20 = rw is (lags-most (correlations f sound members) 0 (are_correlations f sound members shape (omega arith) (omega arith))) in
+    let same : to_z w64 (of_z w64 r0) ≡ r0 = same_64 r0 (omega arith) in
+    (same, rw same small)
 
 -- the next share is taken from what is left
 pub left-next : (lags values : List ℤ) (i j : ℕ) → 1 ≤ j →

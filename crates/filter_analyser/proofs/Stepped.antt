@@ -20,11 +20,19 @@ use Rattle.level_spec.proofs.Sums.{sum_over-same}
 use Rattle.frame_predictions.specs.Codes.{code_at}
 use Rattle.filter_refiner.proofs.Lengths.{test-true, test-false}
 use Rattle.filter_analyser.proofs.Counting.{total-codes, wrong-codes, counted-is}
+use Rattle.filter_analyser.proofs.Pulled.{gradient-same}
 
 -- totals and wrong guesses by counts of codes
 abbrev pub AreCounts : Shape → List ℕ → List ℕ → List ℤ → List ℕ → Type 0
 AreCounts f sound channels coefs counts =
     (q : ℕ) → q < 128 → get_or counts q 0 ≡ count_from (length coefs) f (λ c t. code_at f sound c coefs t == q) channels
+
+-- a code is counted as often in the same sound, with the same filter
+pub counted-same : (f : Shape) (s sound channels : List ℕ) (d coefs : List ℤ) (q : ℕ) → s ≡ sound → d ≡ coefs →
+    count_from (length d) f (λ c t. code_at f s c d t == q) channels ≡ count_from (length coefs) f (λ c t. code_at f sound c coefs t == q) channels
+counted-same f s sound channels d coefs q a b =
+    ap (λ s. count_from (length d) f (λ c t. code_at f s c d t == q) channels) a
+    ∙ ap (λ d. count_from (length d) f (λ c t. code_at f sound c d t == q) channels) b
 
 pub totals-are : (f : Shape) (sound channels : List ℕ) (coefs : List ℤ) (counts : List ℕ) (p : ℕ) → AreCounts f sound channels coefs counts → p < 64 →
     get_or counts p 0 + get_or counts (p + 64) 0 ≡ total f sound channels coefs p
@@ -118,7 +126,7 @@ moved-none r0 kept sp pp g coefs h =
       | Some d ↦ Some (fitted kept (target coefs d))
     ])) h
 
-pub moved-solved : (r0 : ℤ) (kept : List State) (sp pp : ℤ) (g : ℕ → ℤ) (coefs y : List ℤ) (answer : Option (List ℤ)) → int_le (sp *ℤ pos (2 ^ 13)) pp ≡ false →
+moved-solved : (r0 : ℤ) (kept : List State) (sp pp : ℤ) (g : ℕ → ℤ) (coefs y : List ℤ) (answer : Option (List ℤ)) → int_le (sp *ℤ pos (2 ^ 13)) pp ≡ false →
     y ≡ map (λ j. pull r0 sp pp (g j) (get_or coefs j (pos 0))) (range_with_len 0 128) → solved kept y ≡ answer →
     moved_by r0 kept sp pp g coefs ≡ (elim answer as (λ _. Option (List ℤ)) [ None ↦ None | Some d ↦ Some (fitted kept (target coefs d)) ])
 unfolding moved_by
@@ -145,7 +153,7 @@ weight-of weights T W p true false a b = (let e : p + 0 ≡ p = omega arith in a
 weight-of weights T W p false true a b = (let e : p + 0 ≡ p = omega arith in ap (λ q. get_or weights q 0) e) ∙ a
 weight-of weights T W p false false a b = b
 
-pub weights-are : (f : Shape) (sound channels : List ℕ) (coefs : List ℤ) (counts weights : List ℕ) → AreCounts f sound channels coefs counts →
+weights-are : (f : Shape) (sound channels : List ℕ) (coefs : List ℤ) (counts weights : List ℕ) → AreCounts f sound channels coefs counts →
     ((p : ℕ) → p < 64 → get_or weights p 0 ≡ weight (λ p. get_or counts p 0 + get_or counts (p + 64) 0) (λ p. get_or counts (p + 64) 0) p false) →
     ((p : ℕ) → p < 64 → get_or weights (p + 64) 0 ≡ weight (λ p. get_or counts p 0 + get_or counts (p + 64) 0) (λ p. get_or counts (p + 64) 0) p true) →
     (c t : ℕ) → get_or weights (code_at f sound c coefs t) 0
@@ -161,8 +169,30 @@ weights-are f sound channels coefs counts weights h right wrongly c t =
     weight-of weights T W p (is_negative (sum_before f sound c coefs (pos t))) (sample f sound c (pos t) == 1) (right p few ∙ e)
     (wrongly p few ∙ ap (λ x. 256 - x) e)
 
+-- a step by what is made of a filter's counts, where they agree more than a little
+pub next-solved : (f : Shape) (sound channels : List ℕ) (coefs : List ℤ) (counts weights : List ℕ) (r0 sp pp : ℤ) (kept : List State)
+    (grad pulls : List ℤ) (answer : Option (List ℤ)) →
+    AreCounts f sound channels coefs counts → r0 ≡ lag (correlations f sound channels) 0 → kept ≡ rows (correlations f sound channels) 128 →
+    sp ≡ agreement (λ p. get_or counts p 0 + get_or counts (p + 64) 0) (λ p. get_or counts (p + 64) 0) →
+    pp ≡ power (λ p. get_or counts p 0 + get_or counts (p + 64) 0) →
+    ((p : ℕ) → p < 64 → get_or weights p 0 ≡ weight (λ p. get_or counts p 0 + get_or counts (p + 64) 0) (λ p. get_or counts (p + 64) 0) p false) →
+    ((p : ℕ) → p < 64 → get_or weights (p + 64) 0 ≡ weight (λ p. get_or counts p 0 + get_or counts (p + 64) 0) (λ p. get_or counts (p + 64) 0) p true) →
+    ((j : ℕ) → j < 128 → get_or grad j (pos 0) ≡ gradient f sound (λ c t. get_or weights (code_at f sound c coefs t) 0) (length coefs) channels j) →
+    int_le (sp *ℤ pos (2 ^ 13)) pp ≡ false →
+    pulls ≡ map (λ j. pull r0 sp pp (get_or grad j (pos 0)) (get_or coefs j (pos 0))) (range_with_len 0 128) → solved kept pulls ≡ answer →
+    next_filter f sound channels coefs ≡ (elim answer as (λ _. Option (List ℤ)) [ None ↦ None | Some d ↦ Some (fitted kept (target coefs d)) ])
+next-solved f sound channels coefs counts weights r0 sp pp kept grad pulls answer h first row a p right wrongly g test is solution =
+    let G : ℕ → ℤ = λ j. get_or grad j (pos 0) in
+    let V : ℕ → ℕ → ℕ = λ c t. get_or weights (code_at f sound c coefs t) 0 in
+    let W : ℕ → ℕ → ℕ = λ c t.
+    weight (total f sound channels coefs) (wrong f sound channels coefs) (place f sound c coefs t) (is_wrong f sound c coefs t) in
+    let are = weights-are f sound channels coefs counts weights h right wrongly in
+    let step = moved-is f sound channels coefs r0 sp pp kept G first row (a ∙ agreement-is f sound channels coefs counts h)
+    (p ∙ power-is f sound channels coefs counts h) (λ j k. g j k ∙ gradient-same f sound V W (length coefs) channels j are) in
+    sym step ∙ moved-solved r0 kept sp pp G coefs pulls answer test is solution
+
 -- a step of refining
-pub refine-none : (next : List ℤ → Option (List ℤ)) (sizes : List ℤ → ℕ) (n : ℕ) (r : Refined) → next r.last ≡ None → refine next sizes n r ≡ r
+refine-none : (next : List ℤ → Option (List ℤ)) (sizes : List ℤ → ℕ) (n : ℕ) (r : Refined) → next r.last ≡ None → refine next sizes n r ≡ r
 unfolding refine
 refine-none next sizes zero r h = refl
 refine-none next sizes (suc n) r h = ap (λ a. elim a as (λ _. Refined) [
@@ -170,7 +200,7 @@ refine-none next sizes (suc n) r h = ap (λ a. elim a as (λ _. Refined) [
   | Some q ↦ refine next sizes n (record { best = cond (nat_lt (sizes q) (sizes r.best)) q r.best; last = q })
 ]) h
 
-pub refine-some : (next : List ℤ → Option (List ℤ)) (sizes : List ℤ → ℕ) (n m : ℕ) (r : Refined) (q : List ℤ) → n ≡ m + 1 → next r.last ≡ Some q →
+refine-some : (next : List ℤ → Option (List ℤ)) (sizes : List ℤ → ℕ) (n m : ℕ) (r : Refined) (q : List ℤ) → n ≡ m + 1 → next r.last ≡ Some q →
     refine next sizes n r ≡ refine next sizes m (record { best = cond (nat_lt (sizes q) (sizes r.best)) q r.best; last = q })
 unfolding refine
 refine-some next sizes n m r q e h =
@@ -180,16 +210,31 @@ refine-some next sizes n m r q e h =
       | Some q ↦ refine next sizes m (record { best = cond (nat_lt (sizes q) (sizes r.best)) q r.best; last = q })
     ]) h
 
-pub refine-zero : (next : List ℤ → Option (List ℤ)) (sizes : List ℤ → ℕ) (n : ℕ) (r : Refined) → n ≡ 0 → refine next sizes n r ≡ r
-unfolding refine
-refine-zero next sizes n r e = ap (λ k. refine next sizes k r) e
+-- it begins with copies of the first filter
+pub refine-copied : (next : List ℤ → Option (List ℤ)) (sizes : List ℤ → ℕ) (n : ℕ) (first best last : List ℤ) → best ≡ first → last ≡ first →
+    refine next sizes (n - 0) (record { best = best; last = last }) ≡ refine next sizes n (record { best = first; last = first })
+refine-copied next sizes n first best last b l =
+    let none : n - 0 ≡ n = omega arith in
+    ap (λ k. refine next sizes k (record { best = best; last = last })) none
+    ∙ ap (λ b. refine next sizes n (record { best = b; last = last })) b
+    ∙ ap (λ l. refine next sizes n (record { best = first; last = l })) l
 
--- the better of two filters, by their sizes
-pub pick-best : (next : List ℤ → Option (List ℤ)) (sizes : List ℤ → ℕ) (m : ℕ) (q best : List ℤ) (end : Refined) →
-    refine next sizes m (record { best = cond (nat_lt (sizes q) (sizes best)) q best; last = q }) ≡ end →
+-- it ends behind the last step, and where nothing moves
+pub refine-ended : (next : List ℤ → Option (List ℤ)) (sizes : List ℤ → ℕ) (n : ℕ) (r end : Refined) → n ≡ 0 → refine next sizes n r ≡ end → r ≡ end
+unfolding refine
+refine-ended next sizes n r end e h = sym (ap (λ k. refine next sizes k r) e) ∙ h
+
+pub refine-stopped : (next : List ℤ → Option (List ℤ)) (sizes : List ℤ → ℕ) (n : ℕ) (r end : Refined) → next r.last ≡ None →
+    refine next sizes n r ≡ end → r ≡ end
+refine-stopped next sizes n r end none h = sym (refine-none next sizes n r none) ∙ h
+
+-- it goes on with the better of two filters, by their sizes
+pub refine-moved : (next : List ℤ → Option (List ℤ)) (sizes : List ℤ → ℕ) (n m : ℕ) (best last q : List ℤ) (end : Refined) → n ≡ m + 1 →
+    next last ≡ Some q → refine next sizes n (record { best = best; last = last }) ≡ end →
     (sizes q < sizes best → refine next sizes m (record { best = q; last = q }) ≡ end) ×
     (sizes best ≤ sizes q → refine next sizes m (record { best = best; last = q }) ≡ end)
-pick-best next sizes m q best end h = (
-  λ less. ap (λ b. refine next sizes m (record { best = cond b q best; last = q })) (sym (test-true (sizes q) (sizes best) less)) ∙ h,
-  λ more. ap (λ b. refine next sizes m (record { best = cond b q best; last = q })) (sym (test-false (sizes q) (sizes best) more)) ∙ h,
-)
+refine-moved next sizes n m best last q end e taken before =
+    let h = sym (refine-some next sizes n m (record { best = best; last = last }) q e taken) ∙ before in (
+      λ less. ap (λ b. refine next sizes m (record { best = cond b q best; last = q })) (sym (test-true (sizes q) (sizes best) less)) ∙ h,
+      λ more. ap (λ b. refine next sizes m (record { best = cond b q best; last = q })) (sym (test-false (sizes q) (sizes best) more)) ∙ h,
+    )

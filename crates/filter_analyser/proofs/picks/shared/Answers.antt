@@ -1,4 +1,4 @@
-use Rattle.std.proofs.Common.{◌≡◌, ℕ, ◌^◌, ◌≤◌, List, ℤ, pos, nat_abs, true, [], ◌∷◌, ◌++◌, get_or, take, replicate, ap, sym, ◌∙◌, subst, arith}
+use Rattle.std.proofs.Common.{ℕ, ◌^◌, ◌≤◌, List, ℤ, pos, nat_abs, true, [], ◌∷◌, get_or, take, replicate, ap, sym, ◌∙◌, subst, arith}
 use Rattle.std.proofs.lemmas.List.FromFn.{length-range_with_len}
 use Rattle.dst_spec.specs.Header.{IsParams}
 use Rattle.dst_num.specs.Map.{params_of}
@@ -7,6 +7,7 @@ use Rattle.level_spec.specs.Counts.{counted}
 use Rattle.level_spec.specs.Picks.{channels_of}
 use Rattle.level_spec.proofs.Sizes.{are_correlations}
 use Rattle.level_spec.proofs.Lawful.{IsParams-shared}
+use Rattle.filter_analyser.proofs.Joining.{alone}
 use Rattle.filter_analyser.proofs.Picking.{solution-small, filter-is, zero_numbers, shared-is}
 use Rattle.filter_analyser.proofs.picks.shared.Goals as goal
 
@@ -20,10 +21,6 @@ quantise-filter-requires-clause-values c = λ k.
     let corr = are_correlations f sound (channels_of f) c.requires.shape (omega arith) (omega arith) in
     let P : List ℤ → Type 0 = λ xs. nat_abs (get_or xs k (pos 0)) ≤ 2 ^ 40 in
     subst P (sym c.requires.solved) (solution-small (correlations f sound (channels_of f)) c.args.order k corr)
-
--- one filter and one table in their lists
-alone : {A : Type 0} (xs ys : List A) (x : A) → ys ≡ xs ++ x ∷ [] → xs ≡ [] → ys ≡ x ∷ []
-alone xs ys x e h = e ∙ ap (λ t. t ++ x ∷ []) h
 
 pub parameters-requires : goal.parameters-requires
 parameters-requires c =
