@@ -122,9 +122,10 @@ lane_is false p range step signed before rounded part more after d is r signed_i
     (part_is ∙ ap (λ n. (range / 256 * signed % 65536 + (n + rounded) % 65536) % 65536) before_of
     ∙ ap (λ n. (range / 256 * n % 65536 + (0 + rounded) % 65536) % 65536) signed_of) ∙ ap (λ s. s * scaled) (sym sum) in
     let e : Scaling = record { scaled = scaled; shift = shift } in
-    let n = narrow_is range p false e (scale range) part (range - scale range * p) shift r is.0 is.1 (record { scaled = refl; shifted = shifted }) refl part_of refl refl in
+    let start = range - scale range * p in
+    let n = narrow_is range p false e (scale range) part start shift r is.0 is.1 (record { scaled = refl; shifted = shifted }) refl part_of refl refl in
     let within : part < 4096 = omega arith in
-    narrows-of range p false (range - scale range * p) (part + (if nat_lt part 2048 then part else 0)) (shift + bool_byte (nat_lt part 2048)) after d
+    narrows-of range p false start (part + (if nat_lt part 2048 then part else 0)) (shift + bool_byte (nat_lt part 2048)) after d
     (after_is ∙ doubled_is part more within (nat_lt part 2048) more_is) (omega arith) n
 
 -- ---- one symbol after the other
