@@ -7,3 +7,4 @@ pub mod Running
 pub mod BySize
 pub mod Sized
 pub mod Ending
+pub mod Parts

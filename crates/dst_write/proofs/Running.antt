@@ -1,5 +1,5 @@
 -- A run of batches is read as one loop, a piece at a time.
-use Rattle.std.proofs.Common.{◌≡◌, ℕ, ◌≤◌, List, length, Option, Some, Ok, Err, Result}
+use Rattle.std.proofs.Common.{◌≡◌, ℕ, ◌≤◌, List, length, Option, Some, Ok, Err, Result, arith}
 use Rattle.dst_streams.specs.declared.source.Failed.{Failed}
 use Rattle.dst_streams.specs.Told.{Loan}
 use Rattle.dsdiff_spec.specs.Coded.{Picks}
@@ -23,6 +23,12 @@ pub record IsBegun {S K : Type 0} (bytes : S → Option (List ℕ)) (s : SoundPi
   pub first : s.next ≡ 0
   pub count : length t.sizes.now ≡ s.form.now.frames
   pub whole : (file : List ℕ) → bytes s.source.now ≡ Some file → s.form.now.end ≤ length file
+
+-- of a form that ends within the n bytes of its file
+pub begun : {S K : Type 0} (bytes : S → Option (List ℕ)) (s : SoundPieces S) (t : FrameWriter K) (n : ℕ) → s.next ≡ 0 →
+    length t.sizes.now ≡ s.form.now.frames → s.form.now.end ≤ n → ((file : List ℕ) → bytes s.source.now ≡ Some file → n ≡ length file) →
+    IsBegun bytes s t
+begun bytes s t n first count within known = record { first = first; count = count; whole = λ file told. omega (arith, known file told) }
 
 module _ {S K : Type 0} (bytes : S → Option (List ℕ)) (known : S → Option ℕ) (loan : S → Loan) (faults gave : S → ℕ) (written : K → Option (List ℕ))
     (appended : K → ℕ) (room : K → Option ℕ) (sink_faults : K → ℕ) (picks : Picks) (s0 : SoundPieces S) (t0 : FrameWriter K) where
