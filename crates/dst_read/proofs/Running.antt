@@ -6,6 +6,7 @@ use Rattle.dsdiff_spec.specs.Form.{Form, shape, size_of_sound}
 use Rattle.frame_crew.specs.Runs.{Ran, FailsAtFeed, FailsAtDrain}
 use Rattle.frame_crew.specs.Laws.{Ran-keep}
 use Rattle.dst_read.specs.declared.jobs.Job.{Job}
+use Rattle.dsdiff_chunks.specs.Forms.{coded_seen}
 use Rattle.dsdiff_chunks.specs.declared.open.OpenFault.TheVariants.{Read}
 use Rattle.dst_read.specs.declared.faults.DecodeFault.{DecodeFault}
 use Rattle.dst_read.specs.declared.faults.DecodeFault.TheVariants.{Source}
@@ -27,6 +28,20 @@ pub record IsBegun {S K : Type 0} (bytes : S → Option (List ℕ)) (form : Form
   pub left : t.left ≡ size_of_sound form
   pub count : length s.walked.now.index ≡ form.frames
   pub opened : (file : List ℕ) → bytes s.source.now ≡ Some file → IsOpened file form s.walked.now.index
+
+-- of a walked form
+pub begun : {S K : Type 0} (bytes : S → Option (List ℕ)) (s : StoredFrames S) (t : SoundWriter K) → IsShape s.walked.now.form.channels → s.next ≡ 0 →
+    t.left ≡ size_of_sound (coded_seen s.walked.now.form) →
+    ((file : List ℕ) → bytes s.source.now ≡ Some file → IsOpened file (coded_seen s.walked.now.form) s.walked.now.index) →
+    IsBegun bytes (coded_seen s.walked.now.form) s.walked.now.form.channels s t
+begun bytes s t lawful first left opened = record {
+  same = s.walked.now.form.shape;
+  lawful = lawful;
+  first = first;
+  left = left;
+  count = s.walked.now.fits.count;
+  opened = opened;
+}
 
 module _ {S K : Type 0} (bytes : S → Option (List ℕ)) (known : S → Option ℕ) (faults gave : S → ℕ) (written : K → Option (List ℕ)) (room : K → Option ℕ)
     (sink_faults : K → ℕ) (form : Form) (f : Shape) (s0 : StoredFrames S) (t0 : SoundWriter K) where
