@@ -78,10 +78,10 @@ pub record HasShown (asked : Option ℕ) (r : Result Reported ShowFault) (bytes 
   pub added : IfOk r (λ s. (file : List ℕ) → bytes ≡ Some file → (o : Answer) → OutcomeOf (shown asked) file o → AddsLines o.lines before now)
   pub stopped : r ≡ Err Report → (file : List ℕ) → bytes ≡ Some file → (o : Answer) → OutcomeOf (shown asked) file o → StopsAtALine o.lines before now
 
-pub has_shown : (asked q : Option ℕ) (r : Result Reported ShowFault) {bytes old new : Option (List ℕ)} {room : Option ℕ} {before now : ℕ} → asked ≡ q →
+pub has_shown : {asked q : Option ℕ} (r : Result Reported ShowFault) {bytes old new : Option (List ℕ)} {room : Option ℕ} {before now : ℕ} → asked ≡ q →
     ((file : List ℕ) → bytes ≡ Some file → AreBytes file) →
     ((file : List ℕ) → bytes ≡ Some file → ReportEnds r (shown q) file old new room before now) → HasShown asked r bytes old new room before now
-has_shown asked q r {bytes} {old} {new} {room} {before} {now} is are h =
+has_shown {asked} {q} r {bytes} {old} {new} {room} {before} {now} is are h =
     let c = shown asked in
     let ends : Ends r c bytes old new room before now = subst (λ q. Ends r (shown q) bytes old new room before now) (sym is) h in
     let at : (a : Result Reported ShowFault) → r ≡ a → Ends a c bytes old new room before now =
