@@ -6,6 +6,7 @@ use Rattle.dsdiff_spec.specs.Form.{Form, shape, sound_bytes_of, size_of_sound}
 use Rattle.frame_crew.specs.Runs.{Ran, FailsAtFeed, FailsAtDrain}
 use Rattle.frame_crew.specs.Laws.{Ran-keep}
 use Rattle.dst_read.specs.declared.jobs.Job.{Job}
+use Rattle.dsdiff_chunks.specs.Forms.{coded_seen}
 use Rattle.dsdiff_chunks.specs.declared.open.OpenFault.TheVariants.{Read}
 use Rattle.dst_read.specs.declared.faults.DecodeFault.{DecodeFault}
 use Rattle.dst_read.specs.declared.faults.DecodeFault.TheVariants.{Source}
@@ -31,6 +32,25 @@ pub record IsBegun {S K : Type 0} (bytes : S → Option (List ℕ)) (written : K
   pub begins : HasTaken written room [] (written t.sink.now) (room t.sink.now) t
   pub count : length s.walked.now.index ≡ form.frames
   pub opened : (file : List ℕ) → bytes s.source.now ≡ Some file → IsOpened file form s.walked.now.index
+
+-- of a walked form
+pub begun : {S K : Type 0} (bytes : S → Option (List ℕ)) (written : K → Option (List ℕ)) (room : K → Option ℕ) (s : StoredFrames S) (t : RowWriter K) →
+    IsShape s.walked.now.form.channels → s.next ≡ 0 → t.row.size ≡ size_of_sound (coded_seen s.walked.now.form) →
+    HasTaken written room [] (written t.sink.now) (room t.sink.now) t →
+    ((file : List ℕ) → bytes s.source.now ≡ Some file → IsOpened file (coded_seen s.walked.now.form) s.walked.now.index) →
+    IsBegun bytes written room (coded_seen s.walked.now.form) s.walked.now.form.channels s t
+begun bytes written room s t lawful first size begins opened =
+    let walked = s.walked.now in
+    record {
+      same = walked.form.shape;
+      lawful = lawful;
+      first = first;
+      size = size;
+      whole = under.sound_in_frames walked.form lawful;
+      begins = begins;
+      count = walked.fits.count;
+      opened = opened;
+    }
 
 module _ {S K : Type 0} (bytes : S → Option (List ℕ)) (known : S → Option ℕ) (faults gave : S → ℕ) (written : K → Option (List ℕ)) (room : K → Option ℕ)
     (sink_faults : K → ℕ) (form : Form) (f : Shape) (s0 : StoredFrames S) (t0 : RowWriter K) where
