@@ -1,9 +1,7 @@
 -- What cutting comes to: a refused file, or the frames that are asked for; and what a failed device leaves of these.
-use Rattle.std.proofs.Common.{◌≡◌, inl, inr, ℕ, ◌+◌, ◌-◌, ◌≤◌, List, [], ◌∷◌, ◌++◌, length, Option, Some, None, Result, Ok, Err, refl, ap, sym, subst}
+use Rattle.std.proofs.Common.{◌≡◌, inl, inr, ℕ, ◌+◌, ◌-◌, ◌≤◌, List, [], ◌∷◌, length, Option, Some, None, refl, ap, sym, subst}
 use Rattle.std.proofs.Common.{◌∙◌, arith, length-append}
-use Rattle.std.specs.Prelude.{IfOk}
-use Rattle.dst_streams.specs.Told.{and_then, IsCutShort}
-use Rattle.dsdiff_spec.specs.Form.{Form}
+use Rattle.dst_streams.specs.Told.{IsCutShort}
 use Rattle.dsdiff_spec.specs.Lines.{cut_line}
 use Rattle.dsdiff_spec.specs.Outcome.{Answer, OfCommand, done, file_refused}
 use Rattle.dsdiff_spec.specs.Refusal.{refusal, form_refusal}
@@ -13,11 +11,12 @@ use Rattle.dsdiff_spec.specs.Cut as cutting
 use Rattle.dsdiff_spec.specs.declared.faults.FileFault.{FileFault}
 use Rattle.dst_commands.specs.Commands.{OutcomeOf}
 use Rattle.dst_commands.specs.Writing.{Stops, Lacks}
-use Rattle.dst_commands.proofs.Writing.{stops_at_once}
+use Rattle.dst_commands.proofs.Writing.{stops_at_once, stops_for}
 use Rattle.dsdiff_spec.specs.Walk.{entries}
 use Rattle.dsdiff_chunks.specs.Forms.{coded_seen}
 use Rattle.dsdiff_chunks.specs.declared.copy.CopyFault.{CopyFault}
 use Rattle.dst_cut.specs.CutLayout.{whole}
+use Rattle.dst_cut.specs.declared.cut.CutFault.{CutFault}
 use Rattle.dst_cut.specs.declared.cut.CutFault.TheVariants.{Write}
 use Rattle.dst_cut.specs.declared.cut_form.CutForm.{CutForm}
 use Rattle.dst_cut.specs.Cutting.{IsCutForm, cut_bytes, of_device}
@@ -90,9 +89,15 @@ cut_nothing file first last told =
     (one.0, one.1, (stops_at_once ⊥ one.0.out told None (λ p. p)).cut)
 
 -- ---- what is written part by part
-pub of_write : (fault : CopyFault) → of_device fault ≡ Write → fault ≡ CopyFault.Write
+of_write : (fault : CopyFault) → of_device fault ≡ Write → fault ≡ CopyFault.Write
 of_write CopyFault.Read e = absurd cc
 of_write CopyFault.Write e = refl
+
+-- what is answered where a device fails tells whether it was the sink
+pub stops_by_device : (fault : CopyFault) (answer : CutFault) (piece : List ℕ) {old new : Option (List ℕ)} {room : Option ℕ} →
+    answer ≡ of_device fault → Stops (fault ≡ CopyFault.Write) piece old new room → Stops (answer ≡ Write) piece old new room
+stops_by_device fault answer piece {old} {new} {room} is h =
+    stops_for (fault ≡ CopyFault.Write) (answer ≡ Write) piece old new room (λ e. of_write fault (sym is ∙ e)) h
 
 pub parts_are : (file : List ℕ) (c : CutForm) → entries file (coded_seen c.form) ≡ c.index → c.form.end ≤ length file →
     whole c.index file (coded_seen c.form) c.first c.last ≡ cut_bytes file c

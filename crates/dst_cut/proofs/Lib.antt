@@ -4,3 +4,5 @@ mod CutOutcome
 mod CutCopied
 mod CutRules
 mod CutIndex
+mod CutStages
+mod CutAround
