@@ -1,4 +1,4 @@
--- A report line by line: each line is appended whole, by one call. So what counts as appended is always a number of whole lines.
+-- A report line by line: none is appended in parts, so what counts as appended is always a number of whole lines.
 use Rattle.std.specs.Prelude.{◌≡◌, ℕ, ◌+◌, ◌<◌, List, [], ◌∷◌, ◌++◌, length, map, take, Result, Ok, Err}
 use Rattle.dst_streams.specs.declared.source.Failed.{Failed}
 use Rattle.dsdiff_spec.specs.Lines.{Line, report}

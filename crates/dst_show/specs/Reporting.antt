@@ -22,7 +22,7 @@ use Rattle.dst_commands.specs.Commands.{OutcomeOf}
 use Rattle.dst_commands.specs.Writing.{Stops}
 use Rattle.dst_show.specs.LineByLine.{AddsLines, StopsAtALine}
 
--- the lines of the command are reported whole, or a prefix of them, or it refuses the file or a frame; each line is appended by one call
+-- the lines of the command are reported whole, or a prefix of them, or it refuses the file or a frame; no line is appended in parts
 abbrev pub ReportEnds : Result Reported ShowFault → Command → List ℕ → (old new : Option (List ℕ)) → Option ℕ → (before now : ℕ) → Type 0
 ReportEnds (Ok s) c file old new room before now =
     (s.frames ≡ (accepted file).frames) × (lines : List Line) × OutcomeOf c file (done [] lines) × (new ≡ and_then old (report lines))

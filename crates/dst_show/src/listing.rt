@@ -43,7 +43,7 @@ pub fn index_file<S: Source, T: Sink>(
         (lines : List reports.Line) × OutcomeOf words.index file (done [] lines) × IsCutShort (T.written report.old) (reports.report lines) (T.written report.new) }
     ensures sure { result ≡ Err ListFault.Report → (file : List ℕ) → S.bytes source.old ≡ Some file → (o : Answer) → OutcomeOf words.index file o →
         (room : ℕ) → T.room report.old ≡ Some room → length (reports.report o.lines) ≤ room → ⊥ }
-    // each line is appended whole, by one call
+    // no line is appended in parts: what counts as appended is a number of whole lines
     ensures added { IfOk result (λ s. (file : List ℕ) → S.bytes source.old ≡ Some file → (o : Answer) → OutcomeOf words.index file o →
         AddsLines o.lines (T.appended report.old) (T.appended report.new)) }
     ensures stopped { result ≡ Err ListFault.Report → (file : List ℕ) → S.bytes source.old ≡ Some file → (o : Answer) → OutcomeOf words.index file o →

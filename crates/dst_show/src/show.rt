@@ -52,7 +52,7 @@ pub fn show_file<S: Source, T: Sink>(
         (lines : List reports.Line) × OutcomeOf (shown frame) file (done [] lines) × IsCutShort (T.written report.old) (reports.report lines) (T.written report.new) }
     ensures sure { result ≡ Err ShowFault.Report → (file : List ℕ) → S.bytes source.old ≡ Some file → (o : Answer) → OutcomeOf (shown frame) file o →
         (room : ℕ) → T.room report.old ≡ Some room → length (reports.report o.lines) ≤ room → ⊥ }
-    // each line is appended whole, by one call
+    // no line is appended in parts: what counts as appended is a number of whole lines
     ensures added { IfOk result (λ s. (file : List ℕ) → S.bytes source.old ≡ Some file → (o : Answer) → OutcomeOf (shown frame) file o →
         AddsLines o.lines (T.appended report.old) (T.appended report.new)) }
     ensures stopped { result ≡ Err ShowFault.Report → (file : List ℕ) → S.bytes source.old ≡ Some file → (o : Answer) → OutcomeOf (shown frame) file o →

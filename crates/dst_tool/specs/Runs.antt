@@ -66,7 +66,7 @@ pub record IsCaused (status source_before source_now sink_before sink_now : ℕ)
   pub read : status ≡ 2 → Rose source_before source_now
   pub write : status ≡ 3 → Rose sink_before sink_now
 
--- The lines are reported, each appended whole by one call; or the report failed at one of them, and the status is 7. So many bytes were
+-- The lines are reported, none of them in parts; or the report failed at one of them, and the status is 7. So many bytes were
 -- appended by calls that succeeded, before and now.
 abbrev pub Reports : ℕ → List Line → ℕ → Option (List ℕ) → Option (List ℕ) → (before now : ℕ) → Type 0
 Reports status lines result old new before now =

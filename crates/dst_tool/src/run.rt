@@ -43,7 +43,7 @@ pub fn dst_run<E: Threads + Sync, S: Source, K: Sink, R: Sink>(
         DidNotRise (S.faults source.old) (S.faults source.new) → DidNotRise (K.faults sink.old) (K.faults sink.new) → DidNotRise (R.faults report.old) (R.faults report.new) →
         (result ≡ 0) ⊎ (result ≡ 4) }
     // What sink and report hold behind each status; 7 comes where the lines of another one failed, and a fault of source or
-    // sink behind it has its cause too. Each line is added whole, by one call: what calls that succeeded appended is all of the
+    // sink behind it has its cause too. No line is added in parts: what calls that succeeded appended is all of the
     // lines, or behind 7 the first few of them whole.
     ensures ends { (file : List ℕ) → S.bytes source.old ≡ Some file →
         (status : ℕ) × (lines : List reports.Line) × Ends (map string_bytes words.now) file status lines (K.written sink.old) (K.written sink.new)
