@@ -8,3 +8,4 @@ pub mod BySize
 pub mod Sized
 pub mod Ending
 pub mod Parts
+pub mod EndParts
