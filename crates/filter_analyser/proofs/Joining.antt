@@ -1,5 +1,6 @@
 -- Tables of refined filters: of channels with one filter, and of channels with a filter each.
-use Rattle.std.proofs.Common.{◌≡◌, ℕ, zero, suc, ◌+◌, ◌-◌, ◌<◌, ◌==◌, ℤ, true, List, [], ◌∷◌, ◌++◌, length, map, get_or, replicate, refl, ap, sym, ◌∙◌, arith}
+use Rattle.std.proofs.Common.{◌≡◌, ℕ, zero, suc, ◌+◌, ◌-◌, ◌<◌, ◌≤◌, ◌==◌, ℤ, true, List, [], ◌∷◌, ◌++◌, length, map, get_or, replicate}
+use Rattle.std.proofs.Common.{refl, ap, sym, ◌∙◌, arith}
 use Rattle.std.proofs.lemmas.List.FromFn.{length-map-range_with_len, get_or-map-range_with_len}
 use Rattle.std.specs.List.{count_by, range_with_len}
 use Rattle.dst_spec.specs.Sample.{Shape, samples}
@@ -10,6 +11,7 @@ use Rattle.level_spec.specs.Refining.{short_table}
 use Rattle.level_spec.specs.Picks.{channels_of, refined_together, refined_alone, refined_shared, refined_own, sum_of, one_table, refined_own_with_one_table}
 use Rattle.frame_predictions.specs.Codes.{code_at}
 use Rattle.filter_analyser.proofs.Counting.{counted-is, total-codes, wrong-codes, table_of-same}
+use Rattle.filter_analyser.proofs.Picking.{first_numbers, zero_numbers, numbers_of, zeros_of}
 
 -- one in its list
 pub alone : {A : Type 0} (xs ys : List A) (x : A) → ys ≡ xs ++ x ∷ [] → xs ≡ [] → ys ≡ x ∷ []
@@ -20,6 +22,13 @@ pub short-is : (f : Shape) (sound channels : List ℕ) (coefs : List ℤ) (count
     → shortened (table_of (λ p. get_or counts p 0 + get_or counts (p + 64) 0) (λ p. get_or counts (p + 64) 0)) ≡ short_table f sound channels coefs
 unfolding short_table
 short-is f sound channels coefs counts h = ap shortened (counted-is f sound channels coefs counts h)
+
+-- of n channels, which are all
+pub short-of_all : (f : Shape) (sound : List ℕ) (n : ℕ) (coefs : List ℤ) (counts : List ℕ) → n ≡ f.channels
+    → ((q : ℕ) → q < 128 → get_or counts q 0 ≡ count_from (length coefs) f (λ c t. code_at f sound c coefs t == q) (range_with_len 0 n))
+    → shortened (table_of (λ p. get_or counts p 0 + get_or counts (p + 64) 0) (λ p. get_or counts (p + 64) 0)) ≡ short_table f sound (channels_of f) coefs
+short-of_all f sound n coefs counts all h =
+    short-is f sound (range_with_len 0 n) coefs counts h ∙ ap (λ n. short_table f sound (range_with_len 0 n) coefs) all
 
 -- how often a code comes in a channel with its filter
 abbrev pub codes_of : Shape → List ℕ → (ℕ → List ℤ) → ℕ → ℕ → ℕ
@@ -85,31 +94,37 @@ pub each-at : (f : Shape) (sound : List ℕ) (filters : List (List ℤ)) (c : �
 each-at f sound filters c d e h =
     ap (λ xs. get_or xs c d) e ∙ get_or-map-range_with_len (refined_alone f sound) 0 f.channels c c d h (omega arith)
 
-pub refined_shared-is : (f : Shape) (sound : List ℕ) (elements : List ℕ) (filter : List ℤ) (probs : List ℕ) → elements ≡ replicate f.channels 0 →
-    filter ≡ (refined_together f sound).best → probs ≡ short_table f sound (channels_of f) filter →
-    params_of elements elements (replicate f.channels true) (filter ∷ []) (probs ∷ []) ≡ refined_shared f sound
+pub refined_shared-is : (f : Shape) (sound : List ℕ) (filter : List ℤ) (table : List ℕ) (filters : List (List ℤ)) (probs : List (List ℕ)) →
+    f.channels ≤ 6 → filters ≡ filter ∷ [] → probs ≡ table ∷ [] → filter ≡ (refined_together f sound).best →
+    table ≡ short_table f sound (channels_of f) filter →
+    params_of (zeros_of f) (zeros_of f) (replicate f.channels true) filters probs ≡ refined_shared f sound
 unfolding refined_shared
-refined_shared-is f sound elements filter probs e p q =
-    ap (λ m. params_of m m (replicate f.channels true) (filter ∷ []) (probs ∷ [])) e
-    ∙ ap (λ x. params_of (replicate f.channels 0) (replicate f.channels 0) (replicate f.channels true) (filter ∷ []) (x ∷ [])) q
-    ∙ ap (λ x. params_of (replicate f.channels 0) (replicate f.channels 0) (replicate f.channels true) (x ∷ []) (short_table f sound (channels_of f) x ∷ [])) p
+refined_shared-is f sound filter table filters probs few one only p q =
+    let F = (refined_together f sound).best in
+    ap (λ m. params_of m m (replicate f.channels true) filters probs) (zero_numbers f.channels few)
+    ∙ ap (λ x. params_of (replicate f.channels 0) (replicate f.channels 0) (replicate f.channels true) x probs) (one ∙ ap (λ x. x ∷ []) p)
+    ∙ ap (params_of (replicate f.channels 0) (replicate f.channels 0) (replicate f.channels true) (F ∷ []))
+    (only ∙ ap (λ x. x ∷ []) (q ∙ ap (short_table f sound (channels_of f)) p))
 
-pub refined_own-is : (f : Shape) (sound : List ℕ) (elements : List ℕ) (filters : List (List ℤ)) (probs : List (List ℕ)) → elements ≡ channels_of f →
+pub refined_own-is : (f : Shape) (sound : List ℕ) (n : ℕ) (filters : List (List ℤ)) (probs : List (List ℕ)) → f.channels ≤ 6 → n ≡ f.channels →
     filters ≡ map (refined_alone f sound) (channels_of f) →
-    probs ≡ map (λ c. short_table f sound (c ∷ []) (refined_alone f sound c)) (channels_of f) →
-    params_of elements elements (replicate f.channels true) filters probs ≡ refined_own f sound
+    probs ≡ map (λ c. short_table f sound (c ∷ []) (refined_alone f sound c)) (range_with_len 0 n) →
+    params_of (numbers_of f) (numbers_of f) (replicate f.channels true) filters probs ≡ refined_own f sound
 unfolding refined_own
-refined_own-is f sound elements filters probs e p q =
-    ap (λ m. params_of m m (replicate f.channels true) filters probs) e
+refined_own-is f sound n filters probs few all p q =
+    let G : ℕ → List ℕ = λ c. short_table f sound (c ∷ []) (refined_alone f sound c) in
+    ap (λ m. params_of m m (replicate f.channels true) filters probs) (first_numbers f.channels few)
     ∙ ap (λ x. params_of (channels_of f) (channels_of f) (replicate f.channels true) x probs) p
-    ∙ ap (params_of (channels_of f) (channels_of f) (replicate f.channels true) (map (refined_alone f sound) (channels_of f))) q
+    ∙ ap (params_of (channels_of f) (channels_of f) (replicate f.channels true) (map (refined_alone f sound) (channels_of f)))
+    (q ∙ ap (λ n. map G (range_with_len 0 n)) all)
 
-pub refined_joint-is : (f : Shape) (sound : List ℕ) (elements zeros : List ℕ) (filters : List (List ℤ)) (probs : List ℕ) → elements ≡ channels_of f →
-    zeros ≡ replicate f.channels 0 → filters ≡ map (refined_alone f sound) (channels_of f) → probs ≡ one_table f sound (refined_alone f sound) →
-    params_of elements zeros (replicate f.channels true) filters (probs ∷ []) ≡ refined_own_with_one_table f sound
+pub refined_joint-is : (f : Shape) (sound : List ℕ) (filters : List (List ℤ)) (table : List ℕ) (probs : List (List ℕ)) → f.channels ≤ 6 →
+    filters ≡ map (refined_alone f sound) (channels_of f) → probs ≡ table ∷ [] → table ≡ one_table f sound (refined_alone f sound) →
+    params_of (numbers_of f) (zeros_of f) (replicate f.channels true) filters probs ≡ refined_own_with_one_table f sound
 unfolding refined_own_with_one_table
-refined_joint-is f sound elements zeros filters probs e z p q =
-    ap (λ m. params_of m zeros (replicate f.channels true) filters (probs ∷ [])) e
-    ∙ ap (λ m. params_of (channels_of f) m (replicate f.channels true) filters (probs ∷ [])) z
-    ∙ ap (λ x. params_of (channels_of f) (replicate f.channels 0) (replicate f.channels true) x (probs ∷ [])) p
-    ∙ ap (λ x. params_of (channels_of f) (replicate f.channels 0) (replicate f.channels true) (map (refined_alone f sound) (channels_of f)) (x ∷ [])) q
+refined_joint-is f sound filters table probs few p only q =
+    ap (λ m. params_of m (zeros_of f) (replicate f.channels true) filters probs) (first_numbers f.channels few)
+    ∙ ap (λ m. params_of (channels_of f) m (replicate f.channels true) filters probs) (zero_numbers f.channels few)
+    ∙ ap (λ x. params_of (channels_of f) (replicate f.channels 0) (replicate f.channels true) x probs) p
+    ∙ ap (params_of (channels_of f) (replicate f.channels 0) (replicate f.channels true) (map (refined_alone f sound) (channels_of f)))
+    (only ∙ ap (λ x. x ∷ []) q)

@@ -67,22 +67,35 @@ zero_numbers (suc (suc (suc (suc (suc zero))))) h = refl
 zero_numbers (suc (suc (suc (suc (suc (suc zero)))))) h = refl
 zero_numbers (suc (suc (suc (suc (suc (suc (suc n))))))) h = absurd (omega arith)
 
-pub per_channel-is : (f : Shape) (sound : List ℕ) (order : ℕ) (elements : List ℕ) (filters : List (List ℤ)) (probs : List (List ℕ)) → elements ≡ channels_of f →
-    filters ≡ map (λ c. filter_for f sound order (c ∷ [])) (channels_of f) →
-    probs ≡ map (λ c. counted f sound (c ∷ []) (filter_for f sound order (c ∷ []))) (channels_of f) →
-    params_of elements elements (replicate f.channels true) filters probs ≡ per_channel f sound order
-unfolding per_channel
-per_channel-is f sound order elements filters probs e p q =
-    ap (λ m. params_of m m (replicate f.channels true) filters probs) e
-    ∙ ap (λ x. params_of (channels_of f) (channels_of f) (replicate f.channels true) x probs) p
-    ∙ ap (params_of (channels_of f) (channels_of f) (replicate f.channels true) (map (λ c. filter_for f sound order (c ∷ [])) (channels_of f))) q
+-- the numbers of a map as they are taken from six ones
+abbrev pub numbers_of : Shape → List ℕ
+numbers_of f = take {A = ℕ} f.channels (0 ∷ 1 ∷ 2 ∷ 3 ∷ 4 ∷ 5 ∷ [])
 
-pub shared-is : (f : Shape) (sound : List ℕ) (order : ℕ) (elements : List ℕ) (filter : List ℤ) (probs : List ℕ) → elements ≡ replicate f.channels 0 →
-    filter ≡ filter_for f sound order (channels_of f) → probs ≡ counted f sound (channels_of f) (filter_for f sound order (channels_of f)) →
-    params_of elements elements (replicate f.channels true) (filter ∷ []) (probs ∷ []) ≡ shared f sound order
+abbrev pub zeros_of : Shape → List ℕ
+zeros_of f = take {A = ℕ} f.channels (0 ∷ 0 ∷ 0 ∷ 0 ∷ 0 ∷ 0 ∷ [])
+
+-- parameters with a filter and a table of each of the n channels
+pub per_channel-is : (f : Shape) (sound : List ℕ) (order n : ℕ) (filters : List (List ℤ)) (probs : List (List ℕ)) → f.channels ≤ 6 → n ≡ f.channels →
+    filters ≡ map (λ c. filter_for f sound order (c ∷ [])) (range_with_len 0 n) →
+    probs ≡ map (λ c. counted f sound (c ∷ []) (filter_for f sound order (c ∷ []))) (range_with_len 0 n) →
+    params_of (numbers_of f) (numbers_of f) (replicate f.channels true) filters probs ≡ per_channel f sound order
+unfolding per_channel
+per_channel-is f sound order n filters probs few all p q =
+    let F : ℕ → List ℤ = λ c. filter_for f sound order (c ∷ []) in
+    let G : ℕ → List ℕ = λ c. counted f sound (c ∷ []) (F c) in
+    ap (λ m. params_of m m (replicate f.channels true) filters probs) (first_numbers f.channels few)
+    ∙ ap (λ x. params_of (channels_of f) (channels_of f) (replicate f.channels true) x probs) (p ∙ ap (λ n. map F (range_with_len 0 n)) all)
+    ∙ ap (params_of (channels_of f) (channels_of f) (replicate f.channels true) (map F (channels_of f))) (q ∙ ap (λ n. map G (range_with_len 0 n)) all)
+
+-- parameters with one filter and one table
+pub shared-is : (f : Shape) (sound : List ℕ) (order : ℕ) (filter : List ℤ) (table : List ℕ) (filters : List (List ℤ)) (probs : List (List ℕ)) →
+    f.channels ≤ 6 → filters ≡ filter ∷ [] → probs ≡ table ∷ [] → filter ≡ filter_for f sound order (channels_of f) →
+    table ≡ counted f sound (channels_of f) filter →
+    params_of (zeros_of f) (zeros_of f) (replicate f.channels true) filters probs ≡ shared f sound order
 unfolding shared
-shared-is f sound order elements filter probs e p q =
-    ap (λ m. params_of m m (replicate f.channels true) (filter ∷ []) (probs ∷ [])) e
-    ∙ ap (λ x. params_of (replicate f.channels 0) (replicate f.channels 0) (replicate f.channels true) (x ∷ []) (probs ∷ [])) p
-    ∙ ap (λ x. params_of (replicate f.channels 0) (replicate f.channels 0) (replicate f.channels true) (filter_for f sound order (channels_of f) ∷ [])
-    (x ∷ [])) q
+shared-is f sound order filter table filters probs few one only p q =
+    let F = filter_for f sound order (channels_of f) in
+    ap (λ m. params_of m m (replicate f.channels true) filters probs) (zero_numbers f.channels few)
+    ∙ ap (λ x. params_of (replicate f.channels 0) (replicate f.channels 0) (replicate f.channels true) x probs) (one ∙ ap (λ x. x ∷ []) p)
+    ∙ ap (params_of (replicate f.channels 0) (replicate f.channels 0) (replicate f.channels true) (F ∷ []))
+    (only ∙ ap (λ x. x ∷ []) (q ∙ ap (counted f sound (channels_of f)) p))

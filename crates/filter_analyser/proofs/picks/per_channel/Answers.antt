@@ -1,4 +1,4 @@
-use Rattle.std.proofs.Common.{◌≡◌, ℕ, ◌+◌, ◌^◌, ◌<◌, ◌≤◌, List, ℤ, pos, nat_abs, [], ◌∷◌, ◌++◌, map, get_or, take, ap, sym, ◌∙◌, subst, arith}
+use Rattle.std.proofs.Common.{◌≡◌, ℕ, ◌+◌, ◌^◌, ◌<◌, ◌≤◌, List, ℤ, pos, nat_abs, [], ◌∷◌, ◌++◌, map, get_or, ap, sym, ◌∙◌, subst, arith}
 use Rattle.std.specs.List.{range_with_len}
 use Rattle.std.proofs.lemmas.List.FromFn.{map-range_with_len_more}
 use Rattle.dst_spec.specs.Header.{IsParams}
@@ -7,7 +7,7 @@ use Rattle.level_spec.specs.Counts.{counted}
 use Rattle.level_spec.specs.Picks.{filter_for}
 use Rattle.level_spec.proofs.Sizes.{are_correlations}
 use Rattle.level_spec.proofs.Lawful.{IsParams-per_channel}
-use Rattle.filter_analyser.proofs.Picking.{solution-small, filter-is, first_numbers, per_channel-is}
+use Rattle.filter_analyser.proofs.Picking.{solution-small, filter-is, per_channel-is}
 use Rattle.filter_analyser.proofs.picks.per_channel.Goals as goal
 
 pub quantise-filter-requires-clause-values : goal.quantise-filter-requires-clause-values
@@ -51,24 +51,14 @@ pub parameters-requires : goal.parameters-requires
 parameters-requires c =
     let f = c.args.channels in
     let sound = c.args.predictions.now.sound in
-    let all : c.loop-c.c ≡ f.channels = omega (arith, c.count-count.ensures.count) in
-    let order = c.args.order in
-    let F : ℕ → List ℤ = λ c. filter_for f sound order (c ∷ []) in
-    let is = per_channel-is f sound c.args.order (take {A = ℕ} f.channels (0 ∷ 1 ∷ 2 ∷ 3 ∷ 4 ∷ 5 ∷ [])) c.loop-c.filters.items c.loop-c.probs.items
-    (first_numbers f.channels c.count-count.ensures.shape.most)
-    (c.loop-c.invariant.filters ∙ ap (λ n. map F (range_with_len 0 n)) all) (c.loop-c.invariant.probs
-    ∙ ap (λ n. map (λ c. counted f sound (c ∷ []) (F c)) (range_with_len 0 n)) all) in
+    let is = per_channel-is f sound c.args.order c.loop-c.c c.loop-c.filters.items c.loop-c.probs.items c.count-count.ensures.shape.most
+    (omega (arith, c.count-count.ensures.count)) c.loop-c.invariant.filters c.loop-c.invariant.probs in
     record { lawful = subst (IsParams f.channels) (sym is) (IsParams-per_channel f sound c.args.order c.requires.least c.requires.most) }
 
 pub returns-clause-params : goal.returns-clause-params
 returns-clause-params c =
     let f = c.args.channels in
     let sound = c.args.predictions.now.sound in
-    let all : c.loop-c.c ≡ f.channels = omega (arith, c.count-count.ensures.count) in
-    let order = c.args.order in
-    let F : ℕ → List ℤ = λ c. filter_for f sound order (c ∷ []) in
-    let is = per_channel-is f sound c.args.order (take {A = ℕ} f.channels (0 ∷ 1 ∷ 2 ∷ 3 ∷ 4 ∷ 5 ∷ [])) c.loop-c.filters.items c.loop-c.probs.items
-    (first_numbers f.channels c.count-count.ensures.shape.most)
-    (c.loop-c.invariant.filters ∙ ap (λ n. map F (range_with_len 0 n)) all) (c.loop-c.invariant.probs
-    ∙ ap (λ n. map (λ c. counted f sound (c ∷ []) (F c)) (range_with_len 0 n)) all) in
-    c.parameters.ensures ∙ is
+    c.parameters.ensures
+    ∙ per_channel-is f sound c.args.order c.loop-c.c c.loop-c.filters.items c.loop-c.probs.items c.count-count.ensures.shape.most
+    (omega (arith, c.count-count.ensures.count)) c.loop-c.invariant.filters c.loop-c.invariant.probs

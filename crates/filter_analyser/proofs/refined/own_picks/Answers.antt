@@ -1,4 +1,4 @@
-use Rattle.std.proofs.Common.{◌≡◌, ℕ, ◌+◌, ◌<◌, ◌==◌, List, ℤ, [], ◌∷◌, ◌++◌, length, map, take, ap, sym, ◌∙◌, subst, arith}
+use Rattle.std.proofs.Common.{◌≡◌, ℕ, ◌+◌, ◌<◌, ◌==◌, List, ℤ, [], ◌∷◌, ◌++◌, length, map, ap, sym, ◌∙◌, subst, arith}
 use Rattle.std.proofs.lemmas.List.FromFn.{length-map-range_with_len, map-range_with_len_more}
 use Rattle.std.specs.List.{range_with_len}
 use Rattle.dst_spec.specs.Header.{IsParams}
@@ -7,7 +7,6 @@ use Rattle.level_spec.specs.Refining.{short_table}
 use Rattle.level_spec.specs.Picks.{refined_alone}
 use Rattle.level_spec.proofs.RefinedPicks.{IsParams-refined_own}
 use Rattle.frame_predictions.specs.Codes.{code_at}
-use Rattle.filter_analyser.proofs.Picking.{first_numbers}
 use Rattle.filter_analyser.proofs.Joining.{short-is, refined_own-is, each-long, each-at}
 use Rattle.filter_analyser.proofs.refined.own_picks.Goals as goal
 
@@ -55,20 +54,14 @@ pub parameters-requires : goal.parameters-requires
 parameters-requires c =
     let f = c.args.channels in
     let sound = c.args.predictions.now.sound in
-    let all : c.loop-c.c ≡ f.channels = omega (arith, c.count-c-end.ensures.count) in
-    let G : ℕ → List ℕ = λ k. short_table f sound (k ∷ []) (refined_alone f sound k) in
-    let is = refined_own-is f sound (take {A = ℕ} f.channels (0 ∷ 1 ∷ 2 ∷ 3 ∷ 4 ∷ 5 ∷ [])) c.copies.result.items c.loop-c.probs.items
-    (first_numbers f.channels c.count-c-end.ensures.shape.most) (c.copies.ensures ∙ c.requires.own) (c.loop-c.invariant.probs
-    ∙ ap (λ n. map G (range_with_len 0 n)) all) in
+    let is = refined_own-is f sound c.loop-c.c c.copies.result.items c.loop-c.probs.items c.count-c-end.ensures.shape.most
+    (omega (arith, c.count-c-end.ensures.count)) (c.copies.ensures ∙ c.requires.own) c.loop-c.invariant.probs in
     record { lawful = subst (IsParams f.channels) (sym is) (IsParams-refined_own f sound) }
 
 pub returns-clause-params : goal.returns-clause-params
 returns-clause-params c =
     let f = c.args.channels in
     let sound = c.args.predictions.now.sound in
-    let all : c.loop-c.c ≡ f.channels = omega (arith, c.count-c-end.ensures.count) in
-    let G : ℕ → List ℕ = λ k. short_table f sound (k ∷ []) (refined_alone f sound k) in
     c.parameters.ensures
-    ∙ refined_own-is f sound (take {A = ℕ} f.channels (0 ∷ 1 ∷ 2 ∷ 3 ∷ 4 ∷ 5 ∷ [])) c.copies.result.items c.loop-c.probs.items
-    (first_numbers f.channels c.count-c-end.ensures.shape.most) (c.copies.ensures ∙ c.requires.own) (c.loop-c.invariant.probs
-    ∙ ap (λ n. map G (range_with_len 0 n)) all)
+    ∙ refined_own-is f sound c.loop-c.c c.copies.result.items c.loop-c.probs.items c.count-c-end.ensures.shape.most
+    (omega (arith, c.count-c-end.ensures.count)) (c.copies.ensures ∙ c.requires.own) c.loop-c.invariant.probs
