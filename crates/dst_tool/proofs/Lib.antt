@@ -1,10 +1,12 @@
 pub mod Statuses
 pub mod OtherCommands
+pub mod DoneNumbers
 pub mod OneLine
+pub mod FileRuns
 pub mod OwnLines
 pub mod Runs
 pub mod Inverting
 pub mod Coding
-pub mod DsfCoding
 pub mod MadeRuns
 pub mod MadeOutcomes
+pub mod MakingRuns

@@ -1,5 +1,5 @@
 -- What making answers is its outcome, whatever file the words stand beside.
-use Rattle.std.proofs.Common.{◌≡◌, ◌⊎◌, inl, inr, ℕ, ◌*◌, List, [], ◌∷◌, Option, Result, Ok, Err, IfOk, refl, ap, sym, subst, ◌∙◌}
+use Rattle.std.proofs.Common.{◌≡◌, inr, ℕ, ◌*◌, List, [], ◌∷◌, Option, Result, Ok, Err, IfOk, refl, ap, sym, subst, ◌∙◌}
 use Rattle.dst_spec.specs.Sample.{Shape, IsShape, sound_bytes}
 use Rattle.dst_streams.specs.Told.{and_then}
 use Rattle.dsdiff_spec.specs.Form.{shape_of}
@@ -44,11 +44,6 @@ made_whole (Ok m) start frames f file old new w n = (
   subst (λ k. OutcomeOf (asks_make start frames f) file (done (made_file start frames f) (made_line k ∷ []))) (sym n) (made_outcome start frames f file),
   w,
 )
-
--- where the source can't fail, the sink did
-pub sink_failed : {A B C : Type 0} → (A → ⊥) → (B → C) → A ⊎ B → C
-sink_failed none f (inl a) = absurd (none a)
-sink_failed none f (inr b) = f b
 
 -- ---- a run in memory
 run_outcome : (start frames : ℕ) (f : Shape) (file : List ℕ) (line : Line) → run_line frames (made_file start frames f) ≡ line →

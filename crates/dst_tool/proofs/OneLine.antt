@@ -12,7 +12,7 @@ use Rattle.dsdiff_spec.specs.Form.{sound_bytes_of}
 use Rattle.dsdiff_spec.specs.Rules.{accepted}
 use Rattle.dsdiff_spec.specs.Words.{Command, encode, decode, cut, frame, check, show, show_frame, index, make, make_run, encode_dsf, decode_dsf, range}
 use Rattle.dsdiff_spec.specs.Refusal.{refusal}
-use Rattle.dsdiff_spec.specs.Lines.{Line, report, memory_line}
+use Rattle.dsdiff_spec.specs.Lines.{Line, report}
 use Rattle.dsdiff_spec.specs.Outcome.{Answer, done, file_refused, frame_refused, OfCommand}
 use Rattle.dsdiff_spec.proofs.Stopping.{One}
 use Rattle.dsdiff_spec.proofs.OneAnswer.{HasOutcome, command_has_one_outcome}
@@ -29,13 +29,28 @@ use Rattle.dst_tool.proofs.Statuses.{status_is_done, status_is_read, status_is_w
 use Rattle.dst_tool.proofs.Statuses.{status_is_not_words, status_is_below}
 use Rattle.dst_commands.proofs.Writing.{and_then-nothing}
 
+-- what holds of what is told
+abbrev pub OfTold : Option (List ℕ) → (List ℕ → Type 0) → Type 0
+OfTold bytes P = (file : List ℕ) → bytes ≡ Some file → P file
+
+-- a command that is done has added its whole output
+abbrev pub IsWhole : Command → Numbers → List ℕ → Option (List ℕ) → Option (List ℕ) → Type 0
+IsWhole c s file old new = (out : List ℕ) × OutcomeOf c file (done out (done_line c s ∷ [])) × WholeOf (Some c) out old new
+
+-- where a device failed, part of it is there
+abbrev pub IsPartly : Command → List ℕ → Option (List ℕ) → Option (List ℕ) → Type 0
+IsPartly c file old new = (o : Answer) × OutcomeOf c file o × PartOf (Some c) file o.out old new
+
+-- a frame is refused behind what is added
+abbrev pub IsRefusedBehind : Command → List ℕ → ℕ → FrameFault → Option (List ℕ) → Option (List ℕ) → Type 0
+IsRefusedBehind c file k fault old new = (out : List ℕ) × OutcomeOf c file (frame_refused k fault out) × (new ≡ and_then old out)
+
 pub record IsAnswer (c : Command) (r : Result Numbers Fault) (file : List ℕ) (old new : Option (List ℕ)) : Type 0 where
-  pub finished : IfOk r (λ s. (out : List ℕ) × OutcomeOf c file (done out (done_line c s ∷ [])) × WholeOf (Some c) out old new)
+  pub finished : IfOk r (λ s. IsWhole c s file old new)
   pub file_is : (fault : FileFault) → r ≡ Err (File fault) → refusal c file ≡ Some fault
   pub untouched : (fault : FileFault) → r ≡ Err (File fault) → new ≡ old
-  pub frame_is : (k : ℕ) (fault : FrameFault) → r ≡ Err (Frame k fault) → (out : List ℕ) × OutcomeOf c file (frame_refused k fault out)
-      × (new ≡ and_then old out)
-  pub cut_short : (r ≡ Err Read) ⊎ (r ≡ Err Write) → (o : Answer) × OutcomeOf c file o × PartOf (Some c) file o.out old new
+  pub frame_is : (k : ℕ) (fault : FrameFault) → r ≡ Err (Frame k fault) → IsRefusedBehind c file k fault old new
+  pub cut_short : (r ≡ Err Read) ⊎ (r ≡ Err Write) → IsPartly c file old new
   pub memory : (refused : AllocError) → r ≡ Err (Memory refused) → new ≡ old
   pub no_report : r ≡ Err Report → ⊥
 
@@ -141,6 +156,26 @@ pub record TellsLine (status : ℕ) (line : Line) (result : ℕ) (counts : Count
   pub later : counts.before ≤ counts.now
   pub sure : result ≡ 7 → (n : ℕ) → told.room ≡ Some n → length (report (line ∷ [])) ≤ n → ⊥
 
+-- what reporting the line of a command leaves, the command named by either of two that are the same
+pub tells_line : {c : Command} {result : ℕ} {counts : Counts} {told : Told} (q : Command) (r : Result Numbers Fault) → q ≡ c →
+    (result ≡ status_of r) ⊎ (result ≡ 7) → (result ≡ status_of r → told.new ≡ and_then told.old (report (line_of q r ∷ []))) →
+    (result ≡ 7 → IsCutShort told.old (report (line_of q r ∷ [])) told.new) → (result ≡ status_of r → AddsLines (line_of q r ∷ []) told.before told.now) →
+    (result ≡ 7 → told.now ≡ told.before) → (result ≡ 7 → Rose counts.before counts.now) → counts.before ≤ counts.now →
+    (result ≡ 7 → (n : ℕ) → told.room ≡ Some n → length (report (line_of q r ∷ [])) ≤ n → ⊥) →
+    TellsLine (status_of r) (line_of c r) result counts told
+tells_line {c} {result} {counts} {told} q r e reported whole cut_short added stopped cause later sure =
+    subst (λ x. TellsLine (status_of r) (line_of x r) result counts told) e
+    (record {
+      reported = reported;
+      whole = whole;
+      cut_short = cut_short;
+      added = added;
+      stopped = stopped;
+      cause = cause;
+      later = later;
+      sure = sure;
+    })
+
 -- ---- the run
 -- an answer that neither the source nor a file gives
 abbrev pub IsNoFileFault : Result Numbers Fault → Type 0
@@ -182,24 +217,12 @@ pub run_of_answer : (c : Command) (r : Result Numbers Fault) (result : ℕ) (byt
     HasCauses c r bytes source sink given written Same Settled Unread Kept → TellsLine (status_of r) (line_of c r) result counts told →
     IsRun c result bytes source sink counts given written told Same Settled Unread Kept Silent
 run_of_answer c r result bytes source sink counts given written told Same Settled Unread Kept Silent reads one are answer made h t = record {
-  ends = λ file e. (
-    status_of r,
-    line_of c r ∷ [],
-    answer_ends c r file written.old written.new (answer file e),
-    caused c r bytes source sink given written Same Settled Unread Kept h,
-    reports_line (status_of r) result (line_of c r) told.old told.new told.before told.now t.reported t.whole t.cut_short t.added t.stopped,
-  );
-  made = λ w. (
-    status_of r,
-    line_of c r ∷ [],
-    answer_ends c r [] written.old written.new (made w),
-    caused c r bytes source sink given written Same Settled Unread Kept h,
-    reports_line (status_of r) result (line_of c r) told.old told.new told.before told.now t.reported t.whole t.cut_short t.added t.stopped,
-  );
-  read = λ e. h.read (status_is_read r (status_told (status_of r) result 2 t.reported e (omega arith)));
-  write = λ e. h.write (status_is_write r (status_told (status_of r) result 3 t.reported e (omega arith)));
+  ends = λ file e. ends_so file (answer file e);
+  made = λ w. ends_so [] (made w);
+  read = λ e. h.read (status_is_read r (status 2 (omega arith) e));
+  write = λ e. h.write (status_is_write r (status 3 (omega arith) e));
   reported = t.cause;
-  sure_sink = λ file e o is n room fits three. h.sure (status_is_write r (status_told (status_of r) result 3 t.reported three (omega arith))) file e o
+  sure_sink = λ file e o is n room fits three. h.sure (status_is_write r (status 3 (omega arith) three)) file e o
       is n room fits;
   sure_report = λ file e o is no_read no_write n room least fits seven.
       t.sure seven n room (line_fits c r file written.old written.new o n reads (are file e) (answer file e) is (λ q. no_read (h.read q))
@@ -208,28 +231,43 @@ run_of_answer c r result bytes source sink counts given written told Same Settle
   later_source = h.later_source;
   later_sink = h.later_sink;
   later_report = t.later;
-  memory = λ e. let f = status_is_memory r (status_told (status_of r) result 4 t.reported e (omega arith)) in h.memory f.0 f.1;
+  memory = λ e. let f = status_is_memory r (status 4 (omega arith) e) in h.memory f.0 f.1;
   memory_told = λ e.
-      let status = status_told (status_of r) result 4 t.reported e (omega arith) in
-      let f = status_is_memory r status in
-      subst (λ q. told.new ≡ and_then told.old (report (line_of c q ∷ []))) f.1 (t.whole (e ∙ sym status));
+      let four = status 4 (omega arith) e in
+      let f = status_is_memory r four in
+      subst (λ q. told.new ≡ and_then told.old (report (line_of c q ∷ []))) f.1 (t.whole (e ∙ sym four));
   silent = λ e. absurd (subst TellsOneLine e one);
-  file_refused = λ e. let f = status_is_file r (status_told (status_of r) result 5 t.reported e (omega arith)) in h.untouched f.0 f.1;
+  file_refused = λ e. let f = status_is_file r (status 5 (omega arith) e) in h.untouched f.0 f.1;
   idle = h.idle;
-  no_write = λ w e. h.no_write w (status_is_write r (status_told (status_of r) result 3 t.reported e (omega arith)));
+  no_write = λ w e. h.no_write w (status_is_write r (status 3 (omega arith) e));
   unread = h.unread;
   no_file = λ w. (
-    λ e. (h.no_file w).0 (status_is_read r (status_told (status_of r) result 2 t.reported e (omega arith))),
-    λ e. let f = status_is_file r (status_told (status_of r) result 5 t.reported e (omega arith)) in (h.no_file w).1 f.0 f.1,
-    λ e. let f = status_is_frame r (status_told (status_of r) result 6 t.reported e (omega arith)) in (h.no_file w).2 f.0 f.1 f.2,
+    λ e. (h.no_file w).0 (status_is_read r (status 2 (omega arith) e)),
+    λ e. let f = status_is_file r (status 5 (omega arith) e) in (h.no_file w).1 f.0 f.1,
+    λ e. let f = status_is_frame r (status 6 (omega arith) e) in (h.no_file w).2 f.0 f.1 f.2,
   );
-  settled = λ w e. let d = status_is_done r (status_told (status_of r) result 0 t.reported e (omega arith)) in h.settled w d.0 d.1;
+  settled = λ w e. let d = status_is_done r (status 0 (omega arith) e) in h.settled w d.0 d.1;
   by_index = h.by_index;
   any_source = h.any_source;
-  least_status = λ e. status_is_not_words r (status_told (status_of r) result 1 t.reported e (omega arith));
+  least_status = λ e. status_is_not_words r (status 1 (omega arith) e);
   most_status = most t.reported;
 }
   where
+    -- how it ends, with an answer about one file
+    ends_so : (file : List ℕ) → IsAnswer c r file written.old written.new → (wanted : ℕ) × (lines : List Line)
+        × EndsBy (OutcomeOf c file) (Some c) file ⊤ wanted lines written.old written.new
+        × IsCaused wanted source.before source.now sink.before sink.now × Reports wanted lines result told.old told.new told.before told.now
+    ends_so file a = (
+      status_of r,
+      line_of c r ∷ [],
+      answer_ends c r file written.old written.new a,
+      caused c r bytes source sink given written Same Settled Unread Kept h,
+      reports_line (status_of r) result (line_of c r) told.old told.new told.before told.now t.reported t.whole t.cut_short t.added t.stopped,
+    )
+
+    status : (want : ℕ) → want < 7 → result ≡ want → status_of r ≡ want
+    status want below e = status_told (status_of r) result want t.reported e below
+
     most : (result ≡ status_of r) ⊎ (result ≡ 7) → result ≤ 7
     most (inl e) = let below = status_is_below r h.no_report in omega arith
     most (inr e) = omega arith
@@ -241,41 +279,13 @@ pub same_run : {a c : Command} {result : ℕ} {bytes : Option (List ℕ)} {sourc
 same_run {a} {c} {result} {bytes} {source} {sink} {counts} {given} {written} {told} {Same} {Settled} {Unread} {Kept} {Silent} e h =
     subst (λ c. IsRun c result bytes source sink counts given written told Same Settled Unread Kept Silent) (sym e) h
 
-pub encoding_is_no_frame : (level k : ℕ) → encode level ≡ frame k true → ⊥
-encoding_is_no_frame level k e = absurd cc
+-- one that takes one frame
+abbrev pub TakesFrame : Command → Type 0
+TakesFrame (frame k by_index) = ⊤
+TakesFrame c = ⊥
 
-pub decoding_is_no_frame : (k : ℕ) → decode ≡ frame k true → ⊥
-decoding_is_no_frame k e = absurd cc
-
-pub encoding_dsf_is_no_frame : (level k : ℕ) → encode_dsf level ≡ frame k true → ⊥
-encoding_dsf_is_no_frame level k e = absurd cc
-
-pub decoding_dsf_is_no_frame : (k : ℕ) → decode_dsf ≡ frame k true → ⊥
-decoding_dsf_is_no_frame k e = absurd cc
-
-pub ranging_is_no_frame : (pairs : List (ℕ × ℕ)) (k : ℕ) → range pairs ≡ frame k true → ⊥
-ranging_is_no_frame pairs k e = absurd cc
-
-pub checking_is_no_frame : (k : ℕ) → check ≡ frame k true → ⊥
-checking_is_no_frame k e = absurd cc
-
-pub showing_is_no_frame : (k : ℕ) → show ≡ frame k true → ⊥
-showing_is_no_frame k e = absurd cc
-
-pub showing_one_is_no_frame : (j k : ℕ) → show_frame j ≡ frame k true → ⊥
-showing_one_is_no_frame j k e = absurd cc
-
-pub cutting_is_no_frame : (first last k : ℕ) → cut first last ≡ frame k true → ⊥
-cutting_is_no_frame first last k e = absurd cc
-
-pub making_is_no_frame : (start frames channels multiple k : ℕ) → make start frames channels multiple ≡ frame k true → ⊥
-making_is_no_frame start frames channels multiple k e = absurd cc
-
-pub running_is_no_frame : (start frames channels multiple k : ℕ) → make_run start frames channels multiple ≡ frame k true → ⊥
-running_is_no_frame start frames channels multiple k e = absurd cc
-
-pub listing_is_no_frame : (k : ℕ) → index ≡ frame k true → ⊥
-listing_is_no_frame k e = absurd cc
+pub takes_none : {P : Type 0} (c : Command) → (TakesFrame c → ⊥) → (k : ℕ) → c ≡ frame k true → P
+takes_none c none k e = absurd (none (subst TakesFrame (sym e) tt))
 
 -- what a command that writes nowhere answers of the sink
 pub nothing_added : (old : Option (List ℕ)) → old ≡ and_then old []
@@ -286,16 +296,9 @@ nothing_cut old bytes = record { kept = 0; within = omega arith; written = nothi
 
 -- a finished command that writes nothing
 pub finished_alone : (c : Command) (r : Result Numbers Fault) (old : Option (List ℕ)) (file : List ℕ) →
-    IfOk r (λ s. OutcomeOf c file (done [] (done_line c s ∷ []))) →
-    IfOk r (λ s. (out : List ℕ) × OutcomeOf c file (done out (done_line c s ∷ [])) × (old ≡ and_then old out))
-finished_alone c (Ok s) old file h = ([], h, nothing_added old)
+    IfOk r (λ s. OutcomeOf c file (done [] (done_line c s ∷ []))) → IfOk r (λ s. IsWhole c s file old old)
+finished_alone c (Ok s) old file h = ([], h, whole_of c [] old old (nothing_added old))
 finished_alone c (Err fault) old file h = tt {0}
-
-pub not_both_faults : (r : Result Numbers Fault) (a b : Fault) → r ≡ Err a → r ≡ Err b → a ≡ b
-not_both_faults r a b e f = same (sym e ∙ f)
-  where
-    same : ◌≡◌ {A = Result Numbers Fault} (Err a) (Err b) → a ≡ b
-    same h = cc
 
 -- a command that makes no call on the sink
 pub nothing_of : (c : Command) (file out : List ℕ) (old : Option (List ℕ)) → WritesNowhere c → PartOf (Some c) file out old old
@@ -329,12 +332,11 @@ not_both_kinds decode_dsf w f = w
 not_both_kinds (range pairs) w f = omega arith
 
 -- where the source failed nothing is written; where the sink did, a prefix
-pub cut_or_nothing : (c : Command) (r : Result Numbers Fault) (file : List ℕ) (old new : Option (List ℕ)) → One (OutcomeOf c file) →
-    (r ≡ Err Read → new ≡ old) → (r ≡ Err Write → (o : Answer) × OutcomeOf c file o × IsCutShort old o.out new) →
-    (r ≡ Err Read) ⊎ (r ≡ Err Write) → (o : Answer) × OutcomeOf c file o × IsCutShort old o.out new
-cut_or_nothing c r file old new one nothing short (inl e) =
-    (one.0, one.1, subst (λ w. IsCutShort old one.0.out w) (sym (nothing e)) (nothing_cut old one.0.out))
-cut_or_nothing c r file old new one nothing short (inr e) = short e
+pub cut_or_nothing : {P Q : Type 0} (c : Command) (file : List ℕ) (old new : Option (List ℕ)) → One (OutcomeOf c file) → (P → new ≡ old) →
+    (Q → (o : Answer) × OutcomeOf c file o × IsCutShort old o.out new) → P ⊎ Q → (o : Answer) × OutcomeOf c file o × IsCutShort old o.out new
+cut_or_nothing c file old new one nothing short (inl p) =
+    (one.0, one.1, subst (λ w. IsCutShort old one.0.out w) (sym (nothing p)) (nothing_cut old one.0.out))
+cut_or_nothing c file old new one nothing short (inr q) = short q
 
 -- ---- bytes of the source that one frame takes
 pub few_given : (now before size : ℕ) → now ≤ before + 208974 + 2 * size → now ≤ before + most_given size

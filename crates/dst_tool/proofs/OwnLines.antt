@@ -1,6 +1,6 @@
 -- A command that reports its lines itself: what it answered, and what the run leaves.
 use Rattle.std.proofs.Common.{◌≡◌, ◌≢◌, ◌⊎◌, inl, inr, ℕ, ◌+◌, ◌≤◌, true, List, [], ◌∷◌, length, Option, Some, Result, Ok, Err, refl, ap, sym, subst, ◌∙◌}
-use Rattle.std.proofs.Common.{arith, IfOk}
+use Rattle.std.proofs.Common.{arith, IfOk, OnOk}
 use Rattle.std.specs.Prelude.{⊤}
 use Rattle.dst_spec.specs.Bits.{AreBytes}
 use Rattle.dst_spec.specs.declared.faults.FrameFault.{FrameFault}
@@ -12,7 +12,7 @@ use Rattle.dsdiff_spec.specs.Words.{Command, frame, index}
 use Rattle.dsdiff_spec.specs.Refusal.{refusal}
 use Rattle.dsdiff_spec.specs.Lines.{Line, report, memory_line}
 use Rattle.dsdiff_spec.specs.Outcome.{Answer, done, file_refused, frame_refused}
-use Rattle.dsdiff_spec.proofs.OneAnswer.{HasOutcome}
+use Rattle.dsdiff_spec.proofs.OneAnswer.{HasOutcome, command_has_one_outcome}
 use Rattle.dst_tool.specs.declared.answers.Numbers.{Numbers}
 use Rattle.dst_tool.specs.declared.answers.Fault.{Fault}
 use Rattle.dst_tool.specs.declared.answers.Fault.TheVariants.{Read, Write, Memory, Report, File, Frame}
@@ -21,7 +21,9 @@ use Rattle.dst_commands.specs.Commands.{OutcomeOf}
 use Rattle.dst_show.specs.LineByLine.{AddsLines, StopsAtALine}
 use Rattle.dst_tool.specs.Runs.{DidNotRise, EndsBy, Reports, WritesNowhere, ReadsNothing, Counts, Held, Told, IsCaused, IsRun}
 use Rattle.dst_tool.proofs.Statuses.{status_is_done, status_is_read, status_is_write, status_is_memory, status_is_not_words}
-use Rattle.dst_tool.proofs.OneLine.{refusal_is, whole_of, nothing_of, not_both_kinds, same_lines, reports_line, status_told}
+use Rattle.dst_tool.proofs.Statuses.{status_is_at_most}
+use Rattle.dst_tool.proofs.Inverting.{IsToldAs, if_answered, if_done, own_fault, own_other, told_again, never_told}
+use Rattle.dst_tool.proofs.OneLine.{OfTold, at_file, same_run, refusal_is, whole_of, nothing_of, not_both_kinds, same_lines, reports_line, status_told}
 use Rattle.dst_commands.proofs.Writing.{and_then-nothing}
 
 -- what it answered of a file, the report holding `told` before and `mid` then
@@ -222,15 +224,9 @@ status_of_two r result t two = status_is_read r (status_told (status_of r) resul
 
 at_most : (r : Result Numbers Fault) (result : ℕ) → (result ≡ status_of r) ⊎ (result ≡ 7) → result ≤ 7
 at_most r result (inr e) = omega arith
-at_most (Ok s) result (inl e) = omega arith
-at_most (Err Read) result (inl e) = omega arith
-at_most (Err Write) result (inl e) = omega arith
-at_most (Err (Memory refused)) result (inl e) = omega arith
-at_most (Err Report) result (inl e) = omega arith
-at_most (Err (File fault)) result (inl e) = omega arith
-at_most (Err (Frame k fault)) result (inl e) = omega arith
+at_most r result (inl e) = let most = status_is_at_most r in omega arith
 
-pub run_of_listing : (c : Command) (r : Result Numbers Fault) (result : ℕ) (bytes : Option (List ℕ)) (source sink counts middle given : Counts)
+run_of_listing : (c : Command) (r : Result Numbers Fault) (result : ℕ) (bytes : Option (List ℕ)) (source sink counts middle given : Counts)
     (written : Held) (told mid : Told) (Same Settled Unread Kept Silent : Type 0) → HasOutcome c → WritesNowhere c → (ReadsNothing c → ⊥) →
     ((k : ℕ) → c ≡ frame k true → ⊥) →
     ((file : List ℕ) → bytes ≡ Some file → AreBytes file) → written.old ≡ written.new → Same → sink.before ≤ sink.now → Kept → mid.new ≡ told.new →
@@ -276,3 +272,86 @@ run_of_listing c r result bytes source sink counts middle given written told mid
       least_status = λ e. status_is_not_words r (status_told (status_of r) result 1 t.reported e (omega arith));
       most_status = at_most r result t.reported;
     }
+
+-- ---- the same, of what it answers in its own words
+pub report_is_no_write : Report ≢ Write
+report_is_no_write = λ e. absurd cc
+
+pub report_is_no_frame : {P : Type 0} (k : ℕ) (fault : FrameFault) → Report ≡ Frame k fault → P
+report_is_no_frame k fault e = absurd cc
+
+-- The report is `old` before, `mid` behind the command's lines, and `new` behind the line of its fault.
+pub run_of_own_lines : {A E R : Type 0} {f : A → Numbers} {h : E → Fault} {back : Fault → E} {d : Result A E} {r : Result Numbers Fault} {a c : Command}
+    {result : ℕ} {bytes : Option (List ℕ)} {source sink given : Counts} {held : Held} {Same Settled Unread Kept : Type 0}
+    (written : R → Option (List ℕ)) (faults appended : R → ℕ) (room : R → Option ℕ) (old mid new : R) →
+    a ≡ c → IsToldAs f h back d r → (h (back Write) ≢ Write) → h (back Report) ≡ Report → HasOutcome c → WritesNowhere c → (ReadsNothing c → ⊥) →
+    OfTold bytes AreBytes → held.old ≡ held.new → Same → sink.before ≤ sink.now →
+    IfOk d (λ s. OfTold bytes (λ file. (lines : List Line) × OutcomeOf c file (done [] lines) × (written mid ≡ and_then (written old) (report lines)))) →
+    ((fault : FileFault) → d ≡ Err (back (File fault)) → OfTold bytes (λ file. refusal c file ≡ Some fault)) →
+    ((k : ℕ) (fault : FrameFault) → h (back (Frame k fault)) ≡ Frame k fault → d ≡ Err (back (Frame k fault)) →
+    OfTold bytes (λ file. OutcomeOf c file (frame_refused k fault []))) →
+    (d ≡ Err (back Report) → OfTold bytes (λ file. (lines : List Line) × OutcomeOf c file (done [] lines)
+    × IsCutShort (written old) (report lines) (written mid))) →
+    IfOk d (λ s. OfTold bytes (λ file. (o : Answer) → OutcomeOf c file o → AddsLines o.lines (appended old) (appended mid))) →
+    (d ≡ Err (back Report) → OfTold bytes (λ file. (o : Answer) → OutcomeOf c file o → StopsAtALine o.lines (appended old) (appended mid))) →
+    Kept → (source.before ≤ source.now) × (faults old ≤ faults mid) → (d ≡ Err (back Read) → Rose source.before source.now) →
+    (d ≡ Err (back Report) → Rose (faults old) (faults mid)) → ((x : E) → d ≡ Err x → (x ≢ back Report) → mid ≡ old) →
+    (d ≡ Err (back Report) →
+    OfTold bytes (λ file. (o : Answer) → OutcomeOf c file o → (n : ℕ) → room old ≡ Some n → length (report o.lines) ≤ n → ⊥)) →
+    (c ≡ index → OfTold bytes (λ file. (accepted file).frames ≡ 0 → OnOk d (mid ≡ old))) →
+    (result ≡ status_of r) ⊎ (result ≡ 7) → ((s : Numbers) → r ≡ Ok s → (result ≡ 0) × (new ≡ mid)) →
+    (r ≡ Err Report → (result ≡ 7) × (new ≡ mid)) →
+    ((fault : Fault) → r ≡ Err fault → fault ≢ Report → result ≡ status_of r → written new ≡ and_then (written mid) (report (fault_line fault ∷ []))) →
+    ((fault : Fault) → r ≡ Err fault → fault ≢ Report → result ≡ 7 → IsCutShort (written mid) (report (fault_line fault ∷ [])) (written new)) →
+    ((fault : Fault) → r ≡ Err fault → fault ≢ Report → result ≡ status_of r → AddsLines (fault_line fault ∷ []) (appended mid) (appended new)) →
+    ((fault : Fault) → r ≡ Err fault → fault ≢ Report → result ≡ 7 → appended new ≡ appended mid) →
+    ((fault : Fault) → r ≡ Err fault → fault ≢ Report → result ≡ 7 → Rose (faults mid) (faults new)) → faults mid ≤ faults new →
+    ((fault : Fault) → r ≡ Err fault → fault ≢ Report → result ≡ 7 →
+    (n : ℕ) → room mid ≡ Some n → length (report (fault_line fault ∷ [])) ≤ n → ⊥) →
+    IsRun a result bytes source sink (record { before = faults old; now = faults new }) given held
+    (record { old = written old; new = written new; room = room old; before = appended old; now = appended new }) Same Settled Unread Kept (new ≡ old)
+run_of_own_lines {A} {E} {R} {f} {h} {back} {d} {r} {a} {c} {result} {bytes} {source} {sink} {given} {held} {Same} {Settled} {Unread} {Kept} written faults
+    appended room old mid new same says no_write report_again reads nowhere reading are still free later_sink lines file frame_is cut_short added stopped kept
+    later read reported untouched sure silent t_reported t_done t_failed t_whole t_cut_short t_added t_stopped t_cause t_later t_sure =
+    let told : Told = record { old = written old; new = written new; room = room old; before = appended old; now = appended new } in
+    let there : Told = record { old = written mid; new = written new; room = room mid; before = appended mid; now = appended new } in
+    let counts : Counts = record { before = faults old; now = faults new } in
+    let middle : Counts = record { before = faults mid; now = faults new } in
+    same_run same (run_of_listing c r result bytes source sink counts middle given held told there Same Settled Unread Kept (new ≡ old) reads nowhere reading
+    (λ k e. subst WritesNowhere e nowhere) are still free later_sink kept refl refl refl
+    (λ xs e. record {
+      lines = subst (λ q. IfOk q (λ s. (ls : List Line) × OutcomeOf c xs (done [] ls) × (written mid ≡ and_then (written old) (report ls)))) (sym says.is)
+          (if_answered f h d _ (at_file d (λ s ys. (ls : List Line) × OutcomeOf c ys (done [] ls)
+          × (written mid ≡ and_then (written old) (report ls))) bytes xs e lines));
+      file_is = λ fault q. file fault (own_fault says (File fault) q) xs e;
+      frame_is = λ k fault q. frame_is k fault (told_again says (Frame k fault) q) (own_fault says (Frame k fault) q) xs e;
+      some = let one = command_has_one_outcome c xs reads (are xs e) in (one.0, one.1);
+      cut_short = λ q. cut_short (own_fault says Report q) xs e;
+      added = subst (λ q. IfOk q (λ s. (o : Answer) → OutcomeOf c xs o → AddsLines o.lines (appended old) (appended mid))) (sym says.is)
+          (if_answered f h d _ (at_file d (λ s ys. (o : Answer) → OutcomeOf c ys o → AddsLines o.lines (appended old) (appended mid)) bytes xs e added));
+      stopped = λ q. stopped (own_fault says Report q) xs e;
+    })
+    (record {
+      later = later;
+      read = λ q. read (own_fault says Read q);
+      no_write = never_told says Write no_write;
+      reported = λ q. reported (own_fault says Report q);
+      untouched = λ fault q other. let is_old =
+          untouched (back fault) (own_fault says fault q)
+          (own_other says (back Report) fault q (λ w. other (w ∙ report_again))) in
+          (ap written is_old, ap room is_old, ap faults is_old, ap appended is_old);
+    })
+    (record {
+      reported = t_reported;
+      done = λ s q. let e = t_done s q in (e.0, ap written e.1, ap faults e.1, ap appended e.1);
+      failed = λ q. let e = t_failed q in (e.0, ap written e.1, ap faults e.1, ap appended e.1);
+      whole = t_whole;
+      cut_short = t_cut_short;
+      added = t_added;
+      stopped = t_stopped;
+      cause = t_cause;
+      later = t_later;
+      sure = t_sure;
+    })
+    (λ q. sure (own_fault says Report q))
+    (λ listed xs e none s q. (t_done s q).1 ∙ if_done f h d s (sym says.is ∙ q) (silent listed xs e none)))

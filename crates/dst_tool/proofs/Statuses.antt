@@ -1,5 +1,5 @@
 -- The answer that a status tells.
-use Rattle.std.proofs.Common.{◌≡◌, ℕ, ◌<◌, Result, Ok, Err, refl, arith}
+use Rattle.std.proofs.Common.{◌≡◌, ℕ, ◌<◌, ◌≤◌, Result, Ok, Err, refl, subst, arith, zero, suc}
 use Rattle.std.specs.declared.alloc.AllocError.{AllocError}
 use Rattle.dst_spec.specs.declared.faults.FrameFault.{FrameFault}
 use Rattle.dsdiff_spec.specs.declared.faults.FileFault.{FileFault}
@@ -8,74 +8,61 @@ use Rattle.dst_tool.specs.declared.answers.Fault.{Fault}
 use Rattle.dst_tool.specs.declared.answers.Fault.TheVariants.{Read, Write, Memory, Report, File, Frame}
 use Rattle.dst_tool.specs.Answers.{status_of}
 
+-- what a status tells of the answer
+abbrev Tells : ℕ → Result Numbers Fault → Type 0
+Tells zero r = (s : Numbers) × (r ≡ Ok s)
+Tells (suc zero) r = ⊥
+Tells (suc (suc zero)) r = r ≡ Err Read
+Tells (suc (suc (suc zero))) r = r ≡ Err Write
+Tells (suc (suc (suc (suc zero)))) r = (refused : AllocError) × (r ≡ Err (Memory refused))
+Tells (suc (suc (suc (suc (suc zero))))) r = (fault : FileFault) × (r ≡ Err (File fault))
+Tells (suc (suc (suc (suc (suc (suc zero)))))) r = (k : ℕ) × (fault : FrameFault) × (r ≡ Err (Frame k fault))
+Tells n r = r ≡ Err Report
+
+own_status_tells : (r : Result Numbers Fault) → Tells (status_of r) r
+own_status_tells (Ok s) = (s, refl)
+own_status_tells (Err Read) = refl
+own_status_tells (Err Write) = refl
+own_status_tells (Err (Memory refused)) = (refused, refl)
+own_status_tells (Err (File fault)) = (fault, refl)
+own_status_tells (Err (Frame k fault)) = (k, fault, refl)
+own_status_tells (Err Report) = refl
+
+status_tells : (r : Result Numbers Fault) (n : ℕ) → status_of r ≡ n → Tells n r
+status_tells r n e = subst (λ m. Tells m r) e (own_status_tells r)
+
 pub status_is_done : (r : Result Numbers Fault) → status_of r ≡ 0 → (s : Numbers) × (r ≡ Ok s)
-status_is_done (Ok s) e = (s, refl)
-status_is_done (Err Read) e = absurd (omega arith)
-status_is_done (Err Write) e = absurd (omega arith)
-status_is_done (Err (Memory refused)) e = absurd (omega arith)
-status_is_done (Err Report) e = absurd (omega arith)
-status_is_done (Err (File fault)) e = absurd (omega arith)
-status_is_done (Err (Frame k fault)) e = absurd (omega arith)
+status_is_done r e = status_tells r 0 e
 
 pub status_is_read : (r : Result Numbers Fault) → status_of r ≡ 2 → r ≡ Err Read
-status_is_read (Err Read) e = refl
-status_is_read (Ok s) e = absurd (omega arith)
-status_is_read (Err Write) e = absurd (omega arith)
-status_is_read (Err (Memory refused)) e = absurd (omega arith)
-status_is_read (Err Report) e = absurd (omega arith)
-status_is_read (Err (File fault)) e = absurd (omega arith)
-status_is_read (Err (Frame k fault)) e = absurd (omega arith)
+status_is_read r e = status_tells r 2 e
 
 pub status_is_write : (r : Result Numbers Fault) → status_of r ≡ 3 → r ≡ Err Write
-status_is_write (Err Write) e = refl
-status_is_write (Ok s) e = absurd (omega arith)
-status_is_write (Err Read) e = absurd (omega arith)
-status_is_write (Err (Memory refused)) e = absurd (omega arith)
-status_is_write (Err Report) e = absurd (omega arith)
-status_is_write (Err (File fault)) e = absurd (omega arith)
-status_is_write (Err (Frame k fault)) e = absurd (omega arith)
+status_is_write r e = status_tells r 3 e
 
 pub status_is_memory : (r : Result Numbers Fault) → status_of r ≡ 4 → (refused : AllocError) × (r ≡ Err (Memory refused))
-status_is_memory (Err (Memory refused)) e = (refused, refl)
-status_is_memory (Ok s) e = absurd (omega arith)
-status_is_memory (Err Read) e = absurd (omega arith)
-status_is_memory (Err Write) e = absurd (omega arith)
-status_is_memory (Err Report) e = absurd (omega arith)
-status_is_memory (Err (File fault)) e = absurd (omega arith)
-status_is_memory (Err (Frame k fault)) e = absurd (omega arith)
+status_is_memory r e = status_tells r 4 e
 
 pub status_is_file : (r : Result Numbers Fault) → status_of r ≡ 5 → (fault : FileFault) × (r ≡ Err (File fault))
-status_is_file (Err (File fault)) e = (fault, refl)
-status_is_file (Ok s) e = absurd (omega arith)
-status_is_file (Err Read) e = absurd (omega arith)
-status_is_file (Err Write) e = absurd (omega arith)
-status_is_file (Err (Memory refused)) e = absurd (omega arith)
-status_is_file (Err Report) e = absurd (omega arith)
-status_is_file (Err (Frame k fault)) e = absurd (omega arith)
+status_is_file r e = status_tells r 5 e
 
 pub status_is_frame : (r : Result Numbers Fault) → status_of r ≡ 6 → (k : ℕ) × (fault : FrameFault) × (r ≡ Err (Frame k fault))
-status_is_frame (Err (Frame k fault)) e = (k, fault, refl)
-status_is_frame (Ok s) e = absurd (omega arith)
-status_is_frame (Err Read) e = absurd (omega arith)
-status_is_frame (Err Write) e = absurd (omega arith)
-status_is_frame (Err (Memory refused)) e = absurd (omega arith)
-status_is_frame (Err Report) e = absurd (omega arith)
-status_is_frame (Err (File fault)) e = absurd (omega arith)
+status_is_frame r e = status_tells r 6 e
 
 pub status_is_not_words : (r : Result Numbers Fault) → status_of r ≡ 1 → ⊥
-status_is_not_words (Ok s) e = absurd (omega arith)
-status_is_not_words (Err Read) e = absurd (omega arith)
-status_is_not_words (Err Write) e = absurd (omega arith)
-status_is_not_words (Err (Memory refused)) e = absurd (omega arith)
-status_is_not_words (Err Report) e = absurd (omega arith)
-status_is_not_words (Err (File fault)) e = absurd (omega arith)
-status_is_not_words (Err (Frame k fault)) e = absurd (omega arith)
+status_is_not_words r e = status_tells r 1 e
+
+pub status_is_at_most : (r : Result Numbers Fault) → status_of r ≤ 7
+status_is_at_most (Ok s) = omega arith
+status_is_at_most (Err Read) = omega arith
+status_is_at_most (Err Write) = omega arith
+status_is_at_most (Err (Memory refused)) = omega arith
+status_is_at_most (Err (File fault)) = omega arith
+status_is_at_most (Err (Frame k fault)) = omega arith
+status_is_at_most (Err Report) = omega arith
 
 pub status_is_below : (r : Result Numbers Fault) → (r ≡ Err Report → ⊥) → status_of r < 7
-status_is_below (Err Report) h = absurd (h refl)
-status_is_below (Ok s) h = omega arith
-status_is_below (Err Read) h = omega arith
-status_is_below (Err Write) h = omega arith
-status_is_below (Err (Memory refused)) h = omega arith
-status_is_below (Err (File fault)) h = omega arith
-status_is_below (Err (Frame k fault)) h = omega arith
+status_is_below r h =
+    let most = status_is_at_most r in
+    let other : status_of r ≡ 7 → ⊥ = λ e. h (status_tells r 7 e) in
+    omega (arith, other)
