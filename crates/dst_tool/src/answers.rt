@@ -22,6 +22,20 @@ pub(crate) struct Numbers {
     pub(crate) restored: u64,
 }
 
+impl Numbers {
+    // Those of a command that has frames and bytes alone.
+    fn of(frames: u32, bytes: u64) -> Numbers
+        ensures { result ≡ record { frames = frames; bytes = bytes; unread = 0; restored = 0 } }
+    {
+        Numbers {
+            frames,
+            bytes,
+            unread: 0,
+            restored: 0,
+        }
+    }
+}
+
 /// Why a command wasn't done.
 #[derive(Clone, Copy, Drop)]
 pub(crate) enum Fault {
@@ -58,12 +72,7 @@ pub(crate) fn encoded(answer: Result<Encoded, EncodeFault>) -> Result<Numbers, F
     ensures { result ≡ answered (λ d. record { frames = d.frames; bytes = d.bytes; unread = 0; restored = 0 }) of_encode answer }
 {
     match answer {
-        Ok(Encoded { frames, bytes }) => Ok(Numbers {
-            frames,
-            bytes,
-            unread: 0,
-            restored: 0,
-        }),
+        Ok(Encoded { frames, bytes }) => Ok(Numbers::of(frames, bytes)),
         Err(EncodeFault::Source(fault)) => Err(of_source(fault)),
         Err(EncodeFault::Write) => Err(Fault::Write),
     }
@@ -74,12 +83,7 @@ pub(crate) fn decoded(answer: Result<Decoded, DecodeFault>) -> Result<Numbers, F
     ensures { result ≡ answered (λ d. record { frames = d.frames; bytes = d.bytes; unread = 0; restored = 0 }) of_decode answer }
 {
     match answer {
-        Ok(Decoded { frames, bytes }) => Ok(Numbers {
-            frames,
-            bytes,
-            unread: 0,
-            restored: 0,
-        }),
+        Ok(Decoded { frames, bytes }) => Ok(Numbers::of(frames, bytes)),
         Err(fault) => Err(of_decode(fault)),
     }
 }
@@ -89,12 +93,7 @@ pub(crate) fn cut_out(answer: Result<Cut, CutFault>) -> Result<Numbers, Fault>
     ensures { result ≡ answered (λ d. record { frames = d.frames; bytes = 0; unread = 0; restored = 0 }) of_cut answer }
 {
     match answer {
-        Ok(Cut { frames }) => Ok(Numbers {
-            frames,
-            bytes: 0,
-            unread: 0,
-            restored: 0,
-        }),
+        Ok(Cut { frames }) => Ok(Numbers::of(frames, 0)),
         Err(CutFault::Source(fault)) => Err(of_source(fault)),
         Err(CutFault::Write) => Err(Fault::Write),
     }
@@ -105,12 +104,7 @@ pub(crate) fn made(answer: Result<Made, MakeFault>) -> Result<Numbers, Fault>
     ensures { result ≡ answered (λ d. record { frames = d.frames; bytes = 0; unread = 0; restored = 0 }) of_make answer }
 {
     match answer {
-        Ok(Made { frames }) => Ok(Numbers {
-            frames,
-            bytes: 0,
-            unread: 0,
-            restored: 0,
-        }),
+        Ok(Made { frames }) => Ok(Numbers::of(frames, 0)),
         Err(MakeFault::Memory(refused)) => Err(Fault::Memory(refused)),
         Err(MakeFault::Write) => Err(Fault::Write),
     }
@@ -136,12 +130,7 @@ pub(crate) fn frame_written(answer: Result<FrameWritten, DecodeFault>) -> Result
     ensures { result ≡ answered (λ f. record { frames = 1; bytes = f.bytes; unread = 0; restored = 0 }) of_decode answer }
 {
     match answer {
-        Ok(FrameWritten { bytes }) => Ok(Numbers {
-            frames: 1,
-            bytes,
-            unread: 0,
-            restored: 0,
-        }),
+        Ok(FrameWritten { bytes }) => Ok(Numbers::of(1, bytes)),
         Err(fault) => Err(of_decode(fault)),
     }
 }
@@ -151,12 +140,7 @@ pub(crate) fn range_written(answer: Result<RangeWritten, DecodeFault>) -> Result
     ensures { result ≡ answered (λ r. record { frames = 0; bytes = r.bytes; unread = 0; restored = 0 }) of_decode answer }
 {
     match answer {
-        Ok(RangeWritten { bytes }) => Ok(Numbers {
-            frames: 0,
-            bytes,
-            unread: 0,
-            restored: 0,
-        }),
+        Ok(RangeWritten { bytes }) => Ok(Numbers::of(0, bytes)),
         Err(fault) => Err(of_decode(fault)),
     }
 }
@@ -182,12 +166,7 @@ pub(crate) fn shown(answer: Result<Reported, ShowFault>) -> Result<Numbers, Faul
     ensures { result ≡ answered (λ d. record { frames = d.frames; bytes = 0; unread = 0; restored = 0 }) of_show answer }
 {
     match answer {
-        Ok(Reported { frames }) => Ok(Numbers {
-            frames,
-            bytes: 0,
-            unread: 0,
-            restored: 0,
-        }),
+        Ok(Reported { frames }) => Ok(Numbers::of(frames, 0)),
         Err(ShowFault::Source(fault)) => Err(of_source(fault)),
         Err(ShowFault::Report) => Err(Fault::Report),
         Err(ShowFault::Frame { frame, fault }) => Err(Fault::Frame { frame, fault }),
@@ -199,12 +178,7 @@ pub(crate) fn listed(answer: Result<Reported, ListFault>) -> Result<Numbers, Fau
     ensures { result ≡ answered (λ d. record { frames = d.frames; bytes = 0; unread = 0; restored = 0 }) of_list answer }
 {
     match answer {
-        Ok(Reported { frames }) => Ok(Numbers {
-            frames,
-            bytes: 0,
-            unread: 0,
-            restored: 0,
-        }),
+        Ok(Reported { frames }) => Ok(Numbers::of(frames, 0)),
         Err(ListFault::Source(fault)) => Err(of_source(fault)),
         Err(ListFault::Report) => Err(Fault::Report),
     }
