@@ -1,4 +1,4 @@
-use Rattle.std.proofs.Common.{◌≡◌, get_or, ap, sym, ◌∙◌}
+use Rattle.std.proofs.Common.{get_or, ap, sym, ◌∙◌}
 use Rattle.dst_spec.specs.Bits.{bits, number_from}
 use Rattle.dst_spec.proofs.Meaning.{first_number}
 use Rattle.frame_header.proofs.tests.a_header_is_read_and_written.Goals as goal
