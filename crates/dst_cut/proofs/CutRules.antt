@@ -1,7 +1,6 @@
 -- The rules of cutting behind those of the form, as they are asked one after the other.
-use Rattle.std.proofs.Common.{◌≡◌, ℕ, ◌≤◌, List, length, Option, Some, None, refl, ap, sym, subst, ◌∙◌}
-use Rattle.dsdiff_spec.specs.Form.{Form, coded}
-use Rattle.dsdiff_spec.specs.Walk.{Entry, entries, walk_fault}
+use Rattle.std.proofs.Common.{◌≡◌, ℕ, List, Option, None, refl, ap, sym, ◌∙◌}
+use Rattle.dsdiff_spec.specs.Walk.{walk_fault}
 use Rattle.dsdiff_spec.specs.Words as words
 use Rattle.dsdiff_spec.specs.Cut.{cut_chunks}
 use Rattle.dsdiff_spec.specs.Refusal.{command_fault, cut_fault, no_frame, not_coded}

@@ -1,22 +1,20 @@
 -- What cutting writes by its chunks is what is written part by part; its chunks are counted, and its size is known before.
-use Rattle.std.proofs.Common.{◌≡◌, ℕ, ◌+◌, ◌-◌, ◌*◌, ◌%◌, ◌^◌, ◌<◌, ◌≤◌, ◌==◌, Bool, true, false, if◌then◌else◌, List, [], ◌∷◌, ◌++◌, length, map}
-use Rattle.std.proofs.Common.{take, drop, filter, Option, Some, None}
-use Rattle.std.proofs.Common.{refl, sym, ap, ap₂, subst, ◌∙◌, arith, length-append, length-drop, append_assoc, append-nil}
-use Rattle.std.specs.Prelude.{codes, is_some}
+use Rattle.std.proofs.Common.{◌≡◌, ℕ, ◌+◌, ◌-◌, ◌*◌, ◌%◌, ◌^◌, ◌<◌, ◌≤◌, Bool, true, false, if◌then◌else◌, List, [], ◌∷◌, ◌++◌, length}
+use Rattle.std.proofs.Common.{drop, Option, Some, None}
+use Rattle.std.proofs.Common.{refl, sym, ap, ap₂, ◌∙◌, arith, length-append, length-drop, append_assoc, append-nil}
+use Rattle.std.specs.Prelude.{codes}
 use Rattle.std.specs.List.{concat}
 use Rattle.std.proofs.lemmas.Bool.{le-ltb, lt-ltb}
 use Rattle.std.proofs.lemmas.List.{length-map, length-take}
 use Rattle.std.proofs.lemmas.List.Folds.{concat-append}
 use Rattle.byteorder.specs.Endian.{big_bytes}
 use Rattle.byteorder.specs.Numbers.{length-bytes_high_first}
-use Rattle.dsdiff_spec.specs.Bytes.{between, ◌above◌}
-use Rattle.dsdiff_spec.specs.Chunks.{body_end}
-use Rattle.dsdiff_spec.specs.Coded.{first_place}
+use Rattle.dsdiff_spec.specs.Bytes.{between}
 use Rattle.dsdiff_spec.specs.Form.{Form, Origin, sound_bytes_of, whole_chunk}
 use Rattle.dsdiff_spec.specs.Walk.{Entry, entries}
 use Rattle.dsdiff_spec.specs.Written.{chunk, frte, dsti, origin_chunk, before_sound, behind_sound, copied}
 use Rattle.dsdiff_spec.specs.Cut as cutting
-use Rattle.dsdiff_spec.specs.Cut.{cut_chunks, cut_frames, cut_entries, cut_origin}
+use Rattle.dsdiff_spec.specs.Cut.{cut_chunks, cut_origin}
 use Rattle.dsdiff_spec.specs.Faults.{◌when◌, ◌otherwise◌}
 use Rattle.dsdiff_spec.specs.Refusal.{cut_fault}
 use Rattle.dsdiff_spec.specs.declared.faults.FileFault.TheVariants.{TooManyChunks, FormTooLarge}
@@ -25,7 +23,7 @@ use Rattle.dst_commands.specs.Passing.{chunks_on}
 use Rattle.dst_commands.specs.declared.chunks.Side.{Side}
 use Rattle.dst_commands.specs.declared.chunks.Side.TheVariants.{Before, Behind}
 use Rattle.dst_cut.specs.CutLayout.{begins, ends, count, is_last, before, behind, kept, kept_by, kept_count, size_left, pad_left, side_of}
-use Rattle.dst_cut.specs.CutLayout.{sound_size, form_size, sound_opening, front, padding, frames, index_bytes, entries_left, first_at, end, whole}
+use Rattle.dst_cut.specs.CutLayout.{sound_size, form_size, sound_opening, padding, frames, index_bytes, entries_left, first_at, whole}
 use Rattle.dst_commands.proofs.ChunkLengths.{even_chunk, length-padded, length-frte}
 use Rattle.dst_cut.proofs.CutPlaces.{AreCutOut, length-left}
 

@@ -1,20 +1,15 @@
 -- Cutting: what is opened, and how the whole file ends.
-use Rattle.std.specs.Prelude.{◌≡◌, ℕ, List, [], ◌∷◌, length, Option, Result, Ok, Err}
+use Rattle.std.specs.Prelude.{◌≡◌, ℕ, List, Option, Result, Ok, Err}
 use Rattle.dst_streams.specs.Causes.{Rose}
-use Rattle.dst_streams.specs.Told.{and_then, IsCutShort}
-use Rattle.dsdiff_spec.specs.Lines.{cut_line}
-use Rattle.dsdiff_spec.specs.Outcome.{Answer, done}
+use Rattle.dst_streams.specs.Told.{and_then}
 use Rattle.dsdiff_spec.specs.Rules.{accepted}
 use Rattle.dsdiff_spec.specs.Walk.{entries}
-use Rattle.dsdiff_spec.specs.Words.{cut}
 use Rattle.dsdiff_spec.specs.Cut as cutting
 use Rattle.dsdiff_chunks.specs.Forms.{coded_seen}
 use Rattle.dsdiff_chunks.specs.declared.copy.CopyFault.{CopyFault}
 use Rattle.dsdiff_chunks.specs.declared.copy.CopyFault.TheVariants as copying
 use Rattle.dsdiff_chunks.specs.declared.open.OpenFault.TheVariants.{Read}
-use Rattle.dst_commands.specs.Commands.{OutcomeOf}
-use Rattle.dst_commands.specs.Writing.{Stops, Lacks}
-use Rattle.dst_cut.specs.declared.cut.Cut.{Cut}
+use Rattle.dst_commands.specs.Writing.{Stops}
 use Rattle.dst_cut.specs.declared.cut.CutFault.{CutFault}
 use Rattle.dst_cut.specs.declared.cut.CutFault.TheVariants.{Source, Write}
 use Rattle.dst_cut.specs.declared.cut_form.CutForm.{CutForm}

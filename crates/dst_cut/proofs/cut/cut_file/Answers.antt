@@ -1,11 +1,11 @@
 -- Each answer is one of opening, or one of writing.
-use Rattle.std.proofs.Common.{◌≡◌, inl, inr, ℕ, List, length, Option, Some, None, Result, Ok, Err, refl, ap, sym, subst, ◌∙◌, arith}
+use Rattle.std.proofs.Common.{◌≡◌, Result, Err, ap, subst, ◌∙◌, arith}
 use Rattle.dsdiff_spec.specs.Form.{Form}
 use Rattle.dsdiff_spec.specs.Refusal.{form_refusal}
 use Rattle.dsdiff_spec.specs.Words as words
 use Rattle.dsdiff_chunks.specs.declared.open.OpenFault.{OpenFault}
 use Rattle.dsdiff_chunks.specs.Opening as opening
-use Rattle.dst_cut.specs.Cutting.{CutEnds, cut_bytes}
+use Rattle.dst_cut.specs.Cutting.{cut_bytes}
 use Rattle.dst_cut.specs.declared.cut.Cut.{Cut}
 use Rattle.dst_cut.specs.declared.cut.CutFault.{CutFault}
 use Rattle.dst_cut.specs.declared.cut.CutFault.TheVariants.{Source, Write}

@@ -1,10 +1,10 @@
 -- The loop writes as many entries at a time as the buffer holds.
-use Rattle.std.proofs.Common.{◌≡◌, ◌+◌, ◌*◌, ◌<◌, ◌≤◌, ◌-◌, ◌++◌, ℕ, length, take, drop, ap, sym, subst, ◌∙◌, arith}
+use Rattle.std.proofs.Common.{◌+◌, ◌*◌, ◌++◌, take, ap, ◌∙◌, arith}
 use Rattle.dsdiff_spec.proofs.ByteLists.{entry_bytes}
 use Rattle.dsdiff_chunks.specs.Forms.{coded_seen}
 use Rattle.dst_commands.proofs.Writing.{added, adds_same, adds_then, cut_off, stops_in, stops_same, stops_then}
 use Rattle.dst_commands.proofs.InTurn.{all_parts, begins_with_parts}
-use Rattle.dst_cut.specs.CutLayout.{count, entries_left, index_bytes}
+use Rattle.dst_cut.specs.CutLayout.{entries_left, index_bytes}
 use Rattle.dst_cut.proofs.CutPlaces.{are_cut_out, length-left}
 use Rattle.dst_cut.proofs.CutIndex.{more_entries}
 use Rattle.dst_cut.proofs.cut_index.write_entries.Goals as goal

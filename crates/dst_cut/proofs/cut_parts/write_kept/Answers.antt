@@ -4,7 +4,7 @@ use Rattle.std.specs.Option.{option_map}
 use Rattle.dsdiff_spec.specs.Written.{origin_chunk}
 use Rattle.dsdiff_chunks.specs.Forms.{coded_seen}
 use Rattle.dsdiff_chunks.specs.Seen.{origin_seen}
-use Rattle.dst_cut.specs.CutLayout.{kept_by, size_left, pad_left}
+use Rattle.dst_cut.specs.CutLayout.{kept_by}
 use Rattle.dst_commands.proofs.OneCall.{one_call, call_same}
 use Rattle.dst_cut.proofs.cut_parts.write_kept.Goals as goal
 

@@ -1,5 +1,5 @@
 -- The chunks that are passed on, `DST `, `DSTI`, and `KEPT` where there is one.
-use Rattle.std.proofs.Common.{arith, sym, ◌∙◌}
+use Rattle.std.proofs.Common.{arith}
 use Rattle.dsdiff_chunks.specs.Forms.{coded_seen}
 use Rattle.dst_cut.proofs.CutWhole.{count_is}
 use Rattle.dst_cut.proofs.cut_form.CutForm.chunks.Goals as goal
