@@ -1,5 +1,5 @@
 -- Rows and sums over samples that are known a byte at a time.
-use Rattle.std.proofs.Common.{◌≡◌, ℕ, zero, suc, ◌+◌, ◌-◌, ◌%◌, ◌<◌, ◌≤◌, ◌⊎◌, inl, inr, ℤ, pos, List, [], ◌∷◌, ◌++◌}
+use Rattle.std.proofs.Common.{◌≡◌, ◌≢◌, ℕ, zero, suc, ◌+◌, ◌-◌, ◌%◌, ◌<◌, ◌≤◌, ◌⊎◌, inl, inr, ℤ, pos, List, [], ◌∷◌, ◌++◌}
 use Rattle.std.proofs.Common.{length, get_or, drop, replicate, refl, ap, sym, ◌∙◌, arith}
 use Rattle.std.proofs.lemmas.Int.{ints}
 use Rattle.std.proofs.lemmas.List.{get_or-drop, get_or_past}
@@ -8,7 +8,7 @@ use Rattle.std.specs.List.{AllByRecursion}
 use Rattle.dst_spec.specs.Table.{filter_kind, InRange}
 use Rattle.byte_predictor.specs.Samples.{rising_bits, samples_of}
 use Rattle.byte_predictor.specs.Upward.{upward_sum, size_sum, shifted}
-use Rattle.byte_predictor.specs.KnownRows.{HasKnownRows}
+use Rattle.byte_predictor.specs.KnownRows.{IsReach, HasKnownRows}
 use Rattle.byte_predictor.proofs.Upward.{upward_sum-same, upward_sum-empty}
 use Rattle.byte_predictor.proofs.Lanes.{zeros-at, no_rows-at, added-lane}
 use Rattle.byte_predictor.proofs.Sums.{coef-range}
@@ -77,7 +77,7 @@ unfolding shifted
 lone-shifted j = zeros-at 9 j
 
 -- the coefficient 0 alone
-pub known-none : HasKnownRows (pos 0 ∷ []) (replicate 256 (replicate 136 0)) 0 2
+pub known-none : HasKnownRows (pos 0 ∷ []) (replicate 256 (replicate 136 0)) 0 24
 unfolding size_sum
 known-none = record {
   table = record { least = omega arith; most = omega arith; each = ((omega (arith, ints), omega (arith, ints)), tt); alone = λ lone. absurd cc };
@@ -85,8 +85,8 @@ known-none = record {
       no_rows-at 136 256 byte lane ∙ sym (upward_sum-same (drop lane (shifted (pos 0 ∷ []))) [] (rising_bits 8 byte)
       (λ j. get_or-drop lane (shifted (pos 0 ∷ [])) j (pos 0) ∙ lone-shifted (lane + j)) ∙ upward_sum-empty (rising_bits 8 byte));
   sizes = refl;
-  reach = omega arith;
-  few = omega arith;
+  is_reach = inl refl;
+  all = omega arith;
 }
 
 -- one whole byte more of the same samples
@@ -94,15 +94,29 @@ pub byte-more : (byte n : ℕ) → rising_bits 8 byte ++ samples_of (replicate n
 unfolding samples_of
 byte-more byte n = refl
 
+-- no more lanes than there are
+pub reach-few : (reach : ℕ) → IsReach reach → reach ≤ 136
+reach-few reach (inl is) = omega arith
+reach-few reach (inr (inl is)) = omega arith
+reach-few reach (inr (inr (inl is))) = omega arith
+reach-few reach (inr (inr (inr is))) = omega arith
+
+-- all lanes, where no smaller number of them has sums
+pub reach-all : (reach : ℕ) → IsReach reach → reach ≢ 24 → reach ≢ 40 → reach ≢ 72 → reach ≡ 136
+reach-all reach (inl is) a b c = absurd (a is)
+reach-all reach (inr (inl is)) a b c = absurd (b is)
+reach-all reach (inr (inr (inl is))) a b c = absurd (c is)
+reach-all reach (inr (inr (inr is))) a b c = is
+
 -- a byte goes into the lanes that the coefficients reach; those behind them stay 0
 pub known-taken : (n : ℕ) (coefs : List ℤ) (samples lanes row new : List ℕ) (byte : ℕ) → AllByRecursion (InRange filter_kind) coefs → length coefs ≤ 128 →
     8 + length coefs ≤ n → n ≤ 136 →
     ((lane : ℕ) → lane < 144 → get_or lanes lane 0 ≡ upward_sum (drop lane (shifted coefs)) samples) →
-    ((lane : ℕ) → lane < 136 → get_or row lane 0 ≡ upward_sum (drop lane (shifted coefs)) (rising_bits 8 byte)) →
+    ((lane : ℕ) → lane < n → get_or row lane 0 ≡ upward_sum (drop lane (shifted coefs)) (rising_bits 8 byte)) →
     ((lane : ℕ) → lane < n → get_or new lane 0 ≡ (get_or lanes (lane + 8) 0 + get_or row lane 0) % 65536) →
     ((lane : ℕ) → n ≤ lane → get_or new lane 0 ≡ get_or lanes lane 0) → (lane : ℕ) → lane < 144 →
     get_or new lane 0 ≡ upward_sum (drop lane (shifted coefs)) (rising_bits 8 byte ++ samples)
 known-taken n coefs samples lanes row new byte range short reach few sums is moved stays =
     let each = shifted-each coefs range short in
     added-lane n 144 (shifted coefs) samples lanes row new byte each.0 (omega (arith, each.1)) few (omega arith) sums
-    (λ lane h. is lane (omega arith)) moved stays
+    is moved stays

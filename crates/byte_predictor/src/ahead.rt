@@ -23,7 +23,7 @@ impl Ahead {
         let mut lanes = [0; 136];
         let row = &rows.rows[0xaa];
         for turn in 0..16usize {
-            add_row(&mut lanes, row);
+            add_row::<128, 128, 136>(&mut lanes, row);
         }
         Ahead {
             lanes,
@@ -47,7 +47,7 @@ impl Ahead {
         ensures { (samples : List ℕ) → IsAhead rows.now 8 samples self.old → IsAhead rows.now 0 samples self.new }
     {
         let row = &rows.rows[self.newest as usize];
-        add_row(&mut self.lanes, row);
+        add_row::<128, 128, 136>(&mut self.lanes, row);
     }
 
     /// What the coefficients add upward to the next sample's prediction, `place` samples after the last whole byte.

@@ -61,7 +61,7 @@ impl EightAhead {
     {
         let newest = self.newest(n);
         let row = &rows.rows[newest as usize];
-        add_row(&mut self.sums[n], row);
+        add_row::<128, 128, 136>(&mut self.sums[n], row);
     }
 
     /// What the coefficients add upward to the prediction of frame `n`'s next sample, `place` samples after the last whole byte.

@@ -3,26 +3,24 @@ ghost use Rattle.std.specs.Prelude.{◌≡◌, ℕ, ◌+◌, ◌-◌, ◌*◌, �
 ghost use Rattle.dst_spec.specs.Table.{filter_kind, IsTable, InRange};
 ghost use Rattle.byte_predictor.specs.Samples.{rising_bits, samples_of, signed_sum};
 ghost use Rattle.byte_predictor.specs.Upward.{upward_sum, size_sum, shifted};
+ghost use Rattle.byte_predictor.specs.KnownRows.{IsReach};
 ghost use Rattle.byte_predictor.specs.KnownAhead.{AreKnown};
 
 use crate::byte_filter::{coef_at, with_zeros};
 use crate::row_filter::size_of_all;
-use crate::rows::{add_front, add_row, fill_rows};
+use crate::rows::{add_row, fill_rows};
 use dst_num::FilterTable;
 use std::marker::Model;
 
-// So few groups of lanes are added group by group; all seventeen in one loop take less time than more.
-const FEW_GROUPS: usize = 9;
-
 /// The coefficients of a filter, as rows of sums for samples that are known beforehand: what each byte of them adds to the
-/// predictions of its own samples and of the 128 that follow. The table takes 70 kilobytes.
+/// predictions of its own samples and of those that follow, as far as the coefficients reach. The table takes 70 kilobytes.
 #[derive(Drop)]
 pub struct KnownFilter {
     coefs: [i16; 128],
     length: usize,
     size: u32,
-    // as many groups of eight lanes as the coefficients reach
-    groups: usize,
+    // so many lanes have sums, at least those that the coefficients reach: 24, 40, 72 or all
+    reach: usize,
     rows: [[u16; 136]; 256],
 }
 
@@ -34,7 +32,7 @@ impl Model for KnownFilter {
 
     ghost view = { λ f. take f.length f.coefs };
 
-    ghost invariant = { λ f. HasKnownRows (take f.length f.coefs) f.rows f.size f.groups };
+    ghost invariant = { λ f. HasKnownRows (take f.length f.coefs) f.rows f.size f.reach };
 }
 
 impl KnownFilter {
@@ -46,7 +44,7 @@ impl KnownFilter {
             coefs: [0; 128],
             length: 1,
             size: 0,
-            groups: 2,
+            reach: 24,
             rows: [[0; 136]; 256],
         }
     }
@@ -60,8 +58,8 @@ impl KnownFilter {
         self.coefs = with_zeros(coefs);
         self.length = coefs.len();
         self.size = size_of_all(coefs);
-        self.groups = (coefs.len() + 15) / 8;
-        fill_rows(&mut self.rows, &later);
+        self.reach = reach_of(coefs.len());
+        fill_reach(&mut self.rows, &later, self.reach);
     }
 
     /// The sum of the coefficients' sizes: what they add upward at the most.
@@ -91,7 +89,7 @@ impl KnownAhead {
         let mut lanes = [0; 144];
         let row = &filter.rows[0xaa];
         for turn in 0..16usize {
-            add_row(&mut lanes, row);
+            add_reach(&mut lanes, row, filter.reach);
         }
         KnownAhead { lanes }
     }
@@ -105,12 +103,62 @@ impl KnownAhead {
             → get_or result place 0 ≡ upward_sum filter.now (drop (8 - place) (rising_bits 8 byte ++ samples)) }
     {
         let row = &filter.rows[byte as usize];
-        if filter.groups > FEW_GROUPS {
-            add_row(&mut self.lanes, row);
-        } else {
-            add_front(&mut self.lanes, row, filter.groups);
-        }
+        add_reach(&mut self.lanes, row, filter.reach);
         first_lanes(&self.lanes)
+    }
+}
+
+// How many lanes have sums for so many coefficients. Loops over a number that is known when they are compiled are written out.
+fn reach_of(length: usize) -> usize
+    requires { length ≤ 128 }
+    ensures is { IsReach result }
+    ensures all { 8 + length ≤ result }
+{
+    if length <= 16 {
+        24
+    } else if length <= 32 {
+        40
+    } else if length <= 64 {
+        72
+    } else {
+        136
+    }
+}
+
+// Fills so many lanes of each row.
+fn fill_reach(rows: &mut [[u16; 136]; 256], later: &[i16; 144], reach: usize)
+    requires range { (j : ℕ) → InRange filter_kind (get_or later.now j (pos 0)) }
+    requires reach { IsReach reach }
+    ensures { (byte lane : ℕ) → byte < 256 → lane < reach
+        → get_or (get_or rows.new byte []) lane 0 ≡ upward_sum (drop lane later.now) (rising_bits 8 byte) }
+{
+    if reach == 24 {
+        fill_rows::<24, 136>(rows, later);
+    } else if reach == 40 {
+        fill_rows::<40, 136>(rows, later);
+    } else if reach == 72 {
+        fill_rows::<72, 136>(rows, later);
+    } else {
+        fill_rows::<136, 136>(rows, later);
+    }
+}
+
+// Moves the lanes on by eight samples, and adds what these add, to so many lanes.
+#[inline(always)]
+fn add_reach(lanes: &mut [u16; 144], row: &[u16; 136], reach: usize)
+    requires { IsReach reach }
+    ensures long { length lanes.new ≡ 144 }
+    ensures added { (lane : ℕ) → lane < reach → get_or lanes.new lane 0 ≡ (get_or lanes.old (lane + 8) 0 + get_or row.now lane 0) % 65536 }
+    ensures last { (lane : ℕ) → reach ≤ lane → get_or lanes.new lane 0 ≡ get_or lanes.old lane 0 }
+{
+    if reach == 24 {
+        add_row::<24, 136, 144>(lanes, row);
+    } else if reach == 40 {
+        add_row::<40, 136, 144>(lanes, row);
+    } else if reach == 72 {
+        add_row::<72, 136, 144>(lanes, row);
+    } else {
+        add_row::<136, 136, 144>(lanes, row);
     }
 }
 

@@ -55,7 +55,7 @@ impl RowFilter {
         self.length = coefs.len();
         self.size = size_of_all(coefs);
         fill_near(&mut self.near, coefs);
-        fill_rows(&mut self.rows, &later);
+        fill_rows::<128, 128>(&mut self.rows, &later);
     }
 
     /// The sum of the coefficients' sizes: what they add upward at the most.

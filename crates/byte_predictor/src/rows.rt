@@ -38,12 +38,13 @@ pub(crate) fn zeros_sum(coefs: &[i16], first: usize) -> u16
     sum
 }
 
-fn lowest_row<const N: usize>(row: &mut [u16; N], later: &[i16])
+fn lowest_row<const L: usize, const N: usize>(row: &mut [u16; N], later: &[i16])
     requires range { (j : ℕ) → InRange filter_kind (get_or later.now j (pos 0)) }
-    requires few { N ≤ 136 }
-    ensures { (lane : ℕ) → lane < N → get_or row.new lane 0 ≡ upward_sum (drop lane later.now) (rising_bits 8 0) }
+    requires few { L ≤ 136 }
+    requires inside { L ≤ N }
+    ensures { (lane : ℕ) → lane < L → get_or row.new lane 0 ≡ upward_sum (drop lane later.now) (rising_bits 8 0) }
 {
-    for lane in 0..N {
+    for lane in 0..L {
         let sum = zeros_sum(later, lane);
         row[lane] = sum;
     }
@@ -51,65 +52,60 @@ fn lowest_row<const N: usize>(row: &mut [u16; N], later: &[i16])
 
 // The row of a byte with bit i from that of the byte without it.
 #[inline(always)]
-fn raise_row<const N: usize>(high: &mut [u16; N], low: &[u16; N], later: &[i16], i: usize)
+fn raise_row<const L: usize, const N: usize>(
+    high: &mut [u16; N],
+    low: &[u16; N],
+    later: &[i16],
+    i: usize,
+)
     requires place { i < 8 }
-    requires long { N + 8 ≤ length later.now }
-    requires least { (lane : ℕ) → lane < N → pos 0 ≤ℤ (pos (get_or low.now lane 0) +ℤ get_or later.now (lane + i) (pos 0)) }
-    requires most { (lane : ℕ) → lane < N → (pos (get_or low.now lane 0) +ℤ get_or later.now (lane + i) (pos 0)) ≤ℤ pos 65535 }
-    ensures { (lane : ℕ) → lane < N
+    requires inside { L ≤ N }
+    requires long { L + 8 ≤ length later.now }
+    requires least { (lane : ℕ) → lane < L → pos 0 ≤ℤ (pos (get_or low.now lane 0) +ℤ get_or later.now (lane + i) (pos 0)) }
+    requires most { (lane : ℕ) → lane < L → (pos (get_or low.now lane 0) +ℤ get_or later.now (lane + i) (pos 0)) ≤ℤ pos 65535 }
+    ensures { (lane : ℕ) → lane < L
         → pos (get_or high.new lane 0) ≡ pos (get_or low.now lane 0) +ℤ get_or later.now (lane + i) (pos 0) }
 {
-    for lane in 0..N {
+    for lane in 0..L {
         let sum = moved(low[lane], later[lane + i]);
         high[lane] = sum;
     }
 }
 
-/// Each row has for each lane what a byte adds there, by the coefficients from that lane on.
-pub(crate) fn fill_rows<const N: usize>(rows: &mut [[u16; N]; 256], later: &[i16])
+/// Each row has for each of its first `L` lanes what a byte adds there, by the coefficients from that lane on.
+pub(crate) fn fill_rows<const L: usize, const N: usize>(rows: &mut [[u16; N]; 256], later: &[i16])
     requires range { (j : ℕ) → InRange filter_kind (get_or later.now j (pos 0)) }
-    requires long { N + 8 ≤ length later.now }
-    requires few { N ≤ 136 }
-    ensures { (byte lane : ℕ) → byte < 256 → lane < N
+    requires long { L + 8 ≤ length later.now }
+    requires few { L ≤ 136 }
+    requires inside { L ≤ N }
+    ensures { (byte lane : ℕ) → byte < 256 → lane < L
         → get_or (get_or rows.new byte []) lane 0 ≡ upward_sum (drop lane later.now) (rising_bits 8 byte) }
 {
-    lowest_row(&mut rows[0], later);
+    lowest_row::<L, N>(&mut rows[0], later);
     let mut half = 1;
     for i in 0..8 {
         for byte in 0..half {
             let low = rows[byte];
-            raise_row(&mut rows[half + byte], &low, later, i);
+            raise_row::<L, N>(&mut rows[half + byte], &low, later, i);
         }
         half *= 2;
     }
 }
 
-/// Moves the lanes on by eight samples, and adds what these add.
+/// Moves the first `L` lanes on by eight samples, and adds what these add.
 #[inline(always)]
-pub(crate) fn add_row<const N: usize, const M: usize>(lanes: &mut [u16; M], row: &[u16; N])
-    requires { M ≡ N + 8 }
+pub(crate) fn add_row<const L: usize, const N: usize, const M: usize>(
+    lanes: &mut [u16; M],
+    row: &[u16; N],
+)
+    requires row { L ≤ N }
+    requires lanes { M ≡ N + 8 }
     ensures long { length lanes.new ≡ M }
-    ensures added { (lane : ℕ) → lane < N → get_or lanes.new lane 0 ≡ (get_or lanes.old (lane + 8) 0 + get_or row.now lane 0) % 65536 }
-    ensures last { (lane : ℕ) → N ≤ lane → get_or lanes.new lane 0 ≡ get_or lanes.old lane 0 }
+    ensures added { (lane : ℕ) → lane < L → get_or lanes.new lane 0 ≡ (get_or lanes.old (lane + 8) 0 + get_or row.now lane 0) % 65536 }
+    ensures last { (lane : ℕ) → L ≤ lane → get_or lanes.new lane 0 ≡ get_or lanes.old lane 0 }
 {
-    for lane in 0..N {
+    for lane in 0..L {
         let sum = lanes[lane + 8].wrapping_add(row[lane]);
         lanes[lane] = sum;
-    }
-}
-
-/// The same for the first groups of eight lanes alone.
-#[inline(always)]
-pub(crate) fn add_front(lanes: &mut [u16; 144], row: &[u16; 136], groups: usize)
-    requires { groups ≤ 17 }
-    ensures long { length lanes.new ≡ 144 }
-    ensures added { (lane : ℕ) → lane < 8 * groups → get_or lanes.new lane 0 ≡ (get_or lanes.old (lane + 8) 0 + get_or row.now lane 0) % 65536 }
-    ensures last { (lane : ℕ) → 8 * groups ≤ lane → get_or lanes.new lane 0 ≡ get_or lanes.old lane 0 }
-{
-    for group in 0..groups {
-        for place in 0..8usize {
-            let lane = 8 * group + place;
-            lanes[lane] = lanes[lane + 8].wrapping_add(row[lane]);
-        }
     }
 }

@@ -1,5 +1,5 @@
 // The codes of a channel's samples.
-ghost use Rattle.std.specs.Prelude.{◌≡◌, ℕ, ◌+◌, ◌-◌, ◌*◌, ◌/◌, ◌%◌, ◌^◌, ◌<◌, ◌≤◌, ◌==◌, pos, ◌-ℤ◌, length, get_or};
+ghost use Rattle.std.specs.Prelude.{◌≡◌, ℕ, ◌+◌, ◌-◌, ◌*◌, ◌/◌, ◌%◌, ◌^◌, ◌<◌, ◌≤◌, ◌==◌, pos, ◌-ℤ◌, Bool, if◌then◌else◌, length, get_or};
 ghost use Rattle.dst_spec.specs.Sample.{Shape};
 ghost use Rattle.frame_predictions.specs.Codes.{code_of as code_from, codes as codes_of};
 
@@ -41,28 +41,30 @@ fn write_byte(codes: &mut [u8], upward: &[u16; 8], size: u16, samples: u8)
         ≡ code_from (pos (2 * get_or upward.now place 0) -ℤ pos size) (samples / 2 ^ (7 - place) % 2 == 1) }
 {
     for place in 0..8usize {
-        codes[place] = code_of(upward[place], size, sample_at(samples, place));
+        let one = mark_at(samples, place);
+        codes[place] = code_of(upward[place], size, one) as u8;
     }
 }
 
-// The code of a sample whose prediction is twice what goes upward, less all sizes.
+// The code of a sample whose prediction is twice what goes upward, less all sizes. `one` is 64 where the sample is 1, and 0
+// where it is 0. All are numbers of sixteen bits, so that eight samples are worked at once.
 #[inline(always)]
-fn code_of(upward: u16, size: u16, one: bool) -> u8
+fn code_of(upward: u16, size: u16, one: u16) -> u16
     requires upward { upward ≤ size }
     requires size { size ≤ 32768 }
-    ensures { result ≡ code_from (pos (2 * upward) -ℤ pos size) one }
+    ensures { (sample : Bool) → one ≡ (if sample then 64 else 0) → result ≡ code_from (pos (2 * upward) -ℤ pos size) sample }
 {
     let downward = size - upward;
-    let place = (upward.abs_diff(downward) / 8).min(63) as u8;
-    let guess = upward >= downward;
+    let place = (upward.abs_diff(downward) / 8).min(63);
+    let guess = if upward >= downward { 64 } else { 0 };
     if one == guess { place } else { place + 64 }
 }
 
 // The earliest sample is in the most significant bit.
 #[inline(always)]
-fn sample_at(samples: u8, place: usize) -> bool
+fn mark_at(samples: u8, place: usize) -> u16
     requires { place < 8 }
-    ensures { result ≡ (samples / 2 ^ (7 - place) % 2 == 1) }
+    ensures { result ≡ (if samples / 2 ^ (7 - place) % 2 == 1 then 64 else 0) }
 {
-    (samples >> (7 - place)) % 2 == 1
+    (u16::from(samples) << place) / 128 % 2 * 64
 }

@@ -9,7 +9,7 @@ use Rattle.byte_predictor.proofs.rows.fill_rows.Given.{Over}
 use Rattle.byte_predictor.proofs.rows.fill_rows.Goals as goal
 
 -- what one coefficient more makes of the sum of a byte, in a lane
-raised : (g : Over) (c : goal.After-low-in-loop-byte-1 g) (lane : ℕ) → lane < g.row.N →
+raised : (g : Over) (c : goal.After-low-in-loop-byte-1 g) (lane : ℕ) → lane < g.row.L →
     let upward = upward_sum (drop lane c.args.later.now) (rising_bits 8 (c.loop-i.half + c.loop-byte.byte)) in
     (pos (get_or (get_or c.loop-byte.rows c.loop-byte.byte []) lane 0) +ℤ get_or c.args.later.now (lane + c.loop-i.i) (pos 0) ≡ pos upward) × (upward ≤ 2048)
 raised g c lane h =
@@ -19,15 +19,18 @@ raised g c lane h =
 
 pub raise_row-requires : goal.raise_row-requires
 raise_row-requires g c =
-    let few : g.row.N ≤ 136 = c.requires.few in (
+    let few : g.row.L ≤ 136 = c.requires.few in (
       omega arith,
       (
         omega arith,
         (
-          c.requires.long,
+          c.requires.inside,
           (
-            λ lane h. let r = raised g c lane h in omega (arith, ints, r.0, r.1),
-            λ lane h. let r = raised g c lane h in omega (arith, ints, r.0, r.1),
+            c.requires.long,
+            (
+              λ lane h. let r = raised g c lane h in omega (arith, ints, r.0, r.1),
+              λ lane h. let r = raised g c lane h in omega (arith, ints, r.0, r.1),
+            ),
           ),
         ),
       ),
@@ -36,14 +39,14 @@ raise_row-requires g c =
 pub loop-byte-preserved : goal.loop-byte-preserved
 loop-byte-preserved g c =
     let place = c.loop-i.half + c.loop-byte.byte in
-    let stored_is : (lane : ℕ) → lane < g.row.N → get_or c.raise_row.new.high lane 0 ≡ upward_sum (drop lane c.args.later.now)
+    let stored_is : (lane : ℕ) → lane < g.row.L → get_or c.raise_row.new.high lane 0 ≡ upward_sum (drop lane c.args.later.now)
     (rising_bits 8 (c.loop-i.half + c.loop-byte.byte)) = λ lane h.
     let r = raised g c.before lane h in
     omega (arith, ints, r.0, r.1, c.raise_row.ensures lane h) in
     let eighth : 2 * 2 ^ c.loop-i.i ≤ 256 = half-below c.loop-i.i (omega arith) in
     let power : c.loop-i.half ≡ 2 ^ c.loop-i.i = c.loop-i.invariant.0 in
     let inside : place < length c.loop-byte.rows = omega arith in (
-      λ b lane lt h. rows-more g.row.N c.loop-byte.rows place c.raise_row.new.high
+      λ b lane lt h. rows-more g.row.L c.loop-byte.rows place c.raise_row.new.high
           (λ k m. upward_sum (drop m c.args.later.now) (rising_bits 8 k)) inside c.loop-byte.invariant.0 stored_is b lane (omega arith) h,
       length-set c.loop-byte.rows place c.raise_row.new.high ∙ c.loop-byte.invariant.1,
     )

@@ -6,10 +6,10 @@ use Rattle.byte_predictor.proofs.rows.fill_rows.Given as goal
 abbrev pub invariant-loop-i : goal.invariant-loop-i
 invariant-loop-i g l =
     (l.half ≡ 2 ^ l.i)
-    × ((b lane : ℕ) → b < l.half → lane < g.row.N → get_or (get_or l.rows b []) lane 0 ≡ upward_sum (drop lane l.later) (rising_bits 8 b))
+    × ((b lane : ℕ) → b < l.half → lane < g.row.L → get_or (get_or l.rows b []) lane 0 ≡ upward_sum (drop lane l.later) (rising_bits 8 b))
     × (length l.rows ≡ 256)
 
 abbrev pub invariant-loop-byte : goal.invariant-loop-byte
 invariant-loop-byte g l =
-    ((b lane : ℕ) → b < l.half + l.byte → lane < g.row.N → get_or (get_or l.rows b []) lane 0 ≡ upward_sum (drop lane l.later) (rising_bits 8 b))
+    ((b lane : ℕ) → b < l.half + l.byte → lane < g.row.L → get_or (get_or l.rows b []) lane 0 ≡ upward_sum (drop lane l.later) (rising_bits 8 b))
     × (length l.rows ≡ 256)

@@ -3,7 +3,7 @@ use Rattle.byte_predictor.specs.Samples.{rising_bits, samples_of}
 use Rattle.byte_predictor.specs.Upward.{upward_sum, shifted}
 use Rattle.byte_predictor.specs.KnownRows.{HasKnownRows}
 use Rattle.byte_predictor.proofs.Lanes.{no_sums-at, nothing-ahead}
-use Rattle.byte_predictor.proofs.KnownSums.{known-taken, byte-more}
+use Rattle.byte_predictor.proofs.KnownSums.{known-taken, reach-few, byte-more}
 use Rattle.byte_predictor.proofs.known.KnownAhead.fresh.Goals as goal
 
 pub loop-turn-init : goal.loop-turn-init
@@ -12,15 +12,14 @@ loop-turn-init c = (refl, λ lane h. no_sums-at 144 lane ∙ nothing-ahead (drop
 pub loop-turn-preserved : goal.loop-turn-preserved
 loop-turn-preserved c =
     let coefs = c.args.filter.now in
-    let rule : HasKnownRows coefs c.filter.inside.rows c.filter.inside.size c.filter.inside.groups =
-    subst (λ t. HasKnownRows t c.filter.inside.rows c.filter.inside.size c.filter.inside.groups) c.filter.view_is c.filter.invariant in
+    let rule : HasKnownRows coefs c.filter.inside.rows c.filter.inside.size c.filter.inside.reach =
+    subst (λ t. HasKnownRows t c.filter.inside.rows c.filter.inside.size c.filter.inside.reach) c.filter.view_is c.filter.invariant in
     let turn = c.loop-turn.turn in
-    let most = rule.table.most in
     let more : rising_bits 8 170 ++ samples_of (replicate turn 170) ≡ samples_of (replicate (turn + 1) 170) = rw add-one (byte-more 170 turn) in (
-      c.add_row.ensures.long,
-      λ lane h. known-taken 136 coefs (samples_of (replicate turn 170)) c.loop-turn.lanes (get_or c.filter.inside.rows 170 []) c.add_row.new.lanes 170
-          rule.table.each most (omega arith) (omega arith) c.loop-turn.invariant.1 (λ l i. rule.added 170 l (omega arith) i) c.add_row.ensures.added
-          c.add_row.ensures.last lane h
+      c.add_reach.ensures.long,
+      λ lane h. known-taken c.filter.inside.reach coefs (samples_of (replicate turn 170)) c.loop-turn.lanes (get_or c.filter.inside.rows 170 []) c.add_reach.new.lanes 170
+          rule.table.each rule.table.most rule.all (reach-few c.filter.inside.reach rule.is_reach) c.loop-turn.invariant.1 (λ l i. rule.added 170 l (omega arith) i) c.add_reach.ensures.added
+          c.add_reach.ensures.last lane h
           ∙ ap (upward_sum (drop lane (shifted coefs))) more,
     )
 
