@@ -1,5 +1,5 @@
 -- The symbol of a sample, from the entry of its prediction.
-use Rattle.std.proofs.Common.{◌≡◌, ℕ, ◌+◌, ◌%◌, ◌≤◌, ℤ, Bool, true, false, not, if◌then◌else◌, nat_lt, List, ◌∷◌, length, get_or, subst₂, refl, ap, ap₂}
+use Rattle.std.proofs.Common.{◌≡◌, ℕ, ◌+◌, ◌%◌, ◌≤◌, ℤ, Bool, true, false, not, if◌then◌else◌, nat_lt, List, ◌∷◌, length, subst₂, refl, ap, ap₂}
 use Rattle.std.proofs.Common.{sym, ◌∙◌, arith}
 use Rattle.std.proofs.lemmas.Bool.Decides.{nat_tests}
 use Rattle.std.specs.Int.{is_negative}

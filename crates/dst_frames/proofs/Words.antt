@@ -1,7 +1,7 @@
 -- The words of sums: of those within the places of a probability table, and of those beyond.
 use Rattle.std.proofs.Common.{◌≡◌, ◌≢◌, ◌⊎◌, inl, inr, ℕ, ◌+◌, ◌-◌, ◌*◌, ◌/◌, ◌%◌, ◌<◌, ◌≤◌, min, ℤ, pos, negsuc, ◌-ℤ◌, nat_abs, nat_lt, nat_eq}
 use Rattle.std.proofs.Common.{Bool, true, false, List, length, get_or, set, get_or-set_same, get_or-set_other, length-set, below_more, refl, ap, sym}
-use Rattle.std.proofs.Common.{◌∙◌, subst}
+use Rattle.std.proofs.Common.{◌∙◌}
 use Rattle.std.proofs.Common.{arith, le-ltb, lt-ltb}
 use Rattle.std.proofs.lemmas.Bool.{cases_lt, eqb-true, eqb-false}
 use Rattle.std.proofs.lemmas.Int.{ints}

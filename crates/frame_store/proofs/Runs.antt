@@ -1,15 +1,17 @@
 -- The symbols of some samples of all channels, and the steps that are theirs.
 use Rattle.std.proofs.Common.{◌≡◌, ℕ, zero, suc, ◌+◌, ◌-◌, ◌*◌, ◌/◌, ◌%◌, ◌<◌, ◌≤◌, min, nat_lt, Bool, true, false, if◌then◌else◌, List, [], ◌∷◌, ◌++◌}
-use Rattle.std.proofs.Common.{flat_map, length, get_or, take, refl, ap, ap₂, sym, subst, ◌∙◌, arith, lt-ltb, le-ltb, length-append, length-take-le, get_or-take}
+use Rattle.std.proofs.Common.{flat_map, length, get_or, take, refl, ap, ap₂, sym, subst, ◌∙◌, arith, add-one, lt-ltb, le-ltb, length-append}
+use Rattle.std.proofs.Common.{length-take-le, get_or-take}
 use Rattle.std.proofs.lemmas.Nat.{div-add-mod', mod_below}
-use Rattle.std.proofs.lemmas.List.{get_or_append_left, get_or-append_right}
+use Rattle.std.proofs.lemmas.List.{append-nil, append_assoc, get_or_append_left, get_or-append_right}
 use Rattle.std.proofs.lemmas.List.FromFn.{length-map-range_with_len, get_or-map-range_with_len}
 use Rattle.std.proofs.lemmas.Grind.{flat_map-append}
 use Rattle.std.specs.List.{range_with_len}
 use Rattle.dst_spec.specs.Sample.{Shape}
 use Rattle.dst_spec.specs.Header.{Params}
 use Rattle.dst_spec.specs.Guess.{filter_of, probs_of, probability, as_guessed}
-use Rattle.dst_spec.specs.Symbols.{reserved_probability, symbols_at, symbols_before}
+use Rattle.dst_spec.specs.Symbols.{symbols_at, symbols_before}
+use Rattle.dst_spec.proofs.SymbolsBefore.{range-more, symbols_before-more}
 use Rattle.arith_encoder.specs.Lanes.{IsStep, AreSteps}
 use Rattle.dst_frames.proofs.Early.{at_the_start}
 use Rattle.frame_predictions.specs.Codes.{codes}
@@ -22,25 +24,27 @@ use Rattle.frame_store.proofs.Placed.{Tells}
 abbrev pub symbols_from : Shape → Params → List ℕ → ℕ → ℕ → List (Bool × ℕ)
 symbols_from f P sound from count = flat_map (λ u. symbols_at f P sound u f.channels) (range_with_len from count)
 
-range-split : (a m n : ℕ) → range_with_len a (m + n) ≡ range_with_len a m ++ range_with_len (a + m) n
-range-split a zero n =
-    let here : a + zero ≡ a = omega arith in
-    let all : zero + n ≡ n = omega arith in
-    ap (range_with_len a) all ∙ ap (λ k. range_with_len k n) (sym here)
-range-split a (suc m) n =
-    let next : suc m + n ≡ suc (m + n) = omega arith in
-    let e : a + 1 + m ≡ a + suc m = omega arith in
-    ap (range_with_len a) next ∙ ap (λ xs. a ∷ xs) (range-split (a + 1) m n ∙ ap (λ k. range_with_len (a + 1) m ++ range_with_len k n) e)
+-- one more sample of each channel
+symbols_from-more : (f : Shape) (P : Params) (sound : List ℕ) (from n : ℕ) →
+    symbols_from f P sound from (n + 1) ≡ symbols_from f P sound from n ++ symbols_at f P sound (from + n) f.channels
+symbols_from-more f P sound from n =
+    let g = λ (u : ℕ). symbols_at f P sound u f.channels in
+    ap (flat_map g) (range-more from n) ∙ flat_map-append g (range_with_len from n) ((from + n) ∷ [])
+    ∙ ap (λ xs. flat_map g (range_with_len from n) ++ xs) (append-nil (g (from + n)))
 
 pub symbols-more : (f : Shape) (P : Params) (sound : List ℕ) (reserved : Bool) (from count : ℕ) →
     symbols_before f P sound reserved (from + count) ≡ symbols_before f P sound reserved from ++ symbols_from f P sound from count
-unfolding symbols_before
-symbols-more f P sound reserved from count =
-    let g = λ (u : ℕ). symbols_at f P sound u f.channels in
-    let here : 0 + from ≡ from = omega arith in
-    ap (λ xs. (reserved, reserved_probability P) ∷ xs)
-    (ap (flat_map g) (range-split 0 from count ∙ ap (λ k. range_with_len 0 from ++ range_with_len k count) here)
-    ∙ flat_map-append g (range_with_len 0 from) (range_with_len from count))
+symbols-more f P sound reserved from zero =
+    let none : from + zero ≡ from = omega arith in
+    ap (symbols_before f P sound reserved) none ∙ sym (append-nil (symbols_before f P sound reserved from))
+symbols-more f P sound reserved from (suc n) =
+    let before = symbols_before f P sound reserved in
+    let next : from + suc n ≡ from + n + 1 = omega arith in
+    ap before next ∙ symbols_before-more f P sound reserved (from + n)
+    ∙ ap (λ xs. xs ++ symbols_at f P sound (from + n) f.channels) (symbols-more f P sound reserved from n)
+    ∙ append_assoc (before from) (symbols_from f P sound from n) (symbols_at f P sound (from + n) f.channels)
+    ∙ ap (λ xs. before from ++ xs) (sym (symbols_from-more f P sound from n))
+    ∙ ap (λ k. before from ++ symbols_from f P sound from k) (add-one n)
 
 symbols-long : (f : Shape) (P : Params) (sound : List ℕ) (from count : ℕ) → length (symbols_from f P sound from count) ≡ count * f.channels
 symbols-long f P sound from zero = omega arith

@@ -1,7 +1,6 @@
-use Rattle.std.proofs.Common.{◌≡◌, ◌⊎◌, inl, inr, ◌+◌, ◌-◌, ◌*◌, ◌%◌, ◌<◌, ◌≤◌, min, pos, ◌-ℤ◌, length, map, get_or, ap, sym, subst, arith}
+use Rattle.std.proofs.Common.{◌≡◌, ◌⊎◌, inl, inr, ◌-◌, ◌*◌, ◌%◌, ◌<◌, ◌≤◌, min, pos, ◌-ℤ◌, length, map, get_or, sym, subst, arith}
 use Rattle.std.proofs.lemmas.Bool.{cases_lt}
 use Rattle.std.proofs.lemmas.List.{length-map}
-use Rattle.byte_predictor.specs.Samples.{signed_sum}
 use Rattle.byte_predictor.specs.Upward.{upward_sum, size_sum}
 use Rattle.dst_frames.specs.Tables.{IsEntry}
 use Rattle.dst_frames.specs.Words.{entry_for}

@@ -1,6 +1,5 @@
-use Rattle.std.proofs.Common.{◌*◌, ◌%◌, pos, ◌-ℤ◌, subst, ◌∙◌, w32, SFits, rules}
+use Rattle.std.proofs.Common.{◌%◌, subst, ◌∙◌, w32, SFits, rules}
 use Rattle.std.proofs.lemmas.Int.{to_z-of_z}
-use Rattle.byte_predictor.specs.Upward.{size_sum}
 use Rattle.dst_frames.specs.Tables.{IsEntry}
 use Rattle.dst_frames.proofs.fill.word_at.Goals as goal
 

@@ -15,10 +15,13 @@ loop-turn-preserved c =
     let rule : HasKnownRows coefs c.filter.inside.rows c.filter.inside.size c.filter.inside.reach =
     subst (λ t. HasKnownRows t c.filter.inside.rows c.filter.inside.size c.filter.inside.reach) c.filter.view_is c.filter.invariant in
     let turn = c.loop-turn.turn in
+    let reach = c.filter.inside.reach in
+    let before = samples_of (replicate turn 170) in
+    let row = get_or c.filter.inside.rows 170 [] in
     let more : rising_bits 8 170 ++ samples_of (replicate turn 170) ≡ samples_of (replicate (turn + 1) 170) = rw add-one (byte-more 170 turn) in (
       c.add_reach.ensures.long,
-      λ lane h. known-taken c.filter.inside.reach coefs (samples_of (replicate turn 170)) c.loop-turn.lanes (get_or c.filter.inside.rows 170 []) c.add_reach.new.lanes 170
-          rule.table.each rule.table.most rule.all (reach-few c.filter.inside.reach rule.is_reach) c.loop-turn.invariant.1 (λ l i. rule.added 170 l (omega arith) i) c.add_reach.ensures.added
+      λ lane h. known-taken reach coefs before c.loop-turn.lanes row c.add_reach.new.lanes 170 rule.table.each rule.table.most rule.all
+          (reach-few reach rule.is_reach) c.loop-turn.invariant.1 (λ l i. rule.added 170 l (omega arith) i) c.add_reach.ensures.added
           c.add_reach.ensures.last lane h
           ∙ ap (upward_sum (drop lane (shifted coefs))) more,
     )

@@ -1,4 +1,4 @@
-use Rattle.std.proofs.Common.{get_or, replicate, refl, sym, subst}
+use Rattle.std.proofs.Common.{sym, subst}
 use Rattle.std.proofs.lemmas.List.{get_or-replicate, length-replicate}
 use Rattle.arith_lanes.specs.Words.{IsWord}
 use Rattle.dst_frames.proofs.word_table.WordTable.new.Goals as goal
