@@ -4,10 +4,14 @@ ghost use Rattle.frame_crew.specs.Answers.{IfFeedFault, IfDrainFault};
 ghost use Rattle.frame_crew.specs.Batch.{IsDrained, FailsAmong};
 ghost use Rattle.frame_crew.specs.Runs.{Ran, FailsAtFeed, FailsAtDrain};
 
+use crate::batch::start_thread_without_work;
 use crate::drain::drain_all;
 use crate::feed::{Stop, fill_batch};
 use crate::{Drain, Feed, FrameWork, Gate, run_batch};
 use std::thread::Threads;
+
+// In so many batches at the beginning of a run, a thread without work is started before the workers'.
+const YOUNG: usize = 16;
 
 /// Who answered the fault that ended a run.
 #[derive(Debug, Drop)]
@@ -82,6 +86,9 @@ pub fn run_ordered<R: Threads + Sync, W: FrameWork, F: Feed<W::Job>, D: Drain<W:
     let mut drained = 0u32;
     loop {
         let (filled, stop) = fill_batch(feed, jobs);
+        if filled > 1 && scratches.len() > 1 && drained as usize / jobs.len() < YOUNG {
+            start_thread_without_work(rt);
+        }
         match work_and_drain(rt, work, drain, gate, scratches, &mut jobs[..filled]) {
             Ok(()) => drained += filled as u32,
             Err(fault) => return Err(RunFault::Drain(fault)),
