@@ -1,5 +1,5 @@
 -- Bits with the least significant first, and samples in bytes.
-use Rattle.std.proofs.Common.{◌≡◌, Bool, true, false, ℕ, zero, suc, ◌+◌, ◌*◌, ◌/◌, ◌%◌, ◌^◌, ◌<◌, List, [], ◌∷◌, ◌++◌, length, get_or, take}
+use Rattle.std.proofs.Common.{◌≡◌, Bool, true, false, ℕ, zero, suc, ◌+◌, ◌*◌, ◌/◌, ◌%◌, ◌^◌, ◌<◌, List, [], ◌∷◌, ◌++◌, length, get_or, take, drop}
 use Rattle.std.proofs.Common.{replicate, refl, ap, sym, subst, ◌∙◌, arith, add-one, append_assoc, length-append}
 use Rattle.std.proofs.lemmas.List.{append-nil, take_at, get_or_append_left, get_or-append-add}
 use Rattle.std.proofs.lemmas.Nat.{field_of, shr-shr, mod-pow-add}
@@ -54,6 +54,50 @@ carry-through carry byte h k =
     let rest : (byte % 128 * 2 + carry) / 2 ≡ byte % 128 = omega arith in
     let top : byte / 128 % 2 ≡ byte / 128 = omega arith in
     rw (last, step, low, rest, top) refl
+
+-- Sixteen samples do the same.
+pub carry-through-sixteen : (carry newest : ℕ) → carry < 2 → newest < 65536 →
+    carry ∷ rising_bits 16 newest ≡ rising_bits 16 (newest % 32768 * 2 + carry) ++ (newest / 32768) ∷ []
+carry-through-sixteen carry newest h k =
+    let step : rising_bits 16 (newest % 32768 * 2 + carry) ≡ (newest % 32768 * 2 + carry) % 2 ∷ rising_bits 15 ((newest % 32768 * 2 + carry) / 2) =
+    rising_bits-step 15 (newest % 32768 * 2 + carry) in
+    let last : rising_bits 16 newest ≡ rising_bits 15 (newest % 32768) ++ (newest / 32768 % 2) ∷ [] = rising_bits-last 15 newest in
+    let low : (newest % 32768 * 2 + carry) % 2 ≡ carry = omega arith in
+    let rest : (newest % 32768 * 2 + carry) / 2 ≡ newest % 32768 = omega arith in
+    let top : newest / 32768 % 2 ≡ newest / 32768 = omega arith in
+    rw (last, step, low, rest, top) refl
+
+-- the low bits alone
+pub rising_bits-mod : (n x : ℕ) → rising_bits n (x % 2 ^ n) ≡ rising_bits n x
+unfolding rising_bits
+rising_bits-mod zero x = refl
+rising_bits-mod (suc n) x =
+    let low : x % 2 ^ suc n % 2 ≡ x % 2 = subst (λ m. x % 2 ^ m % 2 ≡ x % 2) (add-one n) (omega (arith, mod-pow-add x n 1)) in
+    let rest : x % 2 ^ suc n / 2 ≡ x / 2 % 2 ^ n = subst (λ m. x % 2 ^ m / 2 ≡ x / 2 % 2 ^ n) (add-one n) (field_of x n 1) in
+    rw (low, rest) (ap (λ t. x % 2 ∷ t) (rising_bits-mod n (x / 2)))
+
+-- the first of some bits
+pub rising_bits-take : (m k x : ℕ) → take m (rising_bits (m + k) x) ≡ rising_bits m x
+unfolding rising_bits
+rising_bits-take zero k x = refl
+rising_bits-take (suc m) k x =
+    let more : suc m + k ≡ suc (m + k) = omega arith in
+    rw more (ap (λ t. x % 2 ∷ t) (rising_bits-take m k (x / 2)))
+
+-- the bits behind some
+pub rising_bits-drop : (k n x : ℕ) → drop k (rising_bits (k + n) x) ≡ rising_bits n (x / 2 ^ k)
+unfolding rising_bits
+rising_bits-drop zero n x =
+    let none : 0 + n ≡ n = omega arith in
+    rw none (ap (rising_bits n) (the_whole x))
+  where
+    the_whole : (x : ℕ) → x ≡ x / 1
+    the_whole x = omega arith
+rising_bits-drop (suc k) n x =
+    let turned : 1 + k ≡ suc k = omega arith in
+    let top : x / 2 / 2 ^ k ≡ x / 2 ^ suc k = subst (λ m. x / 2 / 2 ^ k ≡ x / 2 ^ m) turned (shr-shr x 1 k) in
+    let more : suc k + n ≡ suc (k + n) = omega arith in
+    rw more (rising_bits-drop k n (x / 2) ∙ ap (rising_bits n) top)
 
 pub samples_of-append : (xs ys : List ℕ) → samples_of (xs ++ ys) ≡ samples_of xs ++ samples_of ys
 unfolding samples_of

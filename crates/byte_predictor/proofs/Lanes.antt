@@ -1,15 +1,17 @@
 -- Rows of sums, and the lanes of the sums ahead.
-use Rattle.std.proofs.Common.{◌≡◌, ℕ, zero, suc, ◌+◌, ◌-◌, ◌*◌, ◌/◌, ◌%◌, ◌^◌, ◌<◌, ◌≤◌, ◌⊎◌, inl, inr, ℤ, pos, ◌+ℤ◌, neg_ℤ, List, [], ◌∷◌, ◌++◌}
+use Rattle.std.proofs.Common.{◌≡◌, ℕ, zero, suc, ◌+◌, ◌-◌, ◌*◌, ◌%◌, ◌^◌, ◌<◌, ◌≤◌, ◌⊎◌, inl, inr, ℤ, pos, ◌+ℤ◌, neg_ℤ, List, [], ◌∷◌, ◌++◌}
 use Rattle.std.proofs.Common.{length, get_or, take, drop, set, replicate, refl, ap, subst, sym, ◌∙◌, arith, add-one}
 use Rattle.std.proofs.lemmas.Int.{ints}
-use Rattle.std.proofs.lemmas.List.{get_or-drop, get_or_past, length-drop, take_at, drop_at, take-take, take-append-drop}
+use Rattle.std.proofs.lemmas.List.{get_or-drop, get_or_past, length-drop, take_at, drop_at, drop-drop, take-append-drop}
 use Rattle.std.proofs.lemmas.Bool.{cases_lt}
 use Rattle.std.specs.List.{AllByRecursion}
 use Rattle.dst_spec.specs.Table.{filter_kind, InRange}
 use Rattle.byte_predictor.specs.Samples.{rising_bits, samples_of}
 use Rattle.byte_predictor.specs.Upward.{above_zero, upward_sum, size_sum, far}
 use Rattle.byte_predictor.specs.RowSums.{HasRows}
-use Rattle.byte_predictor.proofs.Bits.{length-rising_bits, carry-through}
+use Rattle.byte_predictor.specs.SumsAhead.{left_out}
+use Rattle.byte_predictor.proofs.Bits.{length-rising_bits}
+use Rattle.byte_predictor.proofs.Late.{near-lane, late-lane}
 use Rattle.byte_predictor.proofs.Sums.{each-drop, coef-range}
 use Rattle.byte_predictor.proofs.Upward.{upward_sum-none, upward_sum-raised, upward_sum-zeros, upward_sum-below, upward_sum-within, upward_sum-same}
 use Rattle.byte_predictor.proofs.Upward.{upward_sum-empty, upward_sum-split, upward_sum-byte}
@@ -127,6 +129,16 @@ zeros-step coefs first i sum size coef range h is e s =
     (rw add-one whole, omega (arith, whole, bound, length-rising_bits (suc i) 0))
 
 -- a byte of samples goes into a lane
+pub moved-lane : (n : ℕ) (xs : List ℤ) (lane : ℕ) (older lanes row new : List ℕ) (byte : ℕ) → AllByRecursion (InRange filter_kind) xs →
+    length xs ≤ n → n ≤ 136 → get_or lanes (lane + 8) 0 ≡ upward_sum (drop (lane + 8) xs) older →
+    get_or row lane 0 ≡ upward_sum (drop lane xs) (rising_bits 8 byte) → get_or new lane 0 ≡ (get_or lanes (lane + 8) 0 + get_or row lane 0) % 65536 →
+    get_or new lane 0 ≡ upward_sum (drop lane xs) (rising_bits 8 byte ++ older)
+moved-lane n xs lane older lanes row new byte each short few old is after =
+    let whole = upward_sum-byte xs lane byte older in
+    let bound = lane-below n xs lane (rising_bits 8 byte ++ older) each short in
+    omega (arith, whole, old, is, bound, after)
+
+-- a byte of samples goes into some lanes, the others are none
 pub added-lane : (n total : ℕ) (xs : List ℤ) (older lanes row new : List ℕ) (byte : ℕ) → AllByRecursion (InRange filter_kind) xs →
     length xs ≤ n → n ≤ 136 → n + 8 ≤ total →
     ((lane : ℕ) → lane < total → get_or lanes lane 0 ≡ upward_sum (drop lane xs) older) →
@@ -136,20 +148,12 @@ pub added-lane : (n total : ℕ) (xs : List ℤ) (older lanes row new : List ℕ
     get_or new lane 0 ≡ upward_sum (drop lane xs) (rising_bits 8 byte ++ older)
 added-lane n total xs older lanes row new byte each short few room sums is moved stays lane h = by_case (cases_lt lane n)
   where
-    samples : List ℕ
-    samples = rising_bits 8 byte ++ older
-
     by_case : (lane < n) ⊎ (n ≤ lane) → get_or new lane 0 ≡ upward_sum (drop lane xs) (rising_bits 8 byte ++ older)
-    by_case (inl lt) =
-        let whole = upward_sum-byte xs lane byte older in
-        let old = sums (lane + 8) (omega arith) in
-        let bound = lane-below n xs lane samples each short in
-        let after = moved lane lt in
-        omega (arith, whole, old, is lane lt, bound, after)
+    by_case (inl lt) = moved-lane n xs lane older lanes row new byte each short few (sums (lane + 8) (omega arith)) (is lane lt) (moved lane lt)
     by_case (inr le) =
         let old = sums lane h in
         let none = lane-below n xs lane older each short in
-        let still_none = lane-below n xs lane samples each short in
+        let still_none = lane-below n xs lane (rising_bits 8 byte ++ older) each short in
         omega (arith, old, none, still_none, stays lane le)
 
 -- the same where the samples are told whole
@@ -164,6 +168,71 @@ taken-lane coefs samples lanes row new byte each short newest sums is moved stay
     added-lane 128 136 (far coefs) (drop 8 samples) lanes row new byte far_is.0 far_is.1 (omega arith) (omega arith) sums is moved stays lane h
     ∙ ap (upward_sum (drop lane (far coefs))) (ap (λ t. t ++ drop 8 samples) newest ∙ take-append-drop 8 samples)
 
+-- one lane alone
+pub taken-here : (coefs : List ℤ) (samples lanes row new : List ℕ) (byte lane : ℕ) → AllByRecursion (InRange filter_kind) coefs → length coefs ≤ 128 →
+    rising_bits 8 byte ≡ take 8 samples → get_or lanes (lane + 8) 0 ≡ upward_sum (drop (lane + 8) (far coefs)) (drop 8 samples) →
+    get_or row lane 0 ≡ upward_sum (drop lane (far coefs)) (rising_bits 8 byte) → get_or new lane 0 ≡ (get_or lanes (lane + 8) 0 + get_or row lane 0) % 65536 →
+    get_or new lane 0 ≡ upward_sum (drop lane (far coefs)) samples
+taken-here coefs samples lanes row new byte lane each short newest old is after =
+    let far_is = far-each coefs each short in
+    moved-lane 128 (far coefs) lane (drop 8 samples) lanes row new byte far_is.0 far_is.1 (omega arith) old is after
+    ∙ ap (upward_sum (drop lane (far coefs))) (ap (λ t. t ++ drop 8 samples) newest ∙ take-append-drop 8 samples)
+
+-- The first lanes have a byte of samples, the others don't yet.
+pub front-taken : (n : ℕ) (coefs : List ℤ) (samples lanes row new : List ℕ) (byte : ℕ) → AllByRecursion (InRange filter_kind) coefs → length coefs ≤ 128 →
+    rising_bits 8 byte ≡ take 8 samples → ((lane : ℕ) → lane < 136 → get_or lanes lane 0 ≡ upward_sum (drop lane (far coefs)) (drop 8 samples)) →
+    ((lane : ℕ) → lane < 16 → get_or row lane 0 ≡ upward_sum (drop lane (far coefs)) (rising_bits 8 byte)) →
+    ((lane : ℕ) → lane < 16 → get_or new lane 0 ≡ (get_or lanes (lane + 8) 0 + get_or row lane 0) % 65536) →
+    ((lane : ℕ) → 16 ≤ lane → get_or new lane 0 ≡ get_or lanes lane 0) → (lane : ℕ) → lane < 136 →
+    get_or new lane 0 ≡ upward_sum (drop lane (far coefs)) (drop (left_out (n + 1) 0 lane) samples)
+front-taken n coefs samples lanes row new byte each short newest sums is moved stays lane h = by_case (cases_lt lane 16)
+  where
+    by_case : (lane < 16) ⊎ (16 ≤ lane) → get_or new lane 0 ≡ upward_sum (drop lane (far coefs)) (drop (left_out (n + 1) 0 lane) samples)
+    by_case (inl lt) =
+        taken-here coefs samples lanes row new byte lane each short newest (sums (lane + 8) (omega arith)) (is lane lt) (moved lane lt)
+        ∙ ap (λ m. upward_sum (drop lane (far coefs)) (drop m samples)) (sym (near-lane (n + 1) 0 lane lt))
+    by_case (inr le) =
+        stays lane le
+        ∙ sums lane h
+        ∙ ap (λ m. upward_sum (drop lane (far coefs)) (drop m samples)) (sym (late-lane (n + 1) 0 lane le (omega arith)))
+
+-- a lane behind all coefficients has nothing, whatever the samples
+pub none-there : (coefs : List ℤ) (lane : ℕ) (samples others : List ℕ) → AllByRecursion (InRange filter_kind) coefs → length coefs ≤ 128 → 128 ≤ lane →
+    upward_sum (drop lane (far coefs)) samples ≡ upward_sum (drop lane (far coefs)) others
+none-there coefs lane samples others each short behind =
+    let far_is = far-each coefs each short in
+    omega (arith, lane-below 128 (far coefs) lane samples far_is.0 far_is.1, lane-below 128 (far coefs) lane others far_is.0 far_is.1)
+
+-- The lanes that didn't have a byte get it, after `place` newer samples.
+pub rest-taken : (coefs : List ℤ) (place : ℕ) (samples lanes row new : List ℕ) (byte : ℕ) → AllByRecursion (InRange filter_kind) coefs →
+    length coefs ≤ 128 → rising_bits 8 byte ≡ take 8 (drop place samples) →
+    ((lane : ℕ) → lane < 136 → get_or lanes lane 0 ≡ upward_sum (drop lane (far coefs)) (drop (left_out (place + 1) place lane) samples)) →
+    ((lane : ℕ) → lane < 128 → get_or row lane 0 ≡ upward_sum (drop lane (far coefs)) (rising_bits 8 byte)) →
+    ((lane : ℕ) → lane < 16 → get_or new lane 0 ≡ get_or lanes lane 0) →
+    ((lane : ℕ) → 16 ≤ lane → lane < 128 → get_or new lane 0 ≡ (get_or lanes (lane + 8) 0 + get_or row lane 0) % 65536) →
+    ((lane : ℕ) → 128 ≤ lane → get_or new lane 0 ≡ get_or lanes lane 0) → (lane : ℕ) → lane < 136 →
+    get_or new lane 0 ≡ upward_sum (drop lane (far coefs)) (drop place samples)
+rest-taken coefs place samples lanes row new byte each short newest sums is front moved stays lane h = by_case (cases_lt lane 16) (cases_lt lane 128)
+  where
+    far_lane : (lane : ℕ) → lane < 136 → 16 ≤ lane → get_or lanes lane 0 ≡ upward_sum (drop lane (far coefs)) (drop 8 (drop place samples))
+    far_lane lane h le =
+        sums lane h
+        ∙ ap (λ m. upward_sum (drop lane (far coefs)) (drop m samples)) (late-lane (place + 1) place lane le (omega arith))
+        ∙ ap (upward_sum (drop lane (far coefs))) (sym (drop-drop 8 place samples))
+
+    by_case : (lane < 16) ⊎ (16 ≤ lane) → (lane < 128) ⊎ (128 ≤ lane) → get_or new lane 0 ≡ upward_sum (drop lane (far coefs)) (drop place samples)
+    by_case (inl lt) when =
+        front lane lt
+        ∙ sums lane h
+        ∙ ap (λ m. upward_sum (drop lane (far coefs)) (drop m samples)) (near-lane (place + 1) place lane lt)
+    by_case (inr le) (inl lt) =
+        taken-here coefs (drop place samples) lanes row new byte lane each short newest (far_lane (lane + 8) (omega arith) (omega arith)) (is lane lt)
+        (moved lane le lt)
+    by_case (inr le) (inr behind) =
+        stays lane behind
+        ∙ far_lane lane h le
+        ∙ none-there coefs lane (drop 8 (drop place samples)) (drop place samples) each short behind
+
 -- what the newest samples and a lane give together
 pub looked-up : (coefs : List ℤ) (place : ℕ) (samples : List ℕ) (byte lane near : ℕ) → AllByRecursion (InRange filter_kind) coefs → length coefs ≤ 128 →
     place ≤ 8 → rising_bits 8 byte ≡ take 8 samples → lane ≡ upward_sum (drop place (far coefs)) (drop place samples) →
@@ -173,17 +242,6 @@ looked-up coefs place samples byte lane near each short few newest is by_newest 
     let front = by_newest ∙ ap (upward_sum coefs) newest in
     let bound = upward_sum-below coefs samples each in
     omega (arith, split, front, is, bound)
-
--- the newest eight samples after one more
-pub newest-pushed : (byte bit : ℕ) (samples : List ℕ) → bit < 2 → byte < 256 → rising_bits 8 byte ≡ take 8 samples →
-    rising_bits 8 (byte % 128 * 2 + bit) ≡ take 8 (bit ∷ samples)
-newest-pushed byte bit samples small fits newest =
-    let through = carry-through bit byte small fits in
-    let new = rising_bits 8 (byte % 128 * 2 + bit) in
-    sym (take_at new ((byte / 128) ∷ []) 8 (length-rising_bits 8 (byte % 128 * 2 + bit)))
-    ∙ ap (take 8) (sym through)
-    ∙ ap (λ t. bit ∷ take 7 t) newest
-    ∙ ap (λ t. bit ∷ t) (take-take 7 8 samples (omega arith))
 
 by_suc : (byte n : ℕ) → samples_of (replicate (suc n) byte) ≡ rising_bits 8 byte ++ samples_of (replicate n byte)
 unfolding samples_of
@@ -214,13 +272,15 @@ byte-again byte n =
       ap (drop 8) whole ∙ drop_at front (samples_of (replicate n byte)) 8 long,
     )
 
-pub drop-pushed : (place bit : ℕ) (samples : List ℕ) → drop place samples ≡ drop (place + 1) (bit ∷ samples)
-drop-pushed place bit samples = rw add-one refl
-
 pub no_rows-at : (w n k lane : ℕ) → ◌≡◌ {A = ℕ} (get_or {A = ℕ} (get_or {A = List ℕ} (replicate {A = List ℕ} n (replicate {A = ℕ} w 0)) k []) lane 0) 0
 no_rows-at w zero k lane = refl
 no_rows-at w (suc n) zero lane = no_sums-at w lane
 no_rows-at w (suc n) (suc k) lane = no_rows-at w n k lane
+
+-- the rows of a filter, by the coefficients that callers see
+pub rows-seen : {inside coefs : List ℤ} {rows : List (List ℕ)} {near : List ℕ} {size : ℕ} → inside ≡ coefs → HasRows inside rows near size →
+    HasRows coefs rows near size
+rows-seen {inside} {coefs} {rows} {near} {size} same rule = subst (λ t. HasRows t rows near size) same rule
 
 lone-far : (j : ℕ) → get_or (far (pos 0 ∷ [])) j (pos 0) ≡ pos 0
 unfolding far

@@ -2,6 +2,7 @@ pub mod Bits
 pub mod Sums
 pub mod Before
 pub mod Upward
+pub mod Late
 pub mod Lanes
 pub mod Ones
 pub mod Pushed

@@ -1,8 +1,8 @@
 -- The sums ahead of one channel of eight frames.
-use Rattle.std.specs.Prelude.{ℕ, ◌%◌, [], get_or}
-use Rattle.byte_predictor.specs.declared.ahead.Ahead.{Ahead}
+use Rattle.std.specs.Prelude.{ℕ, ◌+◌, [], get_or}
+use Rattle.byte_predictor.specs.SumsAhead.{SumsAhead}
 use Rattle.byte_predictor.specs.declared.eight.EightAhead.{EightAhead}
 
--- those of one frame
-abbrev pub ahead_at : EightAhead → ℕ → Ahead
-ahead_at s n = record { lanes = get_or s.sums n []; newest = get_or s.newest n 0 % 256 }
+-- Those of one frame. Each frame is late by one sample more than the one before it, so that no two add their rows at one sample.
+abbrev pub ahead_at : EightAhead → ℕ → SumsAhead
+ahead_at s n = record { lanes = get_or s.sums n []; newest = get_or s.newest n 0; late = n + 1 }

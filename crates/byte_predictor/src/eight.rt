@@ -6,16 +6,17 @@ ghost use Rattle.byte_predictor.specs.Upward.{upward_sum};
 ghost use Rattle.byte_predictor.specs.SumsAhead.{IsAhead};
 ghost use Rattle.byte_predictor.specs.Eight.{ahead_at};
 
-use crate::ahead::Ahead;
+use crate::ahead::{lanes_before, pushed};
 use crate::row_filter::RowFilter;
-use crate::rows::add_row;
+use crate::rows::{add_rest, add_row};
 
-/// What [`Ahead`] has, of one channel of eight frames side by side. The newest samples of all eight are in one array, so that a plain
-/// loop takes the next one of each.
+/// What [`Ahead`](crate::Ahead) has, of one channel of eight frames side by side. The newest samples of all eight are in one array, so that a
+/// plain loop takes the next one of each. Most of a byte's row is added while the next byte's samples are taken, that of frame `n` beside
+/// its sample `n`: the processor then fetches a row beside other work.
 #[derive(Drop)]
 pub struct EightAhead {
     sums: [[u16; 136]; 8],
-    // the newest eight samples of each frame in the low eight bits
+    // the newest sixteen samples of each frame
     newest: [u16; 8],
 }
 
@@ -34,25 +35,28 @@ impl EightAhead {
         ensures fresh { IsAhead rows.now 0 (samples_of (replicate 16 0xaa)) (ahead_at self.new n) }
         ensures others { (m : ℕ) → m ≢ n → ahead_at self.new m ≡ ahead_at self.old m }
     {
-        let one = Ahead::fresh(rows);
-        let lanes = one.lanes;
+        let mut lanes = lanes_before(rows);
+        add_row::<16, 128, 136>(&mut lanes, &rows.rows[0xaa]);
         self.sums[n] = lanes;
-        self.newest[n] = u16::from(one.newest);
+        self.newest[n] = 0xaaaa;
     }
 
-    /// Takes a sample of each frame, of the eight between two calls of `take_byte`: 1 where the low bit of what is given is 1.
+    /// Takes a sample of each frame, of the eight between two calls of `take_byte`: 1 where the low bit of what is given is 1. `rows`
+    /// are those of the frame whose number is the place.
     #[inline(always)]
-    pub fn push(&mut self, given: &[u16; 8])
-        ensures { (n place : ℕ) (coefs : List ℤ) (samples : List ℕ) → n < 8 → place < 8 → IsAhead coefs place samples (ahead_at self.old n)
+    pub fn push(&mut self, given: &[u16; 8], place: usize, rows: &RowFilter)
+        requires { place < 8 }
+        ensures own { (samples : List ℕ) → IsAhead rows.now place samples (ahead_at self.old place)
+            → IsAhead rows.now (place + 1) (bit_of (nat_eq (get_or given.now place 0 % 2) 1) ∷ samples) (ahead_at self.new place) }
+        ensures others { (n : ℕ) (coefs : List ℤ) (samples : List ℕ) → n < 8 → n ≢ place → IsAhead coefs place samples (ahead_at self.old n)
             → IsAhead coefs (place + 1) (bit_of (nat_eq (get_or given.now n 0 % 2) 1) ∷ samples) (ahead_at self.new n) }
     {
-        for n in 0..8usize {
-            let newest = pushed(self.newest[n], given[n]);
-            self.newest[n] = newest;
-        }
+        let byte = (self.newest[place] >> place) % 256;
+        add_rest(&mut self.sums[place], &rows.rows[byte as usize]);
+        push_each(&mut self.newest, given);
     }
 
-    /// Adds the newest eight samples of frame `n` to its sums, once all eight are there.
+    /// Adds the newest eight samples of frame `n` to its sums, once all eight are there: to the first ones at once.
     #[inline(always)]
     pub fn take_byte(&mut self, n: usize, rows: &RowFilter)
         requires { n < 8 }
@@ -61,7 +65,7 @@ impl EightAhead {
     {
         let newest = self.newest(n);
         let row = &rows.rows[newest as usize];
-        add_row::<128, 128, 136>(&mut self.sums[n], row);
+        add_row::<16, 128, 136>(&mut self.sums[n], row);
     }
 
     /// What the coefficients add upward to the prediction of frame `n`'s next sample, `place` samples after the last whole byte.
@@ -79,7 +83,7 @@ impl EightAhead {
     #[inline(always)]
     pub fn newest(&self, n: usize) -> u8
         requires { n < 8 }
-        ensures value { result ≡ (ahead_at self.now n).newest }
+        ensures value { result ≡ (ahead_at self.now n).newest % 256 }
         ensures each { (coefs : List ℤ) (place : ℕ) (samples : List ℕ) → IsAhead coefs place samples (ahead_at self.now n)
             → (k : ℕ) → k < 8 → result / 2 ^ k % 2 ≡ get_or samples k 0 }
     {
@@ -87,10 +91,13 @@ impl EightAhead {
     }
 }
 
-// The newest samples with one more, all in the low bits.
+// One more of the newest samples of each frame.
 #[inline(always)]
-fn pushed(newest: u16, given: u16) -> u16
-    ensures { result % 256 ≡ newest % 128 * 2 + given % 2 }
+fn push_each(newest: &mut [u16; 8], given: &[u16; 8])
+    ensures { (n : ℕ) → n < 8 → get_or newest.new n 0 ≡ get_or newest.old n 0 % 32768 * 2 + get_or given.now n 0 % 2 }
 {
-    newest.wrapping_mul(2).wrapping_add(given % 2)
+    for n in 0..8usize {
+        let more = pushed(newest[n], given[n]);
+        newest[n] = more;
+    }
 }

@@ -109,3 +109,17 @@ pub(crate) fn add_row<const L: usize, const N: usize, const M: usize>(
         lanes[lane] = sum;
     }
 }
+
+/// The same for the lanes from the sixteenth on, where the first sixteen had it before.
+#[inline(always)]
+pub(crate) fn add_rest(lanes: &mut [u16; 136], row: &[u16; 128])
+    ensures long { length lanes.new ≡ 136 }
+    ensures first { (lane : ℕ) → lane < 16 → get_or lanes.new lane 0 ≡ get_or lanes.old lane 0 }
+    ensures added { (lane : ℕ) → 16 ≤ lane → lane < 128 → get_or lanes.new lane 0 ≡ (get_or lanes.old (lane + 8) 0 + get_or row.now lane 0) % 65536 }
+    ensures last { (lane : ℕ) → 128 ≤ lane → get_or lanes.new lane 0 ≡ get_or lanes.old lane 0 }
+{
+    for lane in 16..128 {
+        let whole = lanes[lane + 8].wrapping_add(row[lane]);
+        lanes[lane] = whole;
+    }
+}

@@ -141,7 +141,7 @@ fn sums_side_by_side_and_of_known_samples_are_those_ahead(rt: HostRuntime) -> Re
                 ahead.push(state >> 31 == 1);
                 let mut given = [2u16; 8];
                 given[5] = u16::from(state >> 31 == 1);
-                eight.push(&given);
+                eight.push(&given, place, &rows);
             }
             ahead.take_byte(&rows);
             eight.take_byte(5, &rows);

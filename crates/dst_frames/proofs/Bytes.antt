@@ -73,7 +73,7 @@ pub byte_ends : (f : Shape) (P : Params) (reserved : Bool) (m : ℕ) (before aft
 byte_ends f P reserved m before after bytes later decoder states new u behind same given bits added =
     let next : 8 * m + 8 ≡ 8 * (m + 1) = omega arith in
     let samples_are : (c : ℕ) → c < f.channels → later c ≡ earlier f after c (8 * (m + 1)) = λ c h.
-    let long = (u.ready c (record { ahead = record { lanes = []; newest = 0 }; next = 0 }) h).ahead.long in
+    let long = (u.ready c (record { ahead = record { lanes = []; newest = 0; late = 0 }; next = 0 }) h).ahead.long in
     let front = same_earlier f after before m c h same ∙ sym (behind c h) in
     sym (byte_samples f after (later c) m c (get_or bytes c 0) (given c h) (omega (arith, long)) (bits c h) front 8 0 (omega arith))
     ∙ ap (earlier f after c) next in

@@ -1,11 +1,11 @@
 -- One channel of eight frames, and all channels of one of the frames.
-use Rattle.std.proofs.Common.{◌≡◌, ℕ, zero, suc, ◌+◌, ◌%◌, ◌<◌, ℤ, Bool, List, [], ◌∷◌, length, get_or, set}
+use Rattle.std.proofs.Common.{◌≡◌, ◌≢◌, ℕ, zero, suc, ◌+◌, ◌%◌, ◌<◌, ℤ, Bool, true, false, nat_eq, List, [], ◌∷◌, length, get_or, set}
 use Rattle.std.proofs.Common.{refl, ap, sym, subst, ◌∙◌, arith}
+use Rattle.std.proofs.lemmas.Bool.{eqb-true, eqb-false}
 use Rattle.std.proofs.lemmas.List.{get_or_default, set-get_or}
 use Rattle.arith_lanes.specs.Words.{IsWord}
 use Rattle.byte_predictor.specs.Samples.{signed_sum}
-use Rattle.byte_predictor.specs.SumsAhead.{IsAhead}
-use Rattle.byte_predictor.specs.declared.ahead.Ahead.{Ahead}
+use Rattle.byte_predictor.specs.SumsAhead.{SumsAhead, IsAhead}
 use Rattle.dst_frames.specs.Tables.{IsBuilt, IsEntry}
 use Rattle.dst_frames.specs.Batch.{IsWordOf}
 use Rattle.dst_frames.specs.Eight.{entry_in, state_in, states_at, no_tables, tables_at}
@@ -20,12 +20,20 @@ word_of_itself p word is =
     let same : p ≡ word % 256 % 128 + 1 = omega (arith, is.prob) in
     record { prob = subst (λ q. IsWord q word) same is; mark = omega arith }
 
+-- one of the frames is another one, or it isn't
+pub own_or_other : (n m : ℕ) (P : Type 0) → (n ≡ m → P) → (n ≢ m → P) → P
+own_or_other n m P own other = go (nat_eq n m) refl
+  where
+    go : (e : Bool) → nat_eq n m ≡ e → P
+    go true e = own (eqb-true n m e)
+    go false e = other (eqb-false n m e)
+
 -- a row of no frames
 abbrev pub no_row : EightStates
 no_row = record { ahead = record { sums = []; newest = [] }; words = [] }
 
 -- a word tells the entry of the sample at a place
-abbrev pub TellsNext : ℕ → ChannelTables → Ahead → ℕ → Type 0
+abbrev pub TellsNext : ℕ → ChannelTables → SumsAhead → ℕ → Type 0
 TellsNext place table ahead word = (filter : List ℤ) (probs samples : List ℕ) (half_prob : Bool) → IsBuilt filter probs half_prob table →
     IsAhead filter place samples ahead → IsEntry (signed_sum filter samples) probs (entry_in word)
 

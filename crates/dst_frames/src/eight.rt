@@ -108,7 +108,7 @@ impl EightStates {
             → LaneTakes place (get_or given.now n 0) (get_or tables.now n table) (state_in self.old n) (state_in self.new n) (get_or self.new.words n 0) }
         ensures others { (n : ℕ) → count ≤ n → get_or self.new.words n 0 ≡ get_or self.old.words n 0 }
     {
-        self.ahead.push(given);
+        self.ahead.push(given, place, &tables[place].filter);
         for n in 0..count {
             let next = self.word_at(n, &tables[n], place + 1);
             self.words[n] = next;

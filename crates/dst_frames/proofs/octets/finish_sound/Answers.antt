@@ -21,7 +21,7 @@ returns-clause-finishes c =
     let first = m * channels in
     let part = first + channels - first in
     let inside : first + channels ≤ length before = omega (arith, c.requires.inside) in
-    let state : ChannelState = record { ahead = record { lanes = []; newest = 0 }; next = 0 } in
+    let state : ChannelState = record { ahead = record { lanes = []; newest = 0; late = 0 }; next = 0 } in
     let after = put_mid first part before bytes in
     record {
       wide = length-states c.finish_rows.new.rows n ∙ omega arith ∙ sym (length-states c.args.rows.now n);

@@ -51,8 +51,7 @@ loop-c-preserved c =
           let early = c.is_early-early.ensures ∙ early_is half_prob c.args.start c.args.byte place table.early (length (filter_of P done))
           here.early here.short c.requires.start in
           let row = c.loop-c.invariant.row f P reserved samples count built u in
-          let none : ChannelState = record { ahead = record { lanes = []; newest = 0 }; next = 0 } in
-          let old = row.before done none (omega arith) lt in
+          let old = row.before done c.index-states-c.result (omega arith) lt in
           row_goes_on law f P reserved t place samples done c.loop-c.decoder c.decode_sample.new.decoder c.loop-c.states c.decode_sample.new.state
           c.is_early-early.result c.decode_sample.result row lt (omega arith) early here.short
           (next.ready (filter_of P done) (probs_of P done) (samples done) half_prob here old)
@@ -92,7 +91,7 @@ returns-clause-sound c = λ f P reserved count built start.
     let inside : first + channels ≤ length before = bytes_inside m channels (length tables) (length before) are c.requires.inside in
     let after = put_mid first (first + channels - first) before bytes in
     let same_first : m * f.channels ≡ first = ap (λ n. m * n) (count ∙ sym are) in
-    let state : ChannelState = record { ahead = record { lanes = []; newest = 0 }; next = 0 } in
+    let state : ChannelState = record { ahead = record { lanes = []; newest = 0; late = 0 }; next = 0 } in
     let s = c.loop-place.invariant.samples f P reserved (λ j. earlier f before j (8 * m)) count built start in
     let later = s.0 in
     let all : c.loop-place.place ≡ 8 = omega arith in

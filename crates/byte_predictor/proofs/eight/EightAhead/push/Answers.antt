@@ -1,50 +1,57 @@
-use Rattle.std.proofs.Common.{◌≡◌, ◌≢◌, ℕ, ◌+◌, ◌*◌, ◌%◌, ◌<◌, [], nat_eq, length, get_or, set, drop, get_or-set_same, get_or-set_other, length-set}
-use Rattle.std.proofs.Common.{below_more, ap, ◌∙◌, arith}
+use Rattle.std.proofs.Common.{◌≡◌, ◌+◌, ◌/◌, ◌%◌, ◌^◌, ◌<◌, ◌≤◌, ◌∷◌, ℕ, List, [], nat_eq, length, get_or, set, drop, get_or-set_same, get_or-set_other}
+use Rattle.std.proofs.Common.{ap, sym, ◌∙◌, rules, arith}
 use Rattle.dst_spec.specs.Header.{bit_of}
-use Rattle.byte_predictor.specs.Samples.{rising_bits}
 use Rattle.byte_predictor.specs.Upward.{upward_sum, far}
-use Rattle.byte_predictor.proofs.Lanes.{newest-pushed, drop-pushed}
-use Rattle.byte_predictor.proofs.Pushed.{bit_given}
+use Rattle.byte_predictor.proofs.Late.{given-pushed, byte-behind, whole-lane, drop-pushed, left-pushed}
+use Rattle.byte_predictor.proofs.Lanes.{rest-taken, rows-seen}
 use Rattle.byte_predictor.proofs.eight.EightAhead.push.Goals as goal
 
-pub loop-n-preserved : goal.loop-n-preserved
-loop-n-preserved c =
-    let i = c.loop-n.n in
-    let inv = c.loop-n.invariant in
-    let newest = c.loop-n.self.newest in
-    let old = c.args.self.now.newest in
-    let given = c.args.given.now in
-    let x = c.pushed-newest.result in
-    let lt : i < length newest = omega (arith, inv.many) in
-    let D : ℕ → Type 0 = λ m. get_or (set newest i x) m 0 % 256 ≡ get_or old m 0 % 128 * 2 + get_or given m 0 % 2 in
-    let below : (m : ℕ) → m < i → D m = λ m h.
-    let ne : m ≢ i = omega arith in
-    rw (get_or-set_other newest i m x 0 ne) (inv.done m h) in
-    let here : D i = rw (get_or-set_same newest i x 0 lt, ← inv.left i (omega arith)) c.pushed-newest.ensures in
+pub returns-clause-own : goal.returns-clause-own
+returns-clause-own c = λ samples ahead.
+    let coefs = c.args.rows.now in
+    let rule = rows-seen c.rows.view_is c.rows.invariant in
+    let place = c.args.place in
+    let sums = c.args.self.now.sums in
+    let old = get_or c.args.self.now.newest place 0 in
+    let given = get_or c.args.given.now place 0 in
+    let bit = bit_of (nat_eq (given % 2) 1) in
+    let later = bit ∷ samples in
+    let fits : old < 65536 = search rules in
+    let byte = old / 2 ^ place % 256 in
+    let small : byte < 256 = omega arith in
+    let lanes = c.add_rest.new.lanes in
+    let lt : place < length sums = omega (arith, c.requires) in
+    let now : get_or (set sums place lanes) place [] ≡ lanes = get_or-set_same sums place lanes [] lt in
+    let few : place ≤ 8 = omega (arith, c.requires) in
     record {
-      many = simp length-set inv.many;
-      sums = inv.sums;
-      done = λ m h. below_more D i below here m h;
-      left = λ m h.
-          let ne : m ≢ i = omega arith in
-          get_or-set_other newest i m x 0 ne ∙ inv.left m (omega arith);
+      few = omega (arith, c.requires);
+      long = omega (arith, ahead.long);
+      newest = given-pushed old given (get_or c.push_each.new.newest place 0) samples fits (c.push_each.ensures place (omega (arith, c.requires))) ahead.newest;
+      lanes = ap length now ∙ c.add_rest.ensures.long;
+      sums = λ lane h. ap (λ (xs : List ℕ). get_or xs lane 0) now
+          ∙ rest-taken coefs place samples (get_or sums place []) (get_or c.rows.inside.rows byte []) lanes byte rule.table.each rule.table.most
+          (byte-behind old place samples few ahead.newest) ahead.sums (λ lane h. rule.added byte lane small h)
+          c.add_rest.ensures.first c.add_rest.ensures.added c.add_rest.ensures.last lane h
+          ∙ ap (upward_sum (drop lane (far coefs))) (drop-pushed place bit samples)
+          ∙ ap (λ m. upward_sum (drop lane (far coefs)) (drop m later)) (sym (whole-lane (place + 1) (place + 1) lane (omega arith)));
     }
 
-pub returns : goal.returns
-returns c = λ n place coefs samples h lt ahead.
+pub returns-clause-others : goal.returns-clause-others
+returns-clause-others c = λ n coefs samples h ne ahead.
+    let place = c.args.place in
+    let sums = c.args.self.now.sums in
     let old = get_or c.args.self.now.newest n 0 in
     let given = get_or c.args.given.now n 0 in
     let bit = bit_of (nat_eq (given % 2) 1) in
-    let is : bit ≡ given % 2 = bit_given given in
-    let small : bit < 2 = omega arith in
-    let fits : old % 256 < 256 = omega arith in
-    let now : get_or c.loop-n.self.newest n 0 % 256 ≡ old % 256 % 128 * 2 + bit = omega (arith, c.loop-n.invariant.done n (omega arith), is) in
-    let sums = c.loop-n.invariant.sums in
+    let fits : old < 65536 = search rules in
+    let lanes = c.add_rest.new.lanes in
+    let same : get_or (set sums place lanes) n [] ≡ get_or sums n [] = get_or-set_other sums place n lanes [] ne in
     record {
-      few = omega arith;
+      few = omega (arith, c.requires);
       long = omega (arith, ahead.long);
-      newest = ap (rising_bits 8) now ∙ newest-pushed (old % 256) bit samples small fits ahead.newest;
-      lanes = rw sums ahead.lanes;
-      sums = λ lane l. ap (λ ss. get_or (get_or ss n []) lane 0) sums ∙ ahead.sums lane l
-          ∙ ap (upward_sum (drop lane (far coefs))) (drop-pushed place bit samples);
+      newest = given-pushed old given (get_or c.push_each.new.newest n 0) samples fits (c.push_each.ensures n h) ahead.newest;
+      lanes = ap length same ∙ ahead.lanes;
+      sums = λ lane l. ap (λ (xs : List ℕ). get_or xs lane 0) same
+          ∙ ahead.sums lane l
+          ∙ ap (upward_sum (drop lane (far coefs))) (left-pushed (n + 1) place lane bit samples (λ e. ne (omega arith)));
     }

@@ -1,13 +1,14 @@
-use Rattle.std.proofs.Common.{◌≡◌, ℕ, ◌%◌, ◌<◌, List, [], length, get_or, set, get_or-set_same, get_or-set_other, ap, subst, ◌∙◌, rules, arith}
-use Rattle.byte_predictor.specs.RowSums.{HasRows}
-use Rattle.byte_predictor.proofs.Lanes.{taken-lane}
+use Rattle.std.proofs.Common.{◌≡◌, ◌+◌, ◌<◌, ℕ, List, [], length, get_or, set, take, drop, get_or-set_same, get_or-set_other, ap, ◌∙◌, rules, arith}
+use Rattle.byte_predictor.specs.Samples.{rising_bits}
+use Rattle.byte_predictor.specs.Upward.{upward_sum, far}
+use Rattle.byte_predictor.proofs.Late.{newest-eight, whole-lane}
+use Rattle.byte_predictor.proofs.Lanes.{front-taken, rows-seen}
 use Rattle.byte_predictor.proofs.eight.EightAhead.take_byte.Goals as goal
 
 pub returns-clause-added : goal.returns-clause-added
 returns-clause-added c = λ samples ahead.
     let coefs = c.args.rows.now in
-    let rule : HasRows coefs c.rows.inside.rows c.rows.inside.near c.rows.inside.size =
-    subst (λ t. HasRows t c.rows.inside.rows c.rows.inside.near c.rows.inside.size) c.rows.view_is c.rows.invariant in
+    let rule = rows-seen c.rows.view_is c.rows.invariant in
     let n = c.args.n in
     let newest = c.newest-newest.result in
     let fits : newest < 256 = search rules in
@@ -15,18 +16,21 @@ returns-clause-added c = λ samples ahead.
     let lanes = c.add_row.new.lanes in
     let lt : n < length sums = omega (arith, c.requires) in
     let now : get_or (set sums n lanes) n [] ≡ lanes = get_or-set_same sums n lanes [] lt in
-    let is = c.newest-newest.ensures.value in
+    let eight : rising_bits 8 newest ≡ take 8 samples =
+    ap (rising_bits 8) c.newest-newest.ensures.value ∙ newest-eight (get_or c.args.self.now.newest n 0) samples ahead.newest in
+    let before : (lane : ℕ) → lane < 136 → get_or (get_or sums n []) lane 0 ≡ upward_sum (drop lane (far coefs)) (drop 8 samples) =
+    λ lane h. ahead.sums lane h ∙ ap (λ m. upward_sum (drop lane (far coefs)) (drop m samples)) (whole-lane (n + 1) 8 lane (omega (arith, c.requires))) in
     record {
       few = omega arith;
       long = ahead.long;
       newest = ahead.newest;
       lanes = ap length now ∙ c.add_row.ensures.long;
       sums = λ lane h. ap (λ (xs : List ℕ). get_or xs lane 0) now
-          ∙ taken-lane coefs samples (get_or sums n []) (get_or c.rows.inside.rows newest []) lanes newest rule.table.each rule.table.most
-          (rw is ahead.newest) ahead.sums (λ lane h. rule.added newest lane fits h) c.add_row.ensures.added c.add_row.ensures.last lane h;
+          ∙ front-taken n coefs samples (get_or sums n []) (get_or c.rows.inside.rows newest []) lanes newest rule.table.each rule.table.most eight before
+          (λ lane h. rule.added newest lane fits (omega arith)) c.add_row.ensures.added c.add_row.ensures.last lane h;
     }
 
 pub returns-clause-others : goal.returns-clause-others
 returns-clause-others c = λ m ne.
-    ap (λ a. record { lanes = a; newest = get_or c.args.self.now.newest m 0 % 256 })
+    ap (λ a. record { lanes = a; newest = get_or c.args.self.now.newest m 0; late = m + 1 })
     (get_or-set_other c.args.self.now.sums c.args.n m c.add_row.new.lanes [] ne)

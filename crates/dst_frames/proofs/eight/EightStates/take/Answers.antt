@@ -1,5 +1,5 @@
 use Rattle.std.proofs.Common.{◌≡◌, ◌≢◌, ℕ, ◌+◌, ◌%◌, ◌<◌, ◌∷◌, nat_eq, length, get_or, set, get_or-set_same, get_or-set_other, length-set, below_more}
-use Rattle.std.proofs.Common.{sym, subst, ◌∙◌, arith}
+use Rattle.std.proofs.Common.{ap, sym, subst, ◌∙◌, arith}
 use Rattle.std.proofs.lemmas.List.{get_or_default}
 use Rattle.dst_spec.specs.Header.{bit_of}
 use Rattle.byte_predictor.specs.Upward.{size_sum}
@@ -9,7 +9,7 @@ use Rattle.byte_predictor.specs.SumsAhead.{IsAhead}
 use Rattle.dst_frames.specs.Batch.{IsWordOf}
 use Rattle.dst_frames.specs.Eight.{entry_in}
 use Rattle.dst_frames.specs.declared.tables.ChannelTables.{ChannelTables}
-use Rattle.dst_frames.proofs.OneOfEight.{TellsNext}
+use Rattle.dst_frames.proofs.OneOfEight.{TellsNext, own_or_other}
 use Rattle.dst_frames.proofs.eight.EightStates.take.Goals as goal
 
 pub word_at-next-requires-clause-narrow : goal.word_at-next-requires-clause-narrow
@@ -60,12 +60,24 @@ returns-clause-taken c = λ n table h.
     let inv = c.loop-n.invariant in
     let lt : n < c.loop-n.n = omega arith in
     let eight : n < 8 = omega (arith, c.requires.few) in
+    let tables = c.args.tables.now in
+    let lt_place : c.args.place < length tables = omega (arith, c.requires.tables.count, c.requires.place) in
     let place = c.args.place in
     let bit = bit_of (nat_eq (get_or c.args.given.now n 0 % 2) 1) in
     record {
       takes = λ filter probs samples half_prob built ready.
           let pushed : IsAhead filter (place + 1) (bit ∷ samples) (ahead_at c.push.new.self n) =
-          c.push.ensures n place filter samples eight c.requires.place ready.ahead in
+          own_or_other n place (IsAhead filter (place + 1) (bit ∷ samples) (ahead_at c.push.new.self n))
+          (λ e.
+              let here : (get_or tables place c.index-tables-place.result).filter ≡ filter = ap (λ (t : ChannelTables). t.filter)
+                  (get_or_default tables place c.index-tables-place.result table lt_place ∙ ap (λ m. get_or tables m table) (sym e)) ∙ built.filter_is in
+              let before : IsAhead filter place samples (ahead_at c.args.self.now.ahead place) =
+              subst (λ m. IsAhead filter place samples (ahead_at c.args.self.now.ahead m)) e ready.ahead in
+              let after = c.push.ensures.own samples (subst (λ coefs. IsAhead coefs place samples (ahead_at c.args.self.now.ahead place)) (sym here) before) in
+              subst (λ m. IsAhead filter (place + 1) (bit_of (nat_eq (get_or c.args.given.now m 0 % 2) 1) ∷ samples) (ahead_at c.push.new.self m)) (sym e)
+              (subst (λ coefs. IsAhead coefs (place + 1) (bit_of (nat_eq (get_or c.args.given.now place 0 % 2) 1) ∷ samples) (ahead_at c.push.new.self place))
+              here after))
+          (λ ne. c.push.ensures.others n filter samples eight ne ready.ahead) in
           record {
             ahead = subst (λ (a : EightAhead). IsAhead filter (place + 1) (bit ∷ samples) (ahead_at a n)) (sym inv.ahead) pushed;
             next = inv.tells n table lt filter probs (bit ∷ samples) half_prob built pushed;

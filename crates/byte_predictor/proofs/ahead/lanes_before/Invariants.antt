@@ -1,7 +1,7 @@
 use Rattle.std.proofs.Common.{◌≡◌, ℕ, ◌<◌, length, get_or, drop, replicate}
 use Rattle.byte_predictor.specs.Samples.{samples_of}
 use Rattle.byte_predictor.specs.Upward.{upward_sum, far}
-use Rattle.byte_predictor.proofs.ahead.Ahead.fresh.Given as goal
+use Rattle.byte_predictor.proofs.ahead.lanes_before.Given as goal
 
 abbrev pub invariant-loop-turn : goal.invariant-loop-turn
 invariant-loop-turn l =
