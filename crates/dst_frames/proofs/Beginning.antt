@@ -1,5 +1,5 @@
 -- A frame begins in a lane: the words and the tables of the others.
-use Rattle.std.proofs.Common.{◌≡◌, ◌≢◌, ℕ, ◌+◌, ◌%◌, ◌<◌, ℤ, pos, [], ◌∷◌, Bool, true, false, nat_eq, List, length, get_or, set, get_or-set_same}
+use Rattle.std.proofs.Common.{◌≡◌, ◌≢◌, ℕ, ◌+◌, ◌%◌, ◌<◌, ◌≤◌, ℤ, pos, [], ◌∷◌, Bool, true, false, nat_eq, List, length, get_or, set, get_or-set_same}
 use Rattle.std.proofs.Common.{get_or-set_other, length-set}
 use Rattle.std.proofs.Common.{refl, ap, sym, subst, ◌∙◌, arith}
 use Rattle.std.proofs.lemmas.Bool.{eqb-true, eqb-false}
@@ -47,15 +47,22 @@ words_begun n c was rows row lt are own states words = record {
     next_at m d other h k false e = rw (get_or-set_other rows c d row other (eqb-false d c e)) (are.next m d other h k)
 
 pub eight_set : (channels c : ℕ) (eight : List EightTables) (one : EightTables) → AreEight eight channels → c < length eight →
-    AreTables one.tables.items → AreEight (set eight c one) channels
-eight_set channels c eight one are lt long = record {
+    AreTables one.tables.items → ((n : ℕ) → n < 8 → get_or one.from n 0 ≤ c) → AreEight (set eight c one) channels
+eight_set channels c eight one are lt long front = record {
   count = length-set eight c one ∙ are.count;
   tables = λ d other h. at d other h (nat_eq d c) refl;
+  from = λ n d other k h. from_at n d other k h (nat_eq d c) refl;
 }
   where
     at : (d : ℕ) (other : EightTables) → d < channels → (b : Bool) → nat_eq d c ≡ b → AreTables (get_or (set eight c one) d other).tables.items
     at d other h true e = let is = eqb-true d c e in rw (is, get_or-set_same eight c one other lt) long
     at d other h false e = rw (get_or-set_other eight c d one other (eqb-false d c e)) (are.tables d other h)
+
+    from_at : (n d : ℕ) (other : EightTables) → n < 8 → d < channels → (b : Bool) → nat_eq d c ≡ b → get_or (get_or (set eight c one) d other).from n 0 ≤ d
+    from_at n d other k h true e =
+        let is = eqb-true d c e in
+        rw (is, get_or-set_same eight c one other lt) (front n k)
+    from_at n d other k h false e = rw (get_or-set_other eight c d one other (eqb-false d c e)) (are.from n d other k h)
 
 -- the tables of one frame in the place of others
 pub tables_set : (tables : List ChannelTables) (n : ℕ) (one : ChannelTables) → AreTables tables → n < 8 → size_sum one.filter < 32768 →

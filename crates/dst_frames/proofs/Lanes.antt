@@ -8,7 +8,6 @@ use Rattle.arith_lanes.specs.Words.{IsWord}
 use Rattle.arith_lanes.specs.Lanes.{TakesSymbol, given_of}
 use Rattle.arith_lanes.specs.declared.lanes.ArithLanes.{ArithLanes}
 use Rattle.dst_frames.specs.Tables.{symbol_after}
-use Rattle.dst_frames.specs.Eight.{no_tables}
 use Rattle.dst_frames.specs.Batch.{IsWordOf, LaneTakes, LaneSteps, IsLaneFurther}
 use Rattle.dst_frames.specs.declared.tables.ChannelTables.{ChannelTables}
 use Rattle.dst_frames.specs.declared.state.ChannelState.{ChannelState}
@@ -72,12 +71,12 @@ one_of [] n h = absurd (omega arith)
 one_of (x ∷ xs) n h = x
 
 -- each word for now has some probability
-pub some_word : (tables : List ChannelTables) (words now : List ℕ) (count t : ℕ) (start : Bool) (n p : ℕ) →
-    ((n p : ℕ) (table : ChannelTables) → n < count → IsWord p (get_or words n 0) →
-    IsWord (if (start && nat_lt t (get_or tables n table).early) then 128 else p) (get_or now n 0)) →
+pub some_word : (early : ℕ → ℕ) (words now : List ℕ) (count t : ℕ) (start : Bool) (n p : ℕ) →
+    ((n p : ℕ) → n < count → IsWord p (get_or words n 0) →
+    IsWord (if (start && nat_lt t (early n)) then 128 else p) (get_or now n 0)) →
     ((n : ℕ) → count ≤ n → get_or now n 0 ≡ get_or words n 0) → IsWord p (get_or words n 0) → (q : ℕ) × IsWord q (get_or now n 0)
-some_word tables words now count t start n p live idle word = go (nat_lt n count) refl
+some_word early words now count t start n p live idle word = go (nat_lt n count) refl
   where
     go : (b : Bool) → nat_lt n count ≡ b → (q : ℕ) × IsWord q (get_or now n 0)
-    go true e = (_, live n p no_tables (ltb-true n count e) word)
+    go true e = (_, live n p (ltb-true n count e) word)
     go false e = (p, subst (IsWord p) (sym (idle n (ltb-false n count e))) word)

@@ -15,3 +15,4 @@ pub mod Running
 pub mod LaneRows
 pub mod Begun
 pub mod Beginning
+pub mod Sharing

@@ -1,14 +1,15 @@
 -- One channel of eight frames, and all channels of one of the frames.
-use Rattle.std.proofs.Common.{◌≡◌, ◌≢◌, ℕ, zero, suc, ◌+◌, ◌%◌, ◌<◌, ℤ, Bool, true, false, nat_eq, List, [], ◌∷◌, length, get_or, set}
+use Rattle.std.proofs.Common.{◌≡◌, ◌≢◌, ℕ, zero, suc, ◌+◌, ◌%◌, ◌<◌, ℤ, Bool, true, false, nat_eq, List, [], ◌∷◌, length, get_or, set, map, get_or-set_other}
 use Rattle.std.proofs.Common.{refl, ap, sym, subst, ◌∙◌, arith}
 use Rattle.std.proofs.lemmas.Bool.{eqb-true, eqb-false}
-use Rattle.std.proofs.lemmas.List.{get_or_default, set-get_or}
+use Rattle.std.proofs.lemmas.List.{get_or_default, set-get_or, get_or-map, map-set, length-map}
+use Rattle.std.proofs.Math.Seq.{map-set_same}
 use Rattle.arith_lanes.specs.Words.{IsWord}
 use Rattle.byte_predictor.specs.Samples.{signed_sum}
 use Rattle.byte_predictor.specs.SumsAhead.{SumsAhead, IsAhead}
 use Rattle.dst_frames.specs.Tables.{IsBuilt, IsEntry}
 use Rattle.dst_frames.specs.Batch.{IsWordOf}
-use Rattle.dst_frames.specs.Eight.{entry_in, state_in, states_at, no_tables, tables_at}
+use Rattle.dst_frames.specs.Eight.{entry_in, state_in, states_at, no_tables, own_at, table_at, tables_at}
 use Rattle.dst_frames.specs.declared.tables.ChannelTables.{ChannelTables}
 use Rattle.dst_frames.specs.declared.state.ChannelState.{ChannelState}
 use Rattle.dst_frames.specs.declared.eight.EightTables.{EightTables}
@@ -63,33 +64,60 @@ states_same rows n c was row h same =
     let other = state_in row n in
     states-set rows n c row ∙ ap (set (states_at rows n) c) (same ∙ sym (get_or-states rows n c other was h)) ∙ set-get_or (states_at rows n) c other
 
+-- ---- the tables of a frame
 pub length-tables : (eight : List EightTables) (n : ℕ) → length (tables_at eight n) ≡ length eight
 unfolding tables_at
-length-tables [] n = refl
-length-tables (x ∷ eight) n = ap suc (length-tables eight n)
+length-tables eight n = length-map eight (λ (one : EightTables). table_at eight one.from n)
 
 pub get_or-tables : (eight : List EightTables) (n c : ℕ) (other : ChannelTables) (one : EightTables) → c < length eight →
-    n < length (get_or eight c one).tables.items → get_or (tables_at eight n) c other ≡ get_or (get_or eight c one).tables.items n other
+    get_or (tables_at eight n) c other ≡ table_at eight (get_or eight c one).from n
 unfolding tables_at
-get_or-tables [] n c other one h l = absurd (omega arith)
-get_or-tables (x ∷ eight) n zero other one h l = get_or_default x.tables.items n no_tables other l
-get_or-tables (x ∷ eight) n (suc c) other one h l = get_or-tables eight n c other one (omega arith) l
+get_or-tables eight n c other one h = get_or-map (λ (x : EightTables). table_at eight x.from n) eight c one other h
 
-pub tables-set : (eight : List EightTables) (n c : ℕ) (one : EightTables) →
-    tables_at (set eight c one) n ≡ set (tables_at eight n) c (get_or one.tables.items n no_tables)
-unfolding tables_at
-tables-set [] n c one = refl
-tables-set (x ∷ eight) n zero one = refl
-tables-set (x ∷ eight) n (suc c) one = ap (λ rest. get_or x.tables.items n no_tables ∷ rest) (tables-set eight n c one)
+pub get_or-own : (eight : List EightTables) (n c : ℕ) (one : EightTables) → c < length eight →
+    get_or (own_at eight n) c no_tables ≡ get_or (get_or eight c one).tables.items n no_tables
+unfolding own_at
+get_or-own eight n c one h = get_or-map (λ (x : EightTables). get_or x.tables.items n no_tables) eight c one no_tables h
 
-got : (eight : List EightTables) (n c : ℕ) (was : EightTables) → c < length eight →
-    get_or (tables_at eight n) c no_tables ≡ get_or (get_or eight c was).tables.items n no_tables
-unfolding tables_at
-got [] n c was h = absurd (omega arith)
-got (x ∷ eight) n zero was h = refl
-got (x ∷ eight) n (suc c) was h = got eight n c was (omega arith)
+pub table-in : (eight : List EightTables) (from : List ℕ) (n : ℕ) (one : EightTables) (other : ChannelTables) → get_or from n 0 < length eight →
+    n < length (get_or eight (get_or from n 0) one).tables.items →
+    table_at eight from n ≡ get_or (get_or eight (get_or from n 0) one).tables.items n other
+unfolding table_at
+table-in eight from n one other h l =
+    get_or-own eight n (get_or from n 0) one h ∙ get_or_default (get_or eight (get_or from n 0) one).tables.items n no_tables other l
 
-pub tables_same : (eight : List EightTables) (n c : ℕ) (was one : EightTables) → c < length eight →
+own_same : (eight : List EightTables) (n c : ℕ) (was one : EightTables) →
+    get_or one.tables.items n no_tables ≡ get_or (get_or eight c was).tables.items n no_tables → own_at (set eight c one) n ≡ own_at eight n
+unfolding own_at
+own_same eight n c was one same = map-set_same (λ (x : EightTables). get_or x.tables.items n no_tables) eight c one was same
+
+-- a channel gets tables and a number that are the same for a frame
+pub tables_same : (eight : List EightTables) (n c : ℕ) (was one : EightTables) → get_or one.from n 0 ≡ get_or (get_or eight c was).from n 0 →
     get_or one.tables.items n no_tables ≡ get_or (get_or eight c was).tables.items n no_tables → tables_at (set eight c one) n ≡ tables_at eight n
-tables_same eight n c was one h same =
-    tables-set eight n c one ∙ ap (set (tables_at eight n) c) (same ∙ sym (got eight n c was h)) ∙ set-get_or (tables_at eight n) c no_tables
+unfolding tables_at table_at
+tables_same eight n c was one number same =
+    ap (λ own. map (λ (x : EightTables). get_or own (get_or x.from n 0) no_tables) (set eight c one)) (own_same eight n c was one same)
+    ∙ map-set_same (λ (x : EightTables). get_or (own_at eight n) (get_or x.from n 0) no_tables) eight c one was
+    (ap (λ k. get_or (own_at eight n) k no_tables) number)
+
+-- the tables of a channel before another one that gets others
+pub table_before : (eight : List EightTables) (from : List ℕ) (n c : ℕ) (one : EightTables) → get_or from n 0 < c →
+    table_at (set eight c one) from n ≡ table_at eight from n
+unfolding table_at own_at
+table_before eight from n c one h =
+    let ne : get_or from n 0 ≢ c = omega arith in
+    let own = λ (x : EightTables). get_or x.tables.items n no_tables in
+    ap (λ xs. get_or xs (get_or from n 0) no_tables) (map-set own eight c one)
+    ∙ get_or-set_other (map own eight) c (get_or from n 0) (own one) no_tables ne
+
+-- two channels with one number for a frame
+pub table_number : (eight : List EightTables) (from others : List ℕ) (n : ℕ) → get_or from n 0 ≡ get_or others n 0 →
+    table_at eight from n ≡ table_at eight others n
+unfolding table_at
+table_number eight from others n same = ap (λ k. get_or (own_at eight n) k no_tables) same
+
+-- where a channel's number alone changes
+pub table_shared : (eight : List EightTables) (from : List ℕ) (n c : ℕ) (was one : EightTables) →
+    get_or one.tables.items n no_tables ≡ get_or (get_or eight c was).tables.items n no_tables → table_at (set eight c one) from n ≡ table_at eight from n
+unfolding table_at
+table_shared eight from n c was one same = ap (λ own. get_or own (get_or from n 0) no_tables) (own_same eight n c was one same)

@@ -21,5 +21,14 @@ states_at rows n = map (λ row. state_in row n) rows
 abbrev pub no_tables : ChannelTables
 no_tables = record { filter = []; words = []; early = 0 }
 
+-- those that each channel has for frame n
+unfoldable pub own_at : List EightTables → ℕ → List ChannelTables
+own_at eight n = map (λ (one : EightTables). get_or one.tables.items n no_tables) eight
+
+-- those of the channel that is named for frame n
+unfoldable pub table_at : List EightTables → List ℕ → ℕ → ChannelTables
+table_at eight from n = get_or (own_at eight n) (get_or from n 0) no_tables
+
+-- those by which each channel of frame n is decoded
 unfoldable pub tables_at : List EightTables → ℕ → List ChannelTables
-tables_at eight n = map (λ (one : EightTables). get_or one.tables.items n no_tables) eight
+tables_at eight n = map (λ (one : EightTables). table_at eight one.from n) eight

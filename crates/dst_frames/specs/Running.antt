@@ -26,10 +26,11 @@ pub record AreTables (tables : List ChannelTables) : Type 0 where
   pub count : length tables ≡ 8
   pub narrow : (n : ℕ) (other : ChannelTables) → n < 8 → size_sum (get_or tables n other).filter < 32768
 
--- each channel has the tables of eight frames
+-- Each channel has the tables of eight frames, or shares those of a channel before it.
 pub record AreEight (eight : List EightTables) (channels : ℕ) : Type 0 where
   pub count : length eight ≡ channels
   pub tables : (c : ℕ) (other : EightTables) → c < channels → AreTables (get_or eight c other).tables.items
+  pub from : (n c : ℕ) (other : EightTables) → n < 8 → c < channels → get_or (get_or eight c other).from n 0 ≤ c
 
 -- The words of each channel: those of the next samples of the first frames, and some behind them.
 pub record AreWords (rows : List EightStates) (frames : ℕ) : Type 0 where

@@ -14,16 +14,16 @@ ghost use Rattle.dst_frames.specs.Coded.{IsCodeOfSound};
 ghost use Rattle.dst_frames.specs.Tables.{IsBuilt, AreBuilt};
 ghost use Rattle.dst_frames.specs.Ready.{IsReady};
 ghost use Rattle.dst_frames.specs.Batch.{IsDecoded, IsWordOf, IsLaneFurther, AreLanes, HasBegun, stored_in, code_at};
-ghost use Rattle.dst_frames.specs.Eight.{state_in, states_at, tables_at};
+ghost use Rattle.dst_frames.specs.Eight.{states_at, table_at, tables_at};
 ghost use Rattle.dst_frames.specs.Running.{AreStored, AreTables, AreEight, AreWords, LaneDecoded};
-ghost use Rattle.dst_frames.specs.declared.tables.ChannelTables.{ChannelTables};
 ghost use Rattle.dst_frames.specs.declared.state.ChannelState.{ChannelState};
+ghost use Rattle.dst_frames.specs.declared.eight.EightTables.{EightTables};
 ghost use Rattle.dst_frames.specs.declared.stored.StoredFrame.{StoredFrame};
 ghost use Rattle.dst_frames.specs.declared.stored.DecodedFrame.{DecodedFrame};
 
 use crate::batch_scratch::BatchScratch;
-use crate::channel::channel_filter;
-use crate::eight::{EightStates, EightTables};
+use crate::channel::{are_alike, channel_filter};
+use crate::eight::{EightStates, EightTables, table_of};
 use crate::frame::{decode_with, unread};
 use crate::octets::decode_octets;
 use crate::reserved::reserved_probability;
@@ -106,6 +106,7 @@ fn decode_each(
         → IsDecoded channels (stored_in (get_or frames.now n frame)) (get_or heard.new n other).sound.items (get_or heard.new n other).answer }
     ensures long { (n : ℕ) (other : DecodedFrame) → n < length frames.now → length (get_or heard.new n other).sound.items ≡ sound_bytes channels }
     ensures tables { AreTables first.new.tables.items }
+    ensures from { first.new.from ≡ first.old.from }
 {
     decode_apart(frames, channels, first, states, heard);
     first.keep_narrow();
@@ -129,6 +130,7 @@ fn decode_apart(
         → IsDecoded channels (stored_in (get_or frames.now n frame)) (get_or heard.new n other).sound.items (get_or heard.new n other).answer }
     ensures long { (n : ℕ) (other : DecodedFrame) → n < length frames.now → length (get_or heard.new n other).sound.items ≡ sound_bytes channels }
     ensures tables { length first.new.tables.items ≡ 8 }
+    ensures from { first.new.from ≡ first.old.from }
 {
     let count = states.len();
     let all = first.tables.as_mut_slice();
@@ -297,28 +299,54 @@ fn build_all_in(params: &Params, n: usize, eight: &mut [EightTables], rows: &mut
     ensures eight { AreEight eight.new (length rows.old) }
 {
     for c in 0..rows.len() {
-        build_in(params, c, n, &mut eight[c], &mut rows[c]);
+        share_or_build(params, c, n, eight);
+        let from = eight[c].from;
+        let tables = table_of(eight, &from, n);
+        rows[c].begin(n, tables);
     }
 }
 
-fn build_in(params: &Params, c: usize, n: usize, eight: &mut EightTables, row: &mut EightStates)
+// The tables of channel `c` of frame `n`: those of a channel before it that has the same parameters, or its own.
+fn share_or_build(params: &Params, c: usize, n: usize, eight: &mut [EightTables])
     requires lane { n < 8 }
-    requires channel { c < length params.now.half_prob }
+    requires channel { c < length eight.old }
+    requires channels { length params.now.half_prob ≡ length eight.old }
     requires narrow { size_sum (filter_of params.now c) < 32768 }
-    requires eight { AreTables eight.old.tables.items }
-    ensures built { (other : ChannelTables) → IsBuilt (filter_of params.now c) (probs_of params.now c) (get_or params.now.half_prob c false)
-        (get_or eight.new.tables.items n other) }
-    ensures fresh { IsReady (filter_of params.now c) (probs_of params.now c) 0 (samples_of (replicate 16 0xaa)) (state_in row.new n) }
-    ensures word { IsWordOf (state_in row.new n).next (get_or row.new.words n 0) }
-    ensures tables { (m : ℕ) (other : ChannelTables) → m ≢ n → get_or eight.new.tables.items m other ≡ get_or eight.old.tables.items m other }
-    ensures eight { AreTables eight.new.tables.items }
-    ensures states { (m : ℕ) → m ≢ n → state_in row.new m ≡ state_in row.old m }
-    ensures words { (m : ℕ) → m ≢ n → get_or row.new.words m 0 ≡ get_or row.old.words m 0 }
+    requires eight { AreEight eight.old (length eight.old) }
+    requires before { (d : ℕ) (other : EightTables) → d < c → IsBuilt (filter_of params.now d) (probs_of params.now d)
+        (get_or params.now.half_prob d false) (table_at eight.old (get_or eight.old d other).from n) }
+    ensures built { (d : ℕ) (other : EightTables) → d < c + 1 → IsBuilt (filter_of params.now d) (probs_of params.now d)
+        (get_or params.now.half_prob d false) (table_at eight.new (get_or eight.new d other).from n) }
+    ensures tables { (m : ℕ) → m ≢ n → tables_at eight.new m ≡ tables_at eight.old m }
+    ensures eight { AreEight eight.new (length eight.old) }
 {
-    let all = eight.tables.as_mut_slice();
-    let tables = &mut all[n];
-    tables.build(params, c);
-    row.begin(n, tables);
+    let alike = alike_channel(params, c);
+    if alike < c {
+        let from = eight[alike].from[n];
+        let own = &mut eight[c];
+        own.from[n] = from;
+    } else {
+        let own = &mut eight[c];
+        own.from[n] = c;
+        let tables = own.tables.as_mut_slice();
+        tables[n].build(params, c);
+    }
+}
+
+// The first channel that has the filter, the probabilities and the half bit of channel `c`.
+fn alike_channel(params: &Params, c: usize) -> usize
+    requires { c < length params.now.half_prob }
+    ensures before { result ≤ c }
+    ensures filter { filter_of params.now result ≡ filter_of params.now c }
+    ensures probs { probs_of params.now result ≡ probs_of params.now c }
+    ensures half_prob { get_or params.now.half_prob result false ≡ get_or params.now.half_prob c false }
+{
+    for d in 0..c {
+        if are_alike(params, d, c) {
+            return d;
+        }
+    }
+    c
 }
 
 fn reserved_word(params: &Params) -> u16

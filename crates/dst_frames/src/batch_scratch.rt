@@ -14,7 +14,7 @@ const _: () = prove!(
         + size_of::<EightTables>()
         + size_of::<EightStates>()
         + size_of::<ChannelState>()
-        == 1_057_420
+        == 1_057_484
 );
 
 /// The memory in which up to eight frames of some channels are decoded at a time. Nothing of one frame is used for the next one.
@@ -44,7 +44,7 @@ impl Model for BatchScratch {
 }
 
 impl BatchScratch {
-    /// Takes all memory that decoding needs: 1,057,420 bytes a channel and 276 besides, so 2,115,116 bytes in stereo and 6,344,796 for six
+    /// Takes all memory that decoding needs: 1,057,484 bytes a channel and 276 besides, so 2,115,244 bytes in stereo and 6,345,180 for six
     /// channels, at any rate.
     pub fn new(alloc: Global, channels: Channels) -> Result<BatchScratch, AllocError>
         ensures { IfOk result (λ s. s.channels ≡ channels) }
@@ -54,11 +54,11 @@ impl BatchScratch {
         let mut rows = Vec::with_capacity(alloc, count)?;
         // Room for one state more than there are, as in the scratch for one frame.
         let mut states = Vec::with_capacity(alloc, count + 1)?;
-        for _ in 0..count {
+        for c in 0..count {
             let none = ChannelTables::new();
             states.push(ChannelState::fresh(&none))?;
             rows.push(EightStates::new())?;
-            tables.push(EightTables::new(alloc)?)?;
+            tables.push(EightTables::new(alloc, c)?)?;
         }
         Ok(BatchScratch {
             channels,

@@ -1,5 +1,5 @@
 // What the parameters of a frame give a channel.
-ghost use Rattle.std.specs.Prelude.{◌≡◌, ◌<◌, false, length, get_or};
+ghost use Rattle.std.specs.Prelude.{◌≡◌, ◌<◌, true, false, length, get_or};
 ghost use Rattle.dst_spec.specs.Guess.{filter_of, probs_of};
 
 use dst_num::{FilterTable, Params, ProbTable};
@@ -30,4 +30,18 @@ pub fn channel_half_prob(params: &Params, c: usize) -> bool
     ensures { result ≡ get_or params.now.half_prob c false }
 {
     params.half_prob.as_slice()[c]
+}
+
+/// Whether two channels have the same filter, the same probability table and the same half bit.
+pub(crate) fn are_alike(params: &Params, d: usize, c: usize) -> bool
+    requires first { d < length params.now.half_prob }
+    requires second { c < length params.now.half_prob }
+    ensures filter { result ≡ true → filter_of params.now d ≡ filter_of params.now c }
+    ensures probs { result ≡ true → probs_of params.now d ≡ probs_of params.now c }
+    ensures half_prob { result ≡ true → get_or params.now.half_prob d false ≡ get_or params.now.half_prob c false }
+{
+    let filters = params.filter_map.elements();
+    let probs = params.prob_map.elements();
+    let half = params.half_prob.as_slice();
+    filters[d] == filters[c] && probs[d] == probs[c] && half[d] == half[c]
 }

@@ -9,10 +9,9 @@ ghost use Rattle.byte_predictor.specs.Upward.{size_sum};
 ghost use Rattle.byte_predictor.specs.Eight.{ahead_at};
 ghost use Rattle.dst_frames.specs.Tables.{IsBuilt, IsEntry};
 ghost use Rattle.dst_frames.specs.Ready.{IsReady};
-ghost use Rattle.dst_frames.specs.Eight.{entry_in, state_in};
+ghost use Rattle.dst_frames.specs.Eight.{entry_in, state_in, table_at};
 ghost use Rattle.dst_frames.specs.Batch.{IsWordOf, LaneTakes, LaneSteps, IsLaneFurther};
-ghost use Rattle.dst_frames.specs.Running.{AreTables};
-ghost use Rattle.dst_frames.specs.declared.tables.ChannelTables.{ChannelTables};
+ghost use Rattle.dst_frames.specs.Running.{AreTables, AreEight};
 
 use crate::tables::ChannelTables;
 use arith_lanes::{ArithLanes, word};
@@ -23,29 +22,54 @@ use std::alloc::{AllocError, Global};
 #[derive(Drop)]
 pub(crate) struct EightTables {
     pub(crate) tables: Vec<ChannelTables>,
+    /// For each frame the channel whose tables this one is decoded by: often all channels of a frame have one filter.
+    pub(crate) from: [usize; 8],
 }
 
 impl EightTables {
-    pub(crate) fn new(alloc: Global) -> Result<EightTables, AllocError>
-        ensures { IfOk result (λ t. AreTables t.tables.items) }
+    /// Those of channel `c`, which shares none.
+    pub(crate) fn new(alloc: Global, c: usize) -> Result<EightTables, AllocError>
+        ensures tables { IfOk result (λ t. AreTables t.tables.items) }
+        ensures from { IfOk result (λ t. (n : ℕ) → n < 8 → get_or t.from n 0 ≡ c) }
     {
         let mut tables = Vec::with_capacity(alloc, 8)?;
         for _ in 0..8usize {
             tables.push(ChannelTables::new())?;
         }
-        Ok(EightTables { tables })
+        Ok(EightTables {
+            tables,
+            from: [c; 8],
+        })
     }
 
     /// Tables of no filter again, where those give the greatest of all sums.
     pub(crate) fn keep_narrow(&mut self)
         requires { length self.old.tables.items ≡ 8 }
-        ensures { AreTables self.new.tables.items }
+        ensures tables { AreTables self.new.tables.items }
+        ensures from { self.new.from ≡ self.old.from }
     {
         let all = self.tables.as_mut_slice();
         for n in 0..8usize {
             all[n].keep_narrow();
         }
     }
+}
+
+/// The tables by which a channel of frame `n` is decoded.
+#[inline(always)]
+pub(crate) fn table_of<'a>(
+    eight: &'a [EightTables],
+    from: &[usize; 8],
+    n: usize,
+) -> &'a ChannelTables
+    requires frame { n < 8 }
+    requires eight { AreEight eight.now (length eight.now) }
+    requires from { get_or from.now n 0 < length eight.now }
+    ensures is { result.now ≡ table_at eight.now from.now n }
+    ensures narrow { size_sum result.now.filter < 32768 }
+{
+    let tables = eight[from[n]].tables.as_slice();
+    &tables[n]
 }
 
 /// One channel of eight frames between two samples.
@@ -100,17 +124,27 @@ impl EightStates {
     // Takes the next sample of each frame, 1 where the low bit of what is given is 1. The words of the first frames become those
     // of their next samples.
     #[inline(always)]
-    fn take(&mut self, tables: &[ChannelTables], count: usize, place: usize, given: &[u16; 8])
+    fn take(
+        &mut self,
+        eight: &[EightTables],
+        from: &[usize; 8],
+        count: usize,
+        place: usize,
+        given: &[u16; 8],
+    )
         requires place { place < 8 }
         requires few { count ≤ 8 }
-        requires tables { AreTables tables.now }
-        ensures taken { (n : ℕ) (table : ChannelTables) → n < count
-            → LaneTakes place (get_or given.now n 0) (get_or tables.now n table) (state_in self.old n) (state_in self.new n) (get_or self.new.words n 0) }
+        requires eight { AreEight eight.now (length eight.now) }
+        requires from { (n : ℕ) → n < 8 → get_or from.now n 0 < length eight.now }
+        ensures taken { (n : ℕ) → n < count
+            → LaneTakes place (get_or given.now n 0) (table_at eight.now from.now n) (state_in self.old n) (state_in self.new n) (get_or self.new.words n 0) }
         ensures others { (n : ℕ) → count ≤ n → get_or self.new.words n 0 ≡ get_or self.old.words n 0 }
     {
-        self.ahead.push(given, place, &tables[place].filter);
+        let own = table_of(eight, from, place);
+        self.ahead.push(given, place, &own.filter);
         for n in 0..count {
-            let next = self.word_at(n, &tables[n], place + 1);
+            let tables = table_of(eight, from, n);
+            let next = self.word_at(n, tables, place + 1);
             self.words[n] = next;
         }
     }
@@ -134,18 +168,25 @@ impl EightStates {
 
 // The words of the samples before sample `t`, with the probability 128 in those that are early.
 #[inline(always)]
-fn early_words(tables: &[ChannelTables], count: usize, t: usize, words: &[u16; 8]) -> [u16; 8]
+fn early_words(
+    eight: &[EightTables],
+    from: &[usize; 8],
+    count: usize,
+    t: usize,
+    words: &[u16; 8],
+) -> [u16; 8]
     requires few { count ≤ 8 }
-    requires tables { length tables.now ≡ 8 }
-    ensures early { (n p : ℕ) (table : ChannelTables) → n < count → IsWord p (get_or words.now n 0)
-        → IsWord (if nat_lt t (get_or tables.now n table).early then 128 else p) (get_or result n 0) }
+    requires eight { AreEight eight.now (length eight.now) }
+    requires from { (n : ℕ) → n < 8 → get_or from.now n 0 < length eight.now }
+    ensures early { (n p : ℕ) → n < count → IsWord p (get_or words.now n 0)
+        → IsWord (if nat_lt t (table_at eight.now from.now n).early then 128 else p) (get_or result n 0) }
     ensures mark { (n : ℕ) → get_or result n 0 / 128 % 2 ≡ get_or words.now n 0 / 128 % 2 }
     ensures others { (n : ℕ) → count ≤ n → get_or result n 0 ≡ get_or words.now n 0 }
 {
     let mut early = *words;
     for n in 0..count {
         let own = words[n];
-        early[n] = early_word(t < tables[n].early, own);
+        early[n] = early_word(t < table_of(eight, from, n).early, own);
     }
     early
 }
@@ -166,21 +207,23 @@ fn early_word(early: bool, own: u16) -> u16
 // The words of the samples before sample `t`. Only at the start there are early ones.
 #[inline(always)]
 fn words_at(
-    tables: &[ChannelTables],
+    eight: &[EightTables],
+    from: &[usize; 8],
     count: usize,
     t: usize,
     start: bool,
     words: &[u16; 8],
 ) -> [u16; 8]
     requires few { count ≤ 8 }
-    requires tables { length tables.now ≡ 8 }
-    ensures prob { (n p : ℕ) (table : ChannelTables) → n < count → IsWord p (get_or words.now n 0)
-        → IsWord (if (start && nat_lt t (get_or tables.now n table).early) then 128 else p) (get_or result n 0) }
+    requires eight { AreEight eight.now (length eight.now) }
+    requires from { (n : ℕ) → n < 8 → get_or from.now n 0 < length eight.now }
+    ensures prob { (n p : ℕ) → n < count → IsWord p (get_or words.now n 0)
+        → IsWord (if (start && nat_lt t (table_at eight.now from.now n).early) then 128 else p) (get_or result n 0) }
     ensures mark { (n : ℕ) → get_or result n 0 / 128 % 2 ≡ get_or words.now n 0 / 128 % 2 }
     ensures others { (n : ℕ) → count ≤ n → get_or result n 0 ≡ get_or words.now n 0 }
 {
     if start {
-        early_words(tables, count, t, words)
+        early_words(eight, from, count, t, words)
     } else {
         *words
     }
@@ -190,7 +233,8 @@ fn words_at(
 #[inline(always)]
 pub(crate) fn decode_next(
     lanes: &mut ArithLanes,
-    tables: &[ChannelTables],
+    eight: &[EightTables],
+    from: &[usize; 8],
     row: &mut EightStates,
     count: usize,
     place: usize,
@@ -199,17 +243,18 @@ pub(crate) fn decode_next(
 )
     requires place { place < 8 }
     requires few { count ≤ 8 }
-    requires tables { AreTables tables.now }
-    ensures steps { (n : ℕ) (table : ChannelTables) (bytes : List ℕ) → n < count → IsLane lanes.old n bytes
+    requires eight { AreEight eight.now (length eight.now) }
+    requires from { (n : ℕ) → n < 8 → get_or from.now n 0 < length eight.now }
+    ensures steps { (n : ℕ) (bytes : List ℕ) → n < count → IsLane lanes.old n bytes
         → 8 ≤ bits_ahead lanes.old n → used_at lanes.old n ≤ 2 ^ 40
         → IsWordOf (state_in row.old n).next (get_or row.old.words n 0)
-        → LaneSteps place (start && nat_lt t (get_or tables.now n table).early) (get_or tables.now n table) (state_in row.old n) (state_in row.new n)
+        → LaneSteps place (start && nat_lt t (table_at eight.now from.now n).early) (table_at eight.now from.now n) (state_in row.old n) (state_in row.new n)
         (decoding_at lanes.old n bytes) (decoding_at lanes.new n bytes) (get_or row.new.words n 0) }
     ensures further { (n p : ℕ) (bytes : List ℕ) → n < 8 → IsLane lanes.old n bytes → 8 ≤ bits_ahead lanes.old n
         → used_at lanes.old n ≤ 2 ^ 40 → IsWord p (get_or row.old.words n 0) → IsLaneFurther lanes.old lanes.new n bytes 8 }
     ensures others { (n : ℕ) → count ≤ n → get_or row.new.words n 0 ≡ get_or row.old.words n 0 }
 {
-    let now = words_at(tables, count, t, start, &row.words);
+    let now = words_at(eight, from, count, t, start, &row.words);
     let given = lanes.decode(&now);
-    row.take(tables, count, place, &given);
+    row.take(eight, from, count, place, &given);
 }

@@ -11,7 +11,7 @@ ghost use Rattle.dst_frames.specs.declared.tables.ChannelTables.{ChannelTables};
 ghost use Rattle.dst_frames.specs.declared.state.ChannelState.{ChannelState};
 ghost use Rattle.dst_frames.specs.declared.eight.EightStates.{EightStates};
 
-use crate::eight::{EightStates, EightTables, decode_next};
+use crate::eight::{EightStates, EightTables, decode_next, table_of};
 use crate::stored::{DecodedFrame, StoredFrame};
 use arith_lanes::ArithLanes;
 use byte_predictor::laws::samples_before;
@@ -83,10 +83,10 @@ fn decode_place(
     samples_before();
     for c in 0..rows.len() {
         refill_where_short(lanes, frames);
-        let tables = eight[c].tables.as_slice();
         decode_next(
             lanes,
-            tables,
+            eight,
+            &eight[c].from,
             &mut rows[c],
             count,
             place,
@@ -112,8 +112,8 @@ fn finish_rows(eight: &[EightTables], rows: &mut [EightStates], n: usize, out: &
     ensures words { (c : ℕ) (row : EightStates) → (get_or rows.new c row).words ≡ (get_or rows.old c row).words }
 {
     for c in 0..rows.len() {
-        let tables = eight[c].tables.as_slice();
-        let newest = rows[c].finish(n, &tables[n]);
+        let tables = table_of(eight, &eight[c].from, n);
+        let newest = rows[c].finish(n, tables);
         out[c] = newest;
     }
 }

@@ -13,6 +13,16 @@ use std::test::Fail;
 // One channel, the coefficient 0 and the probabilities 128 and 128: each sample is 1.
 const ONES: [u8; 6] = [0xfc, 0x00, 0x00, 0x05, 0xff, 0xf8];
 
+// The same with the coefficients 1 and -1: each sample is as the one before it, and each is other than that.
+const AS_BEFORE: [u8; 6] = [0xfc, 0x00, 0x01, 0x05, 0xff, 0xf8];
+
+const TURNED: [u8; 6] = [0xfc, 0x01, 0xff, 0x05, 0xff, 0xf8];
+
+// With two segmentations, and with two maps.
+const TWO_SEGMENTATIONS: [u8; 6] = [0xbf, 0x00, 0x00, 0x01, 0x7f, 0xfe];
+
+const TWO_MAPS: [u8; 6] = [0x94, 0x00, 0x00, 0x00, 0xbf, 0xff];
+
 // The same with three coefficients 0 by method 2.
 const BY_METHOD_2: [u8; 9] = [0xfc, 0x0b, 0x00, 0x00, 0x00, 0x00, 0x0b, 0xff, 0xf0];
 
@@ -20,6 +30,9 @@ const BY_METHOD_2: [u8; 9] = [0xfc, 0x0b, 0x00, 0x00, 0x00, 0x00, 0x0b, 0xff, 0x
 const TWO_CHANNELS: [u8; 11] = [
     0xfa, 0x00, 0x00, 0x00, 0x00, 0x20, 0xbf, 0xff, 0x05, 0xff, 0xf8,
 ];
+
+// Two channels with the coefficient 0 and one probability table: each sample is 1.
+const TWO_ALIKE: [u8; 6] = [0xfc, 0x00, 0x00, 0x02, 0xff, 0xfc];
 
 // The first code bit is 1; the first twelve bits of the code's number are.
 const FIRST_BIT_1: [u8; 6] = [0xfc, 0x00, 0x00, 0x05, 0xff, 0xfc];
@@ -59,18 +72,18 @@ fn frames_give_their_sound_and_tail(rt: HostRuntime) -> Result<(), Fail> {
     let mut noise = [0xbb; 9410];
     noise[..6].copy_from_slice(&NOISE);
     // the channels, the multiple, the frame, the bytes of its first two channels in turn, the tail
-    let cases: [(u32, u32, &[u8], [u8; 2], u32); 10] = [
+    let cases: [(u32, u32, &[u8], [u8; 2], u32); 11] = [
         (1, 1, &ONES, [0xff, 0xff], 0),
         (1, 2, &ONES, [0xff, 0xff], 0),
-        // the coefficients 1 and -1: each sample as the one before it, and each other than that
-        (1, 1, &[0xfc, 0x00, 0x01, 0x05, 0xff, 0xf8], [0x00, 0x00], 0),
-        (1, 1, &[0xfc, 0x01, 0xff, 0x05, 0xff, 0xf8], [0xaa, 0xaa], 0),
-        // two segmentations; two maps; three coefficients by method 2; one probability
-        (1, 1, &[0xbf, 0x00, 0x00, 0x01, 0x7f, 0xfe], [0xff, 0xff], 0),
-        (1, 1, &[0x94, 0x00, 0x00, 0x00, 0xbf, 0xff], [0xff, 0xff], 0),
+        (1, 1, &AS_BEFORE, [0x00, 0x00], 0),
+        (1, 1, &TURNED, [0xaa, 0xaa], 0),
+        (1, 1, &TWO_SEGMENTATIONS, [0xff, 0xff], 0),
+        (1, 1, &TWO_MAPS, [0xff, 0xff], 0),
         (1, 1, &BY_METHOD_2, [0xff, 0xff], 0),
+        // one probability
         (1, 1, &[0xfc, 0x00, 0x00, 0x00], [0xff, 0xff], 0),
         (2, 1, &TWO_CHANNELS, [0xff, 0x00], 0),
+        (2, 1, &TWO_ALIKE, [0xff, 0xff], 0),
         // 37,689 bits are taken
         (1, 1, &long, [0xff, 0xff], 4698),
     ];
@@ -169,26 +182,82 @@ fn are_fit(frames: &[StoredFrame], channels: Channels, heard: &[DecodedFrame]) -
 }
 
 // A frame in a buffer of the greatest length, and room for its sound.
-fn given(alloc: Global, frame: &[u8]) -> Result<(StoredFrame, DecodedFrame), Fail> {
-    let mut bytes = vec![in alloc; 0u8; 4705]?;
-    let size = frame.len().min(4705);
+fn given(
+    alloc: Global,
+    channels: Channels,
+    frame: &[u8],
+) -> Result<(StoredFrame, DecodedFrame), Fail> {
+    let most = channels.sound_bytes() + 1;
+    let mut bytes = vec![in alloc; 0u8; most]?;
+    let size = frame.len().min(most);
     bytes[..size].copy_from_slice(&frame[..size]);
     let stored = StoredFrame {
         bytes,
         size: size as u32,
     };
     let heard = DecodedFrame {
-        sound: vec![in alloc; 0u8; 4704]?,
+        sound: vec![in alloc; 0u8; channels.sound_bytes()]?,
         answer: Ok(9),
     };
     Ok((stored, heard))
 }
 
-// Whether a frame was decoded among others as it is alone.
-fn is_as_alone(alloc: Global, frame: &[u8], heard: &DecodedFrame) -> Result<bool, Fail> {
-    let mono = Channels::new(1).ok_or("one channel")?;
-    let (sound, tail) = decoded(alloc, mono, &ONES, frame)?;
-    Ok(heard.answer == tail && (tail.is_err() || heard.sound.as_slice() == sound.as_slice()))
+// What decoding makes of frames side by side, which for each of them is what it makes of the frame alone.
+fn side_by_side(
+    alloc: Global,
+    channels: Channels,
+    frames: &[&[u8]],
+) -> Result<Vec<DecodedFrame>, Fail> {
+    let mut stored = Vec::with_capacity(alloc, frames.len())?;
+    let mut heard = Vec::with_capacity(alloc, frames.len())?;
+    for frame in frames {
+        let (one, room) = given(alloc, channels, frame)?;
+        stored.push(one)?;
+        heard.push(room)?;
+    }
+    if !are_fit(&stored, channels, &heard) {
+        return Err("frames that aren't fit")?;
+    }
+    let mut scratch = BatchScratch::new(alloc, channels)?;
+    decode_batch(&stored, channels, &mut scratch, &mut heard);
+    for (frame, one) in frames.iter().zip(heard.iter()) {
+        let (sound, tail) = decoded(alloc, channels, &ONES, frame)?;
+        if one.answer != tail || tail.is_ok() && one.sound.as_slice() != sound.as_slice() {
+            return Err("not as alone")?;
+        }
+    }
+    Ok(heard)
+}
+
+// Frames with a filter for each channel, and with one for both.
+#[test]
+fn channels_side_by_side_share_tables_or_do_not(rt: HostRuntime) -> Result<(), Fail> {
+    let stereo = Channels::new(2).ok_or("two channels")?;
+    let frames: [&[u8]; 5] = [
+        &TWO_ALIKE,
+        &TWO_CHANNELS,
+        &TWO_CHANNELS,
+        &TWO_ALIKE,
+        &TWO_CHANNELS,
+    ];
+    let heard = side_by_side(rt.alloc(), stereo, &frames)?;
+    let mut second = Vec::new(rt.alloc());
+    for one in heard.iter() {
+        second.push(one.sound.as_slice().get(1).copied().ok_or("no sound")?)?;
+    }
+    assert_eq!(rt;
+        second.as_slice(),
+        [0xff, 0x00, 0x00, 0xff, 0x00].as_slice()
+    );
+    Ok(())
+}
+
+// The first byte of a frame's sound, none where it is refused.
+fn first_byte(heard: &DecodedFrame) -> Option<u8> {
+    if heard.answer.is_err() {
+        return None;
+    }
+    heard.sound.as_slice().first().copied()
 }
 
 #[test]
@@ -196,38 +265,41 @@ fn frames_side_by_side_are_decoded_as_alone(rt: HostRuntime) -> Result<(), Fail>
     let mono = Channels::new(1).ok_or("one channel")?;
     let mut plain = [0x69; 4705];
     plain[0] = 0x00;
-    // Coefficients 0, 1 and -1, two maps, two half bits, three coefficients by method 2, and a code that is no encoder's; then a
-    // plain frame, and one whose first code bit is 1. Each with the first byte of its sound, or its fault.
-    let frames: [(&[u8], Option<u8>); 8] = [
-        (&ONES, Some(0xff)),
-        (&[0xfc, 0x00, 0x01, 0x05, 0xff, 0xf8], Some(0x00)),
-        (&[0xfc, 0x01, 0xff, 0x05, 0xff, 0xf8], Some(0xaa)),
-        (&[0xbf, 0x00, 0x00, 0x01, 0x7f, 0xfe], Some(0xff)),
-        (&[0x94, 0x00, 0x00, 0x00, 0xbf, 0xff], Some(0xff)),
-        (&BY_METHOD_2, Some(0xff)),
-        (&plain, Some(0x69)),
-        (&FIRST_BIT_1, None),
+    // Coefficients 0, 1 and -1, two segmentations, two maps, three coefficients by method 2; then a plain frame, and one whose first
+    // code bit is 1. From the front, so that up to six all are coded, and turned round.
+    let frames: [&[u8]; 8] = [
+        &ONES,
+        &AS_BEFORE,
+        &TURNED,
+        &TWO_SEGMENTATIONS,
+        &TWO_MAPS,
+        &BY_METHOD_2,
+        &plain,
+        &FIRST_BIT_1,
     ];
+    let turned: [&[u8]; 8] = [
+        &FIRST_BIT_1,
+        &plain,
+        &BY_METHOD_2,
+        &TWO_MAPS,
+        &TWO_SEGMENTATIONS,
+        &TURNED,
+        &AS_BEFORE,
+        &ONES,
+    ];
+    let bytes: [u8; 7] = [0xff, 0x00, 0xaa, 0xff, 0xff, 0xff, 0x69];
     for count in 1..9usize {
-        // from the front, so that up to six all are coded, and turned round
-        for turned in [false, true] {
-            let mut stored = Vec::with_capacity(rt.alloc(), count)?;
-            let mut heard = Vec::with_capacity(rt.alloc(), count)?;
-            for n in 0..count {
-                let at = if turned { 7 - n % 8 } else { n % 8 };
-                let (frame, room) = given(rt.alloc(), frames[at].0)?;
-                stored.push(frame)?;
-                heard.push(room)?;
-            }
-            assert!(rt; are_fit(&stored, mono, &heard));
-            let mut scratch = BatchScratch::new(rt.alloc(), mono)?;
-            decode_batch(&stored, mono, &mut scratch, &mut heard);
-            for (n, one) in heard.iter().enumerate() {
-                let (frame, first) = frames[if turned { 7 - n % 8 } else { n % 8 }];
-                assert!(rt; is_as_alone(rt.alloc(), frame, one)?, "{count}, frame {n}");
-                assert_eq!(rt; first.is_none(), one.answer.is_err());
-                assert!(rt; first.is_none() || one.sound.as_slice().first().copied() == first);
-            }
+        let heard = side_by_side(rt.alloc(), mono, &frames[..count])?;
+        for (n, one) in heard.iter().enumerate() {
+            assert_eq!(rt;
+                first_byte(one),
+                bytes.get(n).copied(),
+                "{count}, frame {n}"
+            );
+        }
+        let heard = side_by_side(rt.alloc(), mono, &turned[..count])?;
+        for (n, one) in heard.iter().enumerate() {
+            assert_eq!(rt; first_byte(one), bytes.get(7 - n % 8).copied());
         }
     }
     Ok(())

@@ -1,35 +1,31 @@
 use Rattle.std.proofs.Common.{◌≡◌, ◌≢◌, ℕ, ◌/◌, ◌%◌, ◌<◌, nat_lt, if◌then◌else◌, length, get_or, set, get_or-set_same, get_or-set_other}
-use Rattle.std.proofs.Common.{length-set, below_more, sym, ◌∙◌, arith}
-use Rattle.std.proofs.lemmas.List.{get_or_default}
+use Rattle.std.proofs.Common.{length-set, below_more, ◌∙◌, arith}
 use Rattle.arith_lanes.specs.Words.{IsWord}
-use Rattle.dst_frames.specs.declared.tables.ChannelTables.{ChannelTables}
+use Rattle.dst_frames.specs.Eight.{table_at}
 use Rattle.dst_frames.proofs.eight.early_words.Goals as goal
 
 pub loop-n-preserved : goal.loop-n-preserved
 loop-n-preserved c =
     let i = c.loop-n.n in
     let inv = c.loop-n.invariant in
-    let tables = c.args.tables.now in
+    let table = table_at c.args.eight.now c.args.from.now in
     let words = c.args.words.now in
     let x = c.early_word.result in
-    let lt : i < length tables = omega (arith, c.requires.tables, c.requires.few) in
     let lt_early : i < length c.loop-n.early = omega (arith, inv.many, c.requires.few) in
-    let E : ℕ → Type 0 = λ m. (p : ℕ) (table : ChannelTables) → IsWord p (get_or words m 0) →
-    IsWord (if nat_lt c.args.t (get_or tables m table).early then 128 else p) (get_or (set c.loop-n.early i x) m 0) in
+    let E : ℕ → Type 0 = λ m. (p : ℕ) → IsWord p (get_or words m 0) →
+    IsWord (if nat_lt c.args.t (table m).early then 128 else p) (get_or (set c.loop-n.early i x) m 0) in
     let M : ℕ → Type 0 = λ m. get_or (set c.loop-n.early i x) m 0 / 128 % 2 ≡ get_or words m 0 / 128 % 2 in
-    let e_below : (m : ℕ) → m < i → E m = λ m h p table w.
+    let e_below : (m : ℕ) → m < i → E m = λ m h p w.
     let ne : m ≢ i = omega arith in
-    rw (get_or-set_other c.loop-n.early i m x 0 ne) (inv.early m p table h w) in
-    let e_here : E i = λ p table w.
-    let t : get_or tables i table ≡ c.index-tables-n.result = get_or_default tables i table c.index-tables-n.result lt ∙ sym c.index-tables-n.is in
-    rw (get_or-set_same c.loop-n.early i x 0 lt_early, t, c.index-tables-n.is) (c.early_word.ensures.prob p w) in
+    rw (get_or-set_other c.loop-n.early i m x 0 ne) (inv.early m p h w) in
+    let e_here : E i = λ p w. rw (get_or-set_same c.loop-n.early i x 0 lt_early, ← c.table_of.ensures.is) (c.early_word.ensures.prob p w) in
     let m_below : (m : ℕ) → m < i → M m = λ m h.
     let ne : m ≢ i = omega arith in
     rw (get_or-set_other c.loop-n.early i m x 0 ne) (inv.mark m h) in
     let m_here : M i = rw (get_or-set_same c.loop-n.early i x 0 lt_early) c.early_word.ensures.mark in
     record {
       many = simp length-set inv.many;
-      early = λ m p table h. below_more E i e_below e_here m h p table;
+      early = λ m p h. below_more E i e_below e_here m h p;
       mark = λ m h. below_more M i m_below m_here m h;
       left = λ m h.
           let ne : m ≢ i = omega arith in

@@ -1,13 +1,13 @@
 use Rattle.std.proofs.Common.{◌≡◌, ℕ, ◌/◌, ◌%◌, ◌<◌, ◌≤◌, nat_lt, if◌then◌else◌, length, get_or}
 use Rattle.arith_lanes.specs.Words.{IsWord}
-use Rattle.dst_frames.specs.declared.tables.ChannelTables.{ChannelTables}
+use Rattle.dst_frames.specs.Eight.{table_at}
 use Rattle.dst_frames.proofs.eight.early_words.Given as goal
 
 abbrev pub invariant-loop-n : goal.invariant-loop-n
 invariant-loop-n l = record {
   many : length l.early ≡ 8;
-  early : (m p : ℕ) (table : ChannelTables) → m < l.n → IsWord p (get_or l.words m 0) →
-      IsWord (if nat_lt l.t (get_or l.tables m table).early then 128 else p) (get_or l.early m 0);
+  early : (m p : ℕ) → m < l.n → IsWord p (get_or l.words m 0) →
+      IsWord (if nat_lt l.t (table_at l.eight l.from m).early then 128 else p) (get_or l.early m 0);
   mark : (m : ℕ) → m < l.n → get_or l.early m 0 / 128 % 2 ≡ get_or l.words m 0 / 128 % 2;
   left : (m : ℕ) → l.n ≤ m → get_or l.early m 0 ≡ get_or l.words m 0;
 }

@@ -3,9 +3,9 @@ use Rattle.std.proofs.lemmas.List.{get_or_default}
 use Rattle.dst_spec.specs.Guess.{filter_of, probs_of}
 use Rattle.arith_lanes.specs.Lanes.{decoding_at, used_at, ahead_at}
 use Rattle.dst_frames.specs.Tables.{IsBuilt}
-use Rattle.dst_frames.specs.Eight.{no_tables, state_in, states_at, tables_at}
+use Rattle.dst_frames.specs.Eight.{no_tables, table_at, state_in, states_at, tables_at}
 use Rattle.dst_frames.specs.Batch.{HasEnough, LaneSteps, code_at}
-use Rattle.dst_frames.specs.Running.{AreTables}
+use Rattle.dst_frames.specs.Running.{AreEight}
 use Rattle.dst_frames.specs.declared.tables.ChannelTables.{ChannelTables}
 use Rattle.dst_frames.specs.declared.eight.EightStates.{EightStates}
 use Rattle.dst_frames.proofs.History.{Predicts}
@@ -24,12 +24,14 @@ loop-c-init c = record {
       (states_at c.args.rows.now n) u;
 }
 
-pub decode_next-requires-clause-tables : goal.decode_next-requires-clause-tables
-decode_next-requires-clause-tables c =
+pub decode_next-requires-clause-eight : goal.decode_next-requires-clause-eight
+decode_next-requires-clause-eight c = subst (AreEight c.args.eight.now) (sym c.requires.eight.count) c.requires.eight
+
+pub decode_next-requires-clause-from : goal.decode_next-requires-clause-from
+decode_next-requires-clause-from c = λ n h.
     let i = c.loop-c.c in
-    let are : AreTables (get_or c.args.eight.now i c.index-eight-c.result).tables.items =
-    c.requires.eight.tables i c.index-eight-c.result (omega (arith, c.requires.eight.count)) in
-    subst AreTables (sym c.as_slice-tables.ensures.value) are
+    let front = c.requires.eight.from n i c.index-eight-c.result h (omega arith) in
+    omega (arith, front, c.requires.eight.count)
 
 pub loop-c-preserved : goal.loop-c-preserved
 loop-c-preserved c =
@@ -53,19 +55,16 @@ loop-c-preserved c =
     let row = c.decode_next.new.row in
     let was = get_or rows i no_row in
     let one = c.index-eight-c.result in
-    let tables = c.as_slice-tables.result.now in
-    let t_is : tables ≡ (get_or eight i one).tables.items = c.as_slice-tables.ensures.value in
-    let t_long : length (get_or eight i one).tables.items ≡ 8 = (c.requires.eight.tables i one lt_eight).count in
     let lt_tables : i < length eight = omega (arith, c.requires.eight.count) in
     let enough : (n : ℕ) → n < 8 → HasEnough s r n (code_at c.args.frames.now n) = c.refill_where_short.ensures in
     let ahead : (n : ℕ) → n < 8 → 8 ≤ ahead_at r n = λ n h. omega (arith, (enough n h).ahead) in
     let used : (n : ℕ) → n < 8 → used_at r n ≤ 2 ^ 40 = λ n h.
     omega (arith, used_kept s r n (code_at c.args.frames.now n) (enough n h).same, (inv.lanes n h).used, c.requires.lanes.used n h) in
-    let table : ℕ → ChannelTables = λ n. get_or tables n no_tables in
+    let table : ℕ → ChannelTables = table_at eight (get_or eight i one).from in
     let step : (n : ℕ) → n < count → LaneSteps place (c.args.start && nat_lt (8 * byte + place) (table n).early) (table n) (state_in was n) (state_in row n)
     (decoding_at r n (code_at c.args.frames.now n)) (decoding_at t n (code_at c.args.frames.now n)) (get_or row.words n 0) = λ n h.
     let within : n < 8 = omega (arith, c.requires.count) in
-    c.decode_next.ensures.steps n no_tables (code_at c.args.frames.now n) h (enough n within).lane (ahead n within) (used n within)
+    c.decode_next.ensures.steps n (code_at c.args.frames.now n) h (enough n within).lane (ahead n within) (used n within)
     (inv.words.next n i no_row h lt) in
     record {
       lanes = λ n h.
@@ -77,8 +76,7 @@ loop-c-preserved c =
       rows = λ n f P reserved samples h channels built u.
           let within : n < 8 = omega (arith, c.requires.count) in
           let in_f : i < f.channels = omega arith in
-          let place_is : get_or (tables_at eight n) i no_tables ≡ table n = get_or-tables eight n i no_tables one lt_tables (omega (arith, t_long))
-          ∙ ap (λ ts. get_or ts n no_tables) (sym t_is) in
+          let place_is : get_or (tables_at eight n) i no_tables ≡ table n = get_or-tables eight n i no_tables one lt_tables in
           let own : IsBuilt (filter_of P i) (probs_of P i) (get_or P.half_prob i false) (table n) =
           subst (IsBuilt (filter_of P i) (probs_of P i) (get_or P.half_prob i false)) place_is (built i no_tables in_f) in
           subst (IsRow f P reserved (8 * byte + place) place samples (i + 1) (decoding_at t n (code_at c.args.frames.now n))) (sym (states-set rows n i row))

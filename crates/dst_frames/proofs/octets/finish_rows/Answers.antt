@@ -4,6 +4,7 @@ use Rattle.std.proofs.lemmas.Bool.{eqb-true, eqb-false}
 use Rattle.std.proofs.lemmas.List.{get_or_default}
 use Rattle.dst_frames.specs.Ready.{IsReady}
 use Rattle.dst_frames.specs.Eight.{state_in, states_at, tables_at}
+use Rattle.dst_frames.specs.Running.{AreEight}
 use Rattle.dst_frames.specs.declared.state.ChannelState.{ChannelState}
 use Rattle.dst_frames.specs.declared.tables.ChannelTables.{ChannelTables}
 use Rattle.dst_frames.specs.declared.eight.EightStates.{EightStates}
@@ -21,6 +22,14 @@ words_kept rows i j new was other lt same = go (nat_eq j i) refl
         let at : get_or rows i was ≡ get_or rows i other = get_or_default rows i was other lt in
         rw (is, get_or-set_same rows i new other lt) (same ∙ ap (λ (x : EightStates). x.words) at)
     go false e = rw (get_or-set_other rows i j new other (eqb-false j i e)) refl
+
+pub table_of-tables-requires-clause-eight : goal.table_of-tables-requires-clause-eight
+table_of-tables-requires-clause-eight c = subst (AreEight c.args.eight.now) (sym c.requires.eight.count) c.requires.eight
+
+pub table_of-tables-requires-clause-from : goal.table_of-tables-requires-clause-from
+table_of-tables-requires-clause-from c =
+    let front = c.requires.eight.from c.args.n c.loop-c.c c.index-eight-c.result c.requires.frame (omega arith) in
+    omega (arith, front, c.requires.eight.count)
 
 pub loop-c-preserved : goal.loop-c-preserved
 loop-c-preserved c =
@@ -40,13 +49,9 @@ loop-c-preserved c =
     let lt_out : i < length out = omega arith in
     let lt_eight : i < length eight = omega (arith, c.requires.eight.count) in
     let one = c.index-eight-c.result in
-    let t_is : c.as_slice-tables.result.now ≡ (get_or eight i one).tables.items = c.as_slice-tables.ensures.value in
-    let t_long : length (get_or eight i one).tables.items ≡ 8 = (c.requires.eight.tables i one lt_old).count in
-    let table = c.index-tables-n.result in
+    let table = c.table_of-tables.result.now in
     let table_is : (other : ChannelTables) → get_or (tables_at eight n) i other ≡ table = λ other.
-    get_or-tables eight n i other one lt_eight (omega (arith, t_long, c.requires.frame))
-    ∙ get_or_default (get_or eight i one).tables.items n other table (omega (arith, t_long, c.requires.frame))
-    ∙ ap (λ ts. get_or ts n table) (sym t_is) ∙ sym c.index-tables-n.is in
+    get_or-tables eight n i other one lt_eight ∙ sym c.table_of-tables.ensures.is in
     let before : (other : ChannelState) → get_or (states_at old n) i other ≡ state_in was n = λ other.
     get_or-states old n i other d lt_old ∙ ap (λ (q : EightStates). state_in q n) (sym (inv.left i d (omega arith))) in
     let after : (other : ChannelState) → get_or (states_at (set rows i row) n) i other ≡ state_in row n = λ other.

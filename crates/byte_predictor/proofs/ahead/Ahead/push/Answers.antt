@@ -18,7 +18,9 @@ returns c = λ coefs place samples lt before.
     record {
       few = omega arith;
       long = omega (arith, ahead.long);
-      newest = ap (rising_bits 16) now ∙ newest-pushed inside.newest c.from.result samples small fits ahead.newest ∙ ap (λ b. take 16 (b ∷ samples)) (sym bit.0);
+      newest = ap (rising_bits 16) now
+          ∙ newest-pushed inside.newest c.from.result samples small fits ahead.newest
+          ∙ ap (λ b. take 16 (b ∷ samples)) (sym bit.0);
       lanes = ahead.lanes;
       sums = λ lane h. ahead.sums lane h ∙ ap (upward_sum (drop lane (far coefs))) (left-pushed 0 place lane (bit_of c.args.sample) samples (omega arith));
     }

@@ -15,6 +15,7 @@ returns c = λ samples before.
     let fits : newest < 256 = search rules in
     let sum = get_or c.self.inside.lanes place 0 in
     let lane : sum ≡ upward_sum (drop place (far coefs)) (drop place samples) =
-    ahead.sums place (omega (arith, c.requires)) ∙ ap (λ m. upward_sum (drop place (far coefs)) (drop m samples)) (near-lane 0 place place (omega (arith, c.requires))) in
+    ahead.sums place (omega (arith, c.requires))
+    ∙ ap (λ m. upward_sum (drop place (far coefs)) (drop m samples)) (near-lane 0 place place (omega (arith, c.requires))) in
     looked-up coefs place samples newest sum (get_or c.rows.inside.near newest 0) rule.table.each rule.table.most c.requires
     (c.newest.ensures.eight coefs place samples before) lane (rule.newest newest fits)

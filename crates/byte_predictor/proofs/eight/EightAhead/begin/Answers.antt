@@ -1,4 +1,5 @@
-use Rattle.std.proofs.Common.{◌≡◌, ◌+◌, ◌*◌, ◌<◌, ℕ, List, [], length, get_or, set, drop, replicate, get_or-set_same, get_or-set_other, ap, ap₂, sym, ◌∙◌, arith}
+use Rattle.std.proofs.Common.{◌≡◌, ◌+◌, ◌*◌, ◌<◌, ℕ, List, [], length, get_or, set, drop, replicate, get_or-set_same}
+use Rattle.std.proofs.Common.{get_or-set_other, ap, ap₂, sym, ◌∙◌, arith}
 use Rattle.byte_predictor.specs.Samples.{rising_bits, samples_of}
 use Rattle.byte_predictor.specs.Upward.{upward_sum, far}
 use Rattle.byte_predictor.proofs.Bits.{length-samples_of}

@@ -1,21 +1,14 @@
 use Rattle.std.proofs.Common.{◌≡◌, ◌≢◌, ℕ, ◌+◌, ◌%◌, ◌<◌, ◌∷◌, nat_eq, length, get_or, set, get_or-set_same, get_or-set_other, length-set, below_more}
 use Rattle.std.proofs.Common.{ap, sym, subst, ◌∙◌, arith}
-use Rattle.std.proofs.lemmas.List.{get_or_default}
 use Rattle.dst_spec.specs.Header.{bit_of}
-use Rattle.byte_predictor.specs.Upward.{size_sum}
 use Rattle.byte_predictor.specs.Eight.{ahead_at}
 use Rattle.byte_predictor.specs.declared.eight.EightAhead.{EightAhead}
 use Rattle.byte_predictor.specs.SumsAhead.{IsAhead}
 use Rattle.dst_frames.specs.Batch.{IsWordOf}
-use Rattle.dst_frames.specs.Eight.{entry_in}
+use Rattle.dst_frames.specs.Eight.{entry_in, table_at}
 use Rattle.dst_frames.specs.declared.tables.ChannelTables.{ChannelTables}
 use Rattle.dst_frames.proofs.OneOfEight.{TellsNext, own_or_other}
 use Rattle.dst_frames.proofs.eight.EightStates.take.Goals as goal
-
-pub word_at-next-requires-clause-narrow : goal.word_at-next-requires-clause-narrow
-word_at-next-requires-clause-narrow c =
-    let are = c.requires.tables.narrow c.loop-n.n c.index-tables-n.result (omega (arith, c.requires.few)) in
-    subst (λ (t : ChannelTables). size_sum t.filter < 32768) (sym c.index-tables-n.is) are
 
 pub loop-n-preserved : goal.loop-n-preserved
 loop-n-preserved c =
@@ -23,24 +16,21 @@ loop-n-preserved c =
     let inv = c.loop-n.invariant in
     let words = c.loop-n.self.words in
     let x = c.word_at-next.result in
-    let tables = c.args.tables.now in
+    let table = table_at c.args.eight.now c.args.from.now in
     let pushed = c.push.new.self in
     let place = c.args.place + 1 in
     let lt : i < length words = omega (arith, inv.many, c.requires.few) in
-    let lt_tables : i < length tables = omega (arith, c.requires.tables.count, c.requires.few) in
-    let T : ℕ → Type 0 = λ m. (table : ChannelTables) → TellsNext place (get_or tables m table) (ahead_at pushed m) (get_or (set words i x) m 0) in
+    let T : ℕ → Type 0 = λ m. TellsNext place (table m) (ahead_at pushed m) (get_or (set words i x) m 0) in
     let W : ℕ → Type 0 = λ m. IsWordOf (entry_in (get_or (set words i x) m 0)) (get_or (set words i x) m 0) in
-    let t_below : (m : ℕ) → m < i → T m = λ m h table.
+    let t_below : (m : ℕ) → m < i → T m = λ m h.
     let ne : m ≢ i = omega arith in
-    subst (TellsNext place (get_or tables m table) (ahead_at pushed m)) (sym (get_or-set_other words i m x 0 ne)) (inv.tells m table h) in
-    let t_here : T i = λ table.
-    let own : c.index-tables-n.result ≡ get_or tables i table = c.index-tables-n.is ∙ get_or_default tables i c.index-tables-n.result table lt_tables in
-    let e : TellsNext place c.index-tables-n.result (ahead_at c.loop-n.self.ahead i) x = c.word_at-next.ensures.entry in
-    let f : TellsNext place (get_or tables i table) (ahead_at c.loop-n.self.ahead i) x =
-    subst (λ (t : ChannelTables). TellsNext place t (ahead_at c.loop-n.self.ahead i) x) own e in
-    let g : TellsNext place (get_or tables i table) (ahead_at pushed i) x =
-    subst (λ (a : EightAhead). TellsNext place (get_or tables i table) (ahead_at a i) x) inv.ahead f in
-    subst (TellsNext place (get_or tables i table) (ahead_at pushed i)) (sym (get_or-set_same words i x 0 lt)) g in
+    subst (TellsNext place (table m) (ahead_at pushed m)) (sym (get_or-set_other words i m x 0 ne)) (inv.tells m h) in
+    let t_here : T i =
+    let e : TellsNext place c.table_of-tables.result.now (ahead_at c.loop-n.self.ahead i) x = c.word_at-next.ensures.entry in
+    let f : TellsNext place (table i) (ahead_at c.loop-n.self.ahead i) x =
+    subst (λ (t : ChannelTables). TellsNext place t (ahead_at c.loop-n.self.ahead i) x) c.table_of-tables.ensures.is e in
+    let g : TellsNext place (table i) (ahead_at pushed i) x = subst (λ (a : EightAhead). TellsNext place (table i) (ahead_at a i) x) inv.ahead f in
+    subst (TellsNext place (table i) (ahead_at pushed i)) (sym (get_or-set_same words i x 0 lt)) g in
     let w_below : (m : ℕ) → m < i → W m = λ m h.
     let ne : m ≢ i = omega arith in
     subst (λ w. IsWordOf (entry_in w) w) (sym (get_or-set_other words i m x 0 ne)) (inv.word m h) in
@@ -48,7 +38,7 @@ loop-n-preserved c =
     record {
       many = simp length-set inv.many;
       ahead = inv.ahead;
-      tells = λ m table h. below_more T i t_below t_here m h table;
+      tells = λ m h. below_more T i t_below t_here m h;
       word = λ m h. below_more W i w_below w_here m h;
       left = λ m h.
           let ne : m ≢ i = omega arith in
@@ -56,12 +46,10 @@ loop-n-preserved c =
     }
 
 pub returns-clause-taken : goal.returns-clause-taken
-returns-clause-taken c = λ n table h.
+returns-clause-taken c = λ n h.
     let inv = c.loop-n.invariant in
     let lt : n < c.loop-n.n = omega arith in
     let eight : n < 8 = omega (arith, c.requires.few) in
-    let tables = c.args.tables.now in
-    let lt_place : c.args.place < length tables = omega (arith, c.requires.tables.count, c.requires.place) in
     let place = c.args.place in
     let bit = bit_of (nat_eq (get_or c.args.given.now n 0 % 2) 1) in
     record {
@@ -69,18 +57,18 @@ returns-clause-taken c = λ n table h.
           let pushed : IsAhead filter (place + 1) (bit ∷ samples) (ahead_at c.push.new.self n) =
           own_or_other n place (IsAhead filter (place + 1) (bit ∷ samples) (ahead_at c.push.new.self n))
           (λ e.
-              let here : (get_or tables place c.index-tables-place.result).filter ≡ filter = ap (λ (t : ChannelTables). t.filter)
-                  (get_or_default tables place c.index-tables-place.result table lt_place ∙ ap (λ m. get_or tables m table) (sym e)) ∙ built.filter_is in
-              let before : IsAhead filter place samples (ahead_at c.args.self.now.ahead place) =
-              subst (λ m. IsAhead filter place samples (ahead_at c.args.self.now.ahead m)) e ready.ahead in
-              let after = c.push.ensures.own samples (subst (λ coefs. IsAhead coefs place samples (ahead_at c.args.self.now.ahead place)) (sym here) before) in
-              subst (λ m. IsAhead filter (place + 1) (bit_of (nat_eq (get_or c.args.given.now m 0 % 2) 1) ∷ samples) (ahead_at c.push.new.self m)) (sym e)
-              (subst (λ coefs. IsAhead coefs (place + 1) (bit_of (nat_eq (get_or c.args.given.now place 0 % 2) 1) ∷ samples) (ahead_at c.push.new.self place))
-              here after))
+          let here : c.table_of-own.result.now.filter ≡ filter = ap (λ (t : ChannelTables). t.filter)
+          (c.table_of-own.ensures.is ∙ ap (λ m. table_at c.args.eight.now c.args.from.now m) (sym e)) ∙ built.filter_is in
+          let before : IsAhead filter place samples (ahead_at c.args.self.now.ahead place) =
+          subst (λ m. IsAhead filter place samples (ahead_at c.args.self.now.ahead m)) e ready.ahead in
+          let after = c.push.ensures.own samples (subst (λ coefs. IsAhead coefs place samples (ahead_at c.args.self.now.ahead place)) (sym here) before) in
+          subst (λ m. IsAhead filter (place + 1) (bit_of (nat_eq (get_or c.args.given.now m 0 % 2) 1) ∷ samples) (ahead_at c.push.new.self m)) (sym e)
+          (subst (λ coefs. IsAhead coefs (place + 1) (bit_of (nat_eq (get_or c.args.given.now place 0 % 2) 1) ∷ samples) (ahead_at c.push.new.self place))
+          here after))
           (λ ne. c.push.ensures.others n filter samples eight ne ready.ahead) in
           record {
             ahead = subst (λ (a : EightAhead). IsAhead filter (place + 1) (bit ∷ samples) (ahead_at a n)) (sym inv.ahead) pushed;
-            next = inv.tells n table lt filter probs (bit ∷ samples) half_prob built pushed;
+            next = inv.tells n lt filter probs (bit ∷ samples) half_prob built pushed;
           };
       next_word = inv.word n lt;
     }

@@ -1,8 +1,7 @@
 use Rattle.std.proofs.Common.{◌≡◌, ℕ, ◌+◌, ◌<◌, ◌≤◌, length, get_or}
 use Rattle.byte_predictor.specs.Eight.{ahead_at}
 use Rattle.dst_frames.specs.Batch.{IsWordOf}
-use Rattle.dst_frames.specs.Eight.{entry_in}
-use Rattle.dst_frames.specs.declared.tables.ChannelTables.{ChannelTables}
+use Rattle.dst_frames.specs.Eight.{entry_in, table_at}
 use Rattle.dst_frames.proofs.OneOfEight.{TellsNext}
 use Rattle.dst_frames.proofs.eight.EightStates.take.Given as goal
 
@@ -10,8 +9,8 @@ abbrev pub invariant-loop-n : goal.invariant-loop-n
 invariant-loop-n l = record {
   many : length l.self.words ≡ 8;
   ahead : l.self.ahead ≡ l.initial.self.ahead;
-  tells : (m : ℕ) (table : ChannelTables) → m < l.n →
-      TellsNext (l.place + 1) (get_or l.tables m table) (ahead_at l.initial.self.ahead m) (get_or l.self.words m 0);
+  tells : (m : ℕ) → m < l.n →
+      TellsNext (l.place + 1) (table_at l.eight l.from m) (ahead_at l.initial.self.ahead m) (get_or l.self.words m 0);
   word : (m : ℕ) → m < l.n → IsWordOf (entry_in (get_or l.self.words m 0)) (get_or l.self.words m 0);
   left : (m : ℕ) → l.n ≤ m → get_or l.self.words m 0 ≡ get_or l.initial.self.words m 0;
 }
