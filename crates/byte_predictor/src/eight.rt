@@ -8,7 +8,7 @@ ghost use Rattle.byte_predictor.specs.Eight.{ahead_at};
 
 use crate::ahead::{lanes_before, pushed};
 use crate::row_filter::RowFilter;
-use crate::rows::{add_rest, add_row};
+use crate::rows::{add_front, add_rest};
 
 /// What [`Ahead`](crate::Ahead) has, of one channel of eight frames side by side. The newest samples of all eight are in one array, so that a
 /// plain loop takes the next one of each. Most of a byte's row is added while the next byte's samples are taken, that of frame `n` beside
@@ -36,7 +36,7 @@ impl EightAhead {
         ensures others { (m : ℕ) → m ≢ n → ahead_at self.new m ≡ ahead_at self.old m }
     {
         let mut lanes = lanes_before(rows);
-        add_row::<16, 128, 136>(&mut lanes, &rows.rows[0xaa]);
+        add_front(&mut lanes, &rows.rows[0xaa]);
         self.sums[n] = lanes;
         self.newest[n] = 0xaaaa;
     }
@@ -65,7 +65,7 @@ impl EightAhead {
     {
         let newest = self.newest(n);
         let row = &rows.rows[newest as usize];
-        add_row::<16, 128, 136>(&mut self.sums[n], row);
+        add_front(&mut self.sums[n], row);
     }
 
     /// What the coefficients add upward to the prediction of frame `n`'s next sample, `place` samples after the last whole byte.

@@ -110,6 +110,23 @@ pub(crate) fn add_row<const L: usize, const N: usize, const M: usize>(
     }
 }
 
+/// The same for the first sixteen lanes alone. Their sums are made before one of them is written, so that the compiler takes eight at a time.
+#[inline(always)]
+pub(crate) fn add_front(lanes: &mut [u16; 136], row: &[u16; 128])
+    ensures long { length lanes.new ≡ 136 }
+    ensures added { (lane : ℕ) → lane < 16 → get_or lanes.new lane 0 ≡ (get_or lanes.old (lane + 8) 0 + get_or row.now lane 0) % 65536 }
+    ensures last { (lane : ℕ) → 16 ≤ lane → get_or lanes.new lane 0 ≡ get_or lanes.old lane 0 }
+{
+    let mut front = [0; 16];
+    for lane in 0..16 {
+        let early = lanes[lane + 8].wrapping_add(row[lane]);
+        front[lane] = early;
+    }
+    for lane in 0..16 {
+        lanes[lane] = front[lane];
+    }
+}
+
 /// The same for the lanes from the sixteenth on, where the first sixteen had it before.
 #[inline(always)]
 pub(crate) fn add_rest(lanes: &mut [u16; 136], row: &[u16; 128])

@@ -14,7 +14,7 @@ returns-clause-fresh c =
     let n = c.args.n in
     let sums = c.args.self.now.sums in
     let newest = c.args.self.now.newest in
-    let lanes = c.add_row.new.lanes in
+    let lanes = c.add_front.new.lanes in
     let older = c.lanes_before-lanes.result in
     let samples = samples_of (replicate 16 170) in
     let all : length (samples_of (replicate 16 170)) ≡ 8 * 16 = length-samples_of (replicate 16 170) in
@@ -28,13 +28,13 @@ returns-clause-fresh c =
       few = omega arith;
       long = omega (arith, all);
       newest = ap (rising_bits 16) (get_or-set_same newest n 43690 0 lt_newest) ∙ newest-before;
-      lanes = ap length now ∙ c.add_row.ensures.long;
+      lanes = ap length now ∙ c.add_front.ensures.long;
       sums = λ lane h. ap (λ (xs : List ℕ). get_or xs lane 0) now
           ∙ front-taken n coefs samples older (get_or c.rows.inside.rows 170 []) lanes 170 rule.table.each rule.table.most again.0 before
-          (λ lane h. rule.added 170 lane (omega arith) (omega arith)) c.add_row.ensures.added c.add_row.ensures.last lane h;
+          (λ lane h. rule.added 170 lane (omega arith) (omega arith)) c.add_front.ensures.added c.add_front.ensures.last lane h;
     }
 
 pub returns-clause-others : goal.returns-clause-others
 returns-clause-others c = λ m ne.
-    ap₂ (λ a b. record { lanes = a; newest = b; late = m + 1 }) (get_or-set_other c.args.self.now.sums c.args.n m c.add_row.new.lanes [] ne)
+    ap₂ (λ a b. record { lanes = a; newest = b; late = m + 1 }) (get_or-set_other c.args.self.now.sums c.args.n m c.add_front.new.lanes [] ne)
     (get_or-set_other c.args.self.now.newest c.args.n m 43690 0 ne)

@@ -13,7 +13,7 @@ returns-clause-added c = λ samples ahead.
     let newest = c.newest-newest.result in
     let fits : newest < 256 = search rules in
     let sums = c.args.self.now.sums in
-    let lanes = c.add_row.new.lanes in
+    let lanes = c.add_front.new.lanes in
     let lt : n < length sums = omega (arith, c.requires) in
     let now : get_or (set sums n lanes) n [] ≡ lanes = get_or-set_same sums n lanes [] lt in
     let eight : rising_bits 8 newest ≡ take 8 samples =
@@ -24,13 +24,13 @@ returns-clause-added c = λ samples ahead.
       few = omega arith;
       long = ahead.long;
       newest = ahead.newest;
-      lanes = ap length now ∙ c.add_row.ensures.long;
+      lanes = ap length now ∙ c.add_front.ensures.long;
       sums = λ lane h. ap (λ (xs : List ℕ). get_or xs lane 0) now
           ∙ front-taken n coefs samples (get_or sums n []) (get_or c.rows.inside.rows newest []) lanes newest rule.table.each rule.table.most eight before
-          (λ lane h. rule.added newest lane fits (omega arith)) c.add_row.ensures.added c.add_row.ensures.last lane h;
+          (λ lane h. rule.added newest lane fits (omega arith)) c.add_front.ensures.added c.add_front.ensures.last lane h;
     }
 
 pub returns-clause-others : goal.returns-clause-others
 returns-clause-others c = λ m ne.
     ap (λ a. record { lanes = a; newest = get_or c.args.self.now.newest m 0; late = m + 1 })
-    (get_or-set_other c.args.self.now.sums c.args.n m c.add_row.new.lanes [] ne)
+    (get_or-set_other c.args.self.now.sums c.args.n m c.add_front.new.lanes [] ne)
