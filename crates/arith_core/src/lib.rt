@@ -13,7 +13,5 @@
 #![tactic(auto)]
 
 mod step;
-#[cfg(test)]
-mod tests;
 
 pub use step::{scale, select};

@@ -12,7 +12,5 @@ mod decoder;
 pub mod laws;
 mod rows;
 mod step;
-#[cfg(test)]
-mod tests;
 
 pub use decoder::ArithDecoder;

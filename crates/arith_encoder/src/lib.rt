@@ -27,8 +27,6 @@ mod lanes;
 mod length;
 mod narrow;
 mod scaling;
-#[cfg(test)]
-mod tests;
 
 pub use encoder::ArithEncoder;
 pub use lanes::{narrow_lanes, step_of};

@@ -17,8 +17,6 @@
 
 mod lane;
 mod lanes;
-#[cfg(test)]
-mod tests;
 mod words;
 
 pub use lanes::ArithLanes;

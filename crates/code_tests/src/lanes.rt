@@ -1,7 +1,7 @@
 // Words, codes side by side, and codes refused.
 ghost use Rattle.std.specs.Prelude.{◌≡◌};
 
-use super::*;
+use arith_lanes::{ArithLanes, word};
 use bit_io::BitSlice;
 use dst_num::{FrameFault, Reason};
 

@@ -1,5 +1,5 @@
 // Scales at their edges, and choices.
-use super::*;
+use arith_core::{scale, select};
 
 #[test]
 fn scales_have_bit_7_put_in_by_or(rt: HostRuntime) {

@@ -1,5 +1,5 @@
 // Codes decoded, a long code, and codes refused.
-use super::*;
+use arith_decoder::ArithDecoder;
 use bit_io::BitSlice;
 use dst_num::{FrameFault, Prob, Reason};
 

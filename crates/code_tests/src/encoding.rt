@@ -1,5 +1,5 @@
 // Codes written, codes that don't fit, a long run that is turned over, and a long code.
-use super::*;
+use arith_encoder::ArithEncoder;
 use bit_io::BitWriter;
 use dst_num::Prob;
 use std::test::Fail;
