@@ -16,8 +16,6 @@
 #![tactic(auto)]
 
 mod reader;
-#[cfg(test)]
-mod tests;
 mod window;
 mod writer;
 

@@ -48,8 +48,6 @@ mod known;
 pub mod laws;
 mod row_filter;
 mod rows;
-#[cfg(test)]
-mod tests;
 
 pub use ahead::Ahead;
 pub use byte_filter::{ByteFilter, predict};

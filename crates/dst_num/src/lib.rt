@@ -13,8 +13,6 @@ mod map;
 mod params;
 mod prob;
 mod tables;
-#[cfg(test)]
-mod tests;
 
 pub use channels::Channels;
 pub use dst_spec::{FrameFault, Reason};

@@ -29,7 +29,5 @@
 
 mod faults;
 pub mod laws;
-#[cfg(test)]
-mod tests;
 
 pub use faults::{FrameFault, Reason};

@@ -19,8 +19,6 @@ pub mod laws;
 mod maps;
 mod segments;
 mod tables;
-#[cfg(test)]
-mod tests;
 mod view;
 mod write;
 

@@ -19,8 +19,6 @@ mod prediction;
 mod reading;
 mod rice;
 mod spelling;
-#[cfg(test)]
-mod tests;
 mod writing;
 
 pub use kinds::{Filters, Probs, TableKind};

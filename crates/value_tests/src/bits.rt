@@ -1,5 +1,5 @@
 // Readers and writers at their edges.
-use super::*;
+use bit_io::{BitReader, BitSlice, BitWriter};
 use std::test::Fail;
 
 #[test]

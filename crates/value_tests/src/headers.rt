@@ -1,7 +1,7 @@
 // Headers of worked frames, the faults of others, and the parts that are lent.
-use super::*;
 use bit_io::{BitReader, BitWriter};
 use dst_num::{Channels, FrameFault, Params, Reason};
+use frame_header::{FrameView, laws, read_header, view_frame, write_header};
 use std::test::Fail;
 
 // One channel, whose filter is coefficient 0 and whose probabilities are 128 and 128; the code begins at bit 45.

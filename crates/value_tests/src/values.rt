@@ -1,6 +1,6 @@
 // The tables of channels and rates, of probabilities, and of filters and their entries.
-use super::*;
 use arrayvec::ArrayVec;
+use dst_num::{Channels, FilterTable, Map, Params, Prob, ProbTable};
 use std::test::Fail;
 
 #[test]

@@ -1,8 +1,11 @@
 // Residuals and tables in worked examples.
-use super::*;
 use bit_io::{BitReader, BitWriter};
 use dst_num::{FilterTable, FrameFault, ProbTable, Reason};
 use std::test::Fail;
+use table_code::{
+    Filters, Probs, Spelling, best_spelling, read_table, rice_length, rice_read, rice_write,
+    write_table,
+};
 
 #[test]
 fn residuals_have_their_bits(rt: HostRuntime) -> Result<(), Fail> {

@@ -1,4 +1,6 @@
-use crate::{Ahead, ByteFilter, EightAhead, History, KnownAhead, KnownFilter, RowFilter, predict};
+use byte_predictor::{
+    Ahead, ByteFilter, EightAhead, History, KnownAhead, KnownFilter, RowFilter, predict,
+};
 use dst_num::FilterTable;
 use std::test::Fail;
 

@@ -1,5 +1,5 @@
 // The texts of faults, and the numbers of reasons.
-use super::*;
+use dst_spec::{FrameFault, Reason};
 use std::test::Fail;
 
 #[test]

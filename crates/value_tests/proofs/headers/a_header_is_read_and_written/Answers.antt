@@ -1,7 +1,7 @@
 use Rattle.std.proofs.Common.{get_or, ap, sym, ◌∙◌}
 use Rattle.dst_spec.specs.Bits.{bits, number_from}
 use Rattle.dst_spec.proofs.Meaning.{first_number}
-use Rattle.frame_header.proofs.tests.a_header_is_read_and_written.Goals as goal
+use Rattle.value_tests.proofs.headers.a_header_is_read_and_written.Goals as goal
 
 pub read_header-requires-clause-coded : goal.read_header-requires-clause-coded
 read_header-requires-clause-coded g c =
