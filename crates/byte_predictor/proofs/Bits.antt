@@ -44,27 +44,16 @@ rising_bits-at (suc n) x (suc k) h =
     let top : x / 2 / 2 ^ k ≡ x / 2 ^ suc k = subst (λ m. x / 2 / 2 ^ k ≡ x / 2 ^ m) turned (shr-shr x 1 k) in
     rising_bits-at n (x / 2) k (omega arith) ∙ ap (λ y. y % 2) top
 
--- A byte takes a sample at its lower end, and lets its oldest one go.
-pub carry-through : (carry byte : ℕ) → carry < 2 → byte < 256 → carry ∷ rising_bits 8 byte ≡ rising_bits 8 (byte % 128 * 2 + carry) ++ (byte / 128) ∷ []
-carry-through carry byte h k =
-    let step : rising_bits 8 (byte % 128 * 2 + carry) ≡ (byte % 128 * 2 + carry) % 2 ∷ rising_bits 7 ((byte % 128 * 2 + carry) / 2) =
-    rising_bits-step 7 (byte % 128 * 2 + carry) in
-    let last : rising_bits 8 byte ≡ rising_bits 7 (byte % 128) ++ (byte / 128 % 2) ∷ [] = rising_bits-last 7 byte in
-    let low : (byte % 128 * 2 + carry) % 2 ≡ carry = omega arith in
-    let rest : (byte % 128 * 2 + carry) / 2 ≡ byte % 128 = omega arith in
-    let top : byte / 128 % 2 ≡ byte / 128 = omega arith in
-    rw (last, step, low, rest, top) refl
-
--- Sixteen samples do the same.
-pub carry-through-sixteen : (carry newest : ℕ) → carry < 2 → newest < 65536 →
-    carry ∷ rising_bits 16 newest ≡ rising_bits 16 (newest % 32768 * 2 + carry) ++ (newest / 32768) ∷ []
-carry-through-sixteen carry newest h k =
-    let step : rising_bits 16 (newest % 32768 * 2 + carry) ≡ (newest % 32768 * 2 + carry) % 2 ∷ rising_bits 15 ((newest % 32768 * 2 + carry) / 2) =
-    rising_bits-step 15 (newest % 32768 * 2 + carry) in
-    let last : rising_bits 16 newest ≡ rising_bits 15 (newest % 32768) ++ (newest / 32768 % 2) ∷ [] = rising_bits-last 15 newest in
-    let low : (newest % 32768 * 2 + carry) % 2 ≡ carry = omega arith in
-    let rest : (newest % 32768 * 2 + carry) / 2 ≡ newest % 32768 = omega arith in
-    let top : newest / 32768 % 2 ≡ newest / 32768 = omega arith in
+-- Some bits take one at their lower end, and let the oldest of them go.
+pub carry-through : (others carry number : ℕ) → carry < 2 → number / 2 ^ others < 2 →
+    carry ∷ rising_bits (suc others) number ≡ rising_bits (suc others) (number % 2 ^ others * 2 + carry) ++ (number / 2 ^ others) ∷ []
+carry-through others carry number h k =
+    let kept = number % 2 ^ others in
+    let step = rising_bits-step others (kept * 2 + carry) in
+    let last = rising_bits-last others number in
+    let low : (kept * 2 + carry) % 2 ≡ carry = omega arith in
+    let rest : (kept * 2 + carry) / 2 ≡ kept = omega arith in
+    let top : number / 2 ^ others % 2 ≡ number / 2 ^ others = omega arith in
     rw (last, step, low, rest, top) refl
 
 -- the low bits alone

@@ -6,7 +6,7 @@ use Rattle.std.proofs.lemmas.Bool.{cases_lt, lt-ltb, le-ltb}
 use Rattle.dst_spec.specs.Header.{bit_of}
 use Rattle.byte_predictor.specs.Samples.{rising_bits, samples_of}
 use Rattle.byte_predictor.specs.SumsAhead.{left_out}
-use Rattle.byte_predictor.proofs.Bits.{length-rising_bits, carry-through-sixteen, rising_bits-mod, rising_bits-take, rising_bits-drop}
+use Rattle.byte_predictor.proofs.Bits.{length-rising_bits, carry-through, rising_bits-mod, rising_bits-take, rising_bits-drop}
 use Rattle.byte_predictor.proofs.Pushed.{bit_given}
 
 -- ---- the newest sixteen samples
@@ -14,7 +14,7 @@ use Rattle.byte_predictor.proofs.Pushed.{bit_given}
 pub newest-pushed : (newest bit : ℕ) (samples : List ℕ) → bit < 2 → newest < 65536 → rising_bits 16 newest ≡ take 16 samples →
     rising_bits 16 (newest % 32768 * 2 + bit) ≡ take 16 (bit ∷ samples)
 newest-pushed newest bit samples small fits are =
-    let through = carry-through-sixteen bit newest small fits in
+    let through = carry-through 15 bit newest small (omega arith) in
     let new = rising_bits 16 (newest % 32768 * 2 + bit) in
     sym (take_at new ((newest / 32768) ∷ []) 16 (length-rising_bits 16 (newest % 32768 * 2 + bit)))
     ∙ ap (take 16) (sym through)
@@ -57,6 +57,17 @@ unfolding rising_bits samples_of
 newest-before = refl
 
 -- ---- what a lane doesn't have yet
+-- One sample after a byte, where the farther lanes are three samples late: lane 15 lacks that sample, lane 16 the byte before it too, and
+-- three samples after the byte no longer.
+left_out-front : left_out 3 1 15 ≡ 1
+left_out-front = refl
+
+left_out-late : left_out 3 1 16 ≡ 9
+left_out-late = refl
+
+left_out-taken : left_out 3 3 16 ≡ 3
+left_out-taken = refl
+
 pub drop-pushed : (place bit : ℕ) (samples : List ℕ) → drop place samples ≡ drop (place + 1) (bit ∷ samples)
 drop-pushed place bit samples = rw add-one refl
 

@@ -8,3 +8,4 @@ pub mod Coded
 pub mod Eight
 pub mod Batch
 pub mod Running
+pub mod Sharing

@@ -15,6 +15,7 @@ ghost use Rattle.dst_frames.specs.Tables.{IsBuilt, AreBuilt};
 ghost use Rattle.dst_frames.specs.Ready.{IsReady};
 ghost use Rattle.dst_frames.specs.Batch.{IsDecoded, IsWordOf, IsLaneFurther, AreLanes, HasBegun, stored_in, code_at};
 ghost use Rattle.dst_frames.specs.Eight.{states_at, table_at, tables_at};
+ghost use Rattle.dst_frames.specs.Sharing.{AreAlike};
 ghost use Rattle.dst_frames.specs.Running.{AreStored, AreTables, AreEight, AreWords, LaneDecoded};
 ghost use Rattle.dst_frames.specs.declared.state.ChannelState.{ChannelState};
 ghost use Rattle.dst_frames.specs.declared.eight.EightTables.{EightTables};
@@ -337,9 +338,8 @@ fn share_or_build(params: &Params, c: usize, n: usize, eight: &mut [EightTables]
 fn alike_channel(params: &Params, c: usize) -> usize
     requires { c < length params.now.half_prob }
     ensures before { result ≤ c }
-    ensures filter { filter_of params.now result ≡ filter_of params.now c }
-    ensures probs { probs_of params.now result ≡ probs_of params.now c }
-    ensures half_prob { get_or params.now.half_prob result false ≡ get_or params.now.half_prob c false }
+    ensures alike { AreAlike params.now result c }
+    ensures first { (d : ℕ) → d < result → AreAlike params.now d c → ⊥ }
 {
     for d in 0..c {
         if are_alike(params, d, c) {

@@ -1,6 +1,7 @@
 // What the parameters of a frame give a channel.
 ghost use Rattle.std.specs.Prelude.{◌≡◌, ◌<◌, true, false, length, get_or};
 ghost use Rattle.dst_spec.specs.Guess.{filter_of, probs_of};
+ghost use Rattle.dst_frames.specs.Sharing.{AreAlike};
 
 use dst_num::{FilterTable, Params, ProbTable};
 
@@ -36,9 +37,8 @@ pub fn channel_half_prob(params: &Params, c: usize) -> bool
 pub(crate) fn are_alike(params: &Params, d: usize, c: usize) -> bool
     requires first { d < length params.now.half_prob }
     requires second { c < length params.now.half_prob }
-    ensures filter { result ≡ true → filter_of params.now d ≡ filter_of params.now c }
-    ensures probs { result ≡ true → probs_of params.now d ≡ probs_of params.now c }
-    ensures half_prob { result ≡ true → get_or params.now.half_prob d false ≡ get_or params.now.half_prob c false }
+    ensures alike { result ≡ true → AreAlike params.now d c }
+    ensures other { result ≡ false → AreAlike params.now d c → ⊥ }
 {
     let filters = params.filter_map.elements();
     let probs = params.prob_map.elements();

@@ -23,7 +23,7 @@ loop-j-preserved c =
     let same : byte ≡ get_or old j 0 = c.loop-j.invariant.2 j (omega arith) in
     let grown : take (j + 1) old ≡ take j old ++ byte ∷ [] = take_more old j 0 (omega arith) ∙ ap (λ b. take j old ++ b ∷ []) (sym same) in
     let placed : take (j + 1) (set now j moved) ≡ take j now ++ moved ∷ [] = take_more_set now j moved (omega arith) in
-    let through = carry-through c.loop-j.carry byte c.loop-j.invariant.1 small in
+    let through = carry-through 7 c.loop-j.carry byte c.loop-j.invariant.1 (omega (arith, small)) in
     let further = shifted_more (bit_of c.args.sample) c.loop-j.carry byte moved (byte / 128) (take j old) (take j now) c.loop-j.invariant.0 through in
     let apart : (k : ℕ) → j + 1 < k + 1 → k ≢ j = λ k h e. omega arith in (
       ap (λ t. bit_of c.args.sample ∷ samples_of t) grown ∙ further ∙ ap (λ t. samples_of t ++ (byte / 128) ∷ []) (sym placed),
