@@ -39,6 +39,3 @@ pub use honest::HonestSource;
 pub use memory::{MemoryFlow, MemorySink, MemorySource, ShortFlowSink};
 pub use sink::Sink;
 pub use source::{Failed, Source};
-
-#[cfg(test)]
-mod tests;

@@ -59,6 +59,3 @@ pub use gate::{Gate, OpenGate};
 pub use ordered::{RunFault, run_ordered};
 pub use turn::{InTurn, JobWork};
 pub use work::{FrameWork, Slot};
-
-#[cfg(test)]
-mod tests;

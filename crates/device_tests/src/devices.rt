@@ -2,12 +2,16 @@
 mod full_disk;
 mod small_steps;
 
-use super::*;
+use dst_streams::{
+    Failed, FileSink, FileSource, Flow, HonestSource, MemoryFlow, MemorySink, MemorySource,
+    PipeFlow, ShortFlowSink, Sink, Source, TextSink,
+};
 use full_disk::FullDisk;
 use small_steps::{BrokenPipe, SmallSteps};
 use std::alloc::Allocator;
 use std::fs::{self, Files};
 use std::io::{self, BufRead, ErrorKind, Input, Lines};
+use std::process::Abort;
 use std::test::Fail;
 
 // A standard input that holds five bytes.
@@ -29,6 +33,28 @@ impl Input for Typed {
     }
 }
 
+// What kind of reason the system gave.
+fn kind_of(reason: Option<io::Error>) -> Option<ErrorKind> {
+    match reason {
+        Some(reason) => Some(reason.kind()),
+        None => None,
+    }
+}
+
+// Four bytes are asked of a source from a place on: the answer, and what is held then.
+fn reads(
+    rt: &impl Abort,
+    source: &mut MemorySource<'_>,
+    place: u64,
+    answer: Result<usize, Failed>,
+    held: &[u8],
+) {
+    let mut out = [0u8; 4];
+    let read = source.read_at(place, &mut out);
+    assert_eq!(rt; read, answer, "at {place}");
+    assert_eq!(rt; out.as_slice(), held, "at {place}");
+}
+
 #[test]
 fn a_source_in_memory_gives_its_pieces_and_fails_as_planned(rt: HostRuntime) -> Result<(), Fail> {
     let bytes = [1u8, 2, 3, 4, 5];
@@ -45,10 +71,7 @@ fn a_source_in_memory_gives_its_pieces_and_fails_as_planned(rt: HostRuntime) -> 
         (5, Ok(0), [0, 0, 0, 0]),
     ];
     for (place, answer, held) in &steps {
-        let mut out = [0u8; 4];
-        let read = source.read_at(*place, &mut out);
-        assert_eq!(rt; read, *answer, "at {place}");
-        assert_eq!(rt; out.as_slice(), held.as_slice(), "at {place}");
+        reads(&rt, &mut source, *place, *answer, held.as_slice());
     }
     Ok(())
 }
@@ -66,6 +89,19 @@ fn an_honest_source_gives_all_that_is_asked(rt: HostRuntime) -> Result<(), Fail>
     Ok(())
 }
 
+// A piece is appended: the answer, and what is written then.
+fn appends(
+    rt: &impl Abort,
+    sink: &mut MemorySink<'_>,
+    piece: &[u8],
+    answer: Result<(), Failed>,
+    held: &[u8],
+) {
+    let appended = sink.append(piece);
+    assert_eq!(rt; appended, answer);
+    assert_eq!(rt; sink.written(), held);
+}
+
 #[test]
 fn a_sink_in_memory_keeps_half_of_a_refused_piece(rt: HostRuntime) -> Result<(), Fail> {
     let mut sink = MemorySink::new(rt.alloc(), 6, &[1, 4])?;
@@ -76,18 +112,21 @@ fn a_sink_in_memory_keeps_half_of_a_refused_piece(rt: HostRuntime) -> Result<(),
         (&[8, 8, 9, 9], Err(Failed), &[1, 2, 3, 4, 7, 8]),
     ];
     for (piece, answer, held) in &steps {
-        let appended = sink.append(piece);
-        assert_eq!(rt; appended, *answer);
-        assert_eq!(rt; sink.written(), *held);
+        appends(&rt, &mut sink, piece, *answer, held);
     }
     let refused = sink.overwrite(0, &[]);
     assert_eq!(rt; refused, Err(Failed));
     let mut sure = MemorySink::new(rt.alloc(), 3, &[])?;
-    sure.append(&[1, 2, 3])?;
-    sure.overwrite(1, &[9])?;
-    sure.finish()?;
+    write_over(&mut sure)?;
     assert_eq!(rt; sure.written(), [1, 9, 3].as_slice());
     Ok(())
+}
+
+// Three bytes, of which the second is written over.
+fn write_over<K: Sink>(sink: &mut K) -> Result<(), Failed> {
+    sink.append(&[1, 2, 3])?;
+    sink.overwrite(1, &[9])?;
+    sink.finish()
 }
 
 #[test]
@@ -123,6 +162,14 @@ fn a_short_sink_keeps_its_prefix_and_then_fails(rt: HostRuntime) -> Result<(), F
     Ok(())
 }
 
+// Three bytes are asked of a flow: the answer, and what is held then.
+fn moves<F: Flow>(rt: &impl Abort, flow: &mut F, answer: Result<usize, Failed>, held: &[u8]) {
+    let mut out = [0u8; 3];
+    let moved = flow.next(&mut out);
+    assert_eq!(rt; moved, answer);
+    assert_eq!(rt; out.as_slice(), held);
+}
+
 #[test]
 fn a_flow_in_memory_moves_its_pieces(rt: HostRuntime) -> Result<(), Fail> {
     let bytes = [1u8, 2, 3, 4, 5, 6];
@@ -136,27 +183,29 @@ fn a_flow_in_memory_moves_its_pieces(rt: HostRuntime) -> Result<(), Fail> {
         (Ok(0), [0, 0, 0]),
     ];
     for (answer, held) in &steps {
-        let mut out = [0u8; 3];
-        let moved = flow.next(&mut out);
-        assert_eq!(rt; moved, *answer);
-        assert_eq!(rt; out.as_slice(), held.as_slice());
+        moves(&rt, &mut flow, *answer, held.as_slice());
     }
     Ok(())
+}
+
+// Eight bytes in three pieces, of which two are written over before the last.
+fn write_in_pieces<K: Sink>(sink: &mut K) -> Result<(), Failed> {
+    sink.append(b"seven ")?;
+    sink.append(b"b")?;
+    sink.overwrite(1, b"EV")?;
+    sink.append(b"!")?;
+    sink.finish()
 }
 
 #[test]
 fn a_file_is_made_where_there_is_none(rt: HostRuntime) -> Result<(), Fail> {
     let _ = fs::remove_file(&rt, "made.bin");
     let mut made = FileSink::new(&rt, "made.bin");
-    made.append(b"seven ")?;
-    made.append(b"b")?;
-    made.overwrite(1, b"EV")?;
-    made.append(b"!")?;
-    made.finish()?;
+    write_in_pieces(&mut made)?;
     let size = made.held();
     let mut again = FileSink::new(&rt, "made.bin");
     let refused = again.append(b"x");
-    let reason = again.reason().map(|reason| reason.kind());
+    let reason = kind_of(again.reason());
     let held = fs::read(&rt, "made.bin")?;
     fs::remove_file(&rt, "made.bin")?;
     assert_eq!(rt; (size, again.held()), (Some(8), None));
@@ -207,7 +256,7 @@ fn a_file_is_read_as_it_is(rt: HostRuntime) -> Result<(), Fail> {
     fs::remove_file(&rt, "read.bin")?;
     let mut absent = FileSource::new(&rt, "read.bin");
     let refused = absent.size();
-    let reason = absent.reason().map(|reason| reason.kind());
+    let reason = kind_of(absent.reason());
     assert_eq!(rt; (size, read, past), (7, 5, 0));
     assert_eq!(rt; out.as_slice(), b"ven b\0".as_slice());
     assert_eq!(rt; refused, Err(Failed));
@@ -229,7 +278,7 @@ fn a_file_that_gives_nothing_is_a_failure(rt: HostRuntime) -> Result<(), Fail> {
     fs::write(&rt, "shrinks.bin", b"se")?;
     let mut out = [0u8; 4];
     let behind = source.read_at(2, &mut out);
-    let reason = source.reason().map(|reason| reason.kind());
+    let reason = kind_of(source.reason());
     fs::remove_file(&rt, "shrinks.bin")?;
     assert_eq!(rt;
         (size, behind, reason),
@@ -267,7 +316,7 @@ fn standard_input_that_breaks_off_is_a_failure(rt: HostRuntime) -> Result<(), Fa
     let mut out = [0u8; 3];
     let first = flow.next(&mut out);
     let second = flow.next(&mut out);
-    let reason = flow.reason().map(|reason| reason.kind());
+    let reason = kind_of(flow.reason());
     assert_eq!(rt; (first, second), (Ok(3), Err(Failed)));
     assert_eq!(rt; reason, Some(ErrorKind::BrokenPipe));
     Ok(())
@@ -278,10 +327,7 @@ fn standard_input_comes_in_order_to_its_end(rt: HostRuntime) -> Result<(), Fail>
     let mut flow = PipeFlow::new(&Typed);
     let steps: [(usize, [u8; 3]); 3] = [(3, *b"typ"), (2, *b"ed\0"), (0, [0; 3])];
     for (count, held) in &steps {
-        let mut out = [0u8; 3];
-        let moved = flow.next(&mut out);
-        assert_eq!(rt; moved, Ok(*count));
-        assert_eq!(rt; out.as_slice(), held.as_slice());
+        moves(&rt, &mut flow, Ok(*count), held.as_slice());
     }
     Ok(())
 }

@@ -1,7 +1,9 @@
 // Which jobs are worked at once, and one answer for every number of workers.
 ghost use Rattle.std.specs.Prelude.{◌≡◌, ◌+◌, ◌-◌, ◌%◌, ◌^◌, ◌<◌, ◌≤◌};
 
-use super::*;
+use frame_crew::{
+    Drain, Feed, Gate, InTurn, JobWork, OpenGate, RunFault, Slot, run_batch, run_ordered,
+};
 use std::sync::atomic::{AtomicU64, Ordering};
 use std::test::Fail;
 use std::thread::Threads;
