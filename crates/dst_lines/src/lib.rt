@@ -9,6 +9,4 @@
 #![tactic(auto)]
 
 pub mod lines;
-#[cfg(test)]
-mod tests;
 mod texts;

@@ -15,8 +15,6 @@
 
 mod pairs;
 mod slots;
-#[cfg(test)]
-mod tests;
 mod words;
 
 pub use pairs::Pairs;

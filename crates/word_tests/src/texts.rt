@@ -1,6 +1,6 @@
 // The tables of lines.
-use super::*;
 use dsdiff_spec::FileFault;
+use dst_lines::lines;
 use dst_spec::{FrameFault, Reason};
 use std::process::Abort;
 use std::test::Fail;

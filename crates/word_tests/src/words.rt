@@ -1,6 +1,6 @@
 // The tables of words.
-use super::*;
 use dst_num::Channels;
+use dst_words::{Command, Pairs, Task, read_words};
 use std::alloc::{AllocError, Global};
 use std::test::Fail;
 
