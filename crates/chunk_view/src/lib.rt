@@ -12,8 +12,6 @@
 
 mod fields;
 mod split;
-#[cfg(test)]
-mod tests;
 mod view;
 
 pub use fields::{channels_of, compression_of, entry_of, frames_of, rate_of};

@@ -31,8 +31,6 @@ mod origin;
 mod plain;
 mod prop;
 mod read;
-#[cfg(test)]
-mod tests;
 mod top;
 mod write;
 mod write_coded;

@@ -17,8 +17,6 @@ mod open;
 mod plain;
 mod row;
 mod source;
-#[cfg(test)]
-mod tests;
 
 pub use form::DsfForm;
 pub use head::write_dsf_head;

@@ -27,8 +27,6 @@ mod frames;
 mod index;
 pub mod laws;
 mod lookup;
-#[cfg(test)]
-mod tests;
 
 pub use frames::walk;
 pub use index::{Entry, Index, compare};

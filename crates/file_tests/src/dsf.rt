@@ -1,6 +1,6 @@
 // DSF files written by hand, read as the form that stands for them.
-use crate::{DsfForm, DsfSource, open_dsf, write_dsf_head};
 use dsdiff_chunks::{FileFault, OpenFault, read_range};
+use dsf_files::{DsfForm, DsfSource, open_dsf, write_dsf_head};
 use dst_num::Channels;
 use dst_streams::{HonestSource, MemorySink, Source};
 use std::test::Fail;

@@ -1,5 +1,5 @@
 // Files of one channel that are opened, or refused by name, with ample memory.
-use super::*;
+use dsdiff_chunks::{FileFault, Form, OpenFault, open_form};
 use dst_streams::HonestSource;
 use std::alloc::{AllocError, Global};
 use std::test::Fail;

@@ -1,7 +1,7 @@
 // Each call once, with ample memory.
-use super::*;
 use dsdiff_chunks::{FileFault, Form, OpenFault, open_form};
 use dst_streams::HonestSource;
+use frame_index::{Entry, Index, compare, locate_by_index, read_index, walk};
 use std::alloc::Global;
 use std::test::Fail;
 

@@ -1,5 +1,7 @@
 // The chunks in `PROP` of a small file, and what is refused.
-use super::*;
+use chunk_view::{
+    Overrun, channels_of, compression_of, entry_of, frames_of, rate_of, split_chunks,
+};
 use std::process::Abort;
 use std::test::Fail;
 
