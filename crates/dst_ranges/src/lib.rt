@@ -18,7 +18,5 @@ mod opened;
 mod pairs;
 mod parts;
 mod range;
-#[cfg(test)]
-mod tests;
 
 pub use range::{RangeWritten, range_out};

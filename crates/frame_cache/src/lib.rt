@@ -16,7 +16,5 @@
 mod part;
 mod reader;
 mod slots;
-#[cfg(test)]
-mod tests;
 
 pub use reader::{RangeFault, RangeReader, Reading};

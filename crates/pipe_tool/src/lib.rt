@@ -12,8 +12,6 @@
 #![tactic(auto)]
 
 mod run;
-#[cfg(test)]
-mod tests;
 mod words;
 
 pub use run::dst_pipe;

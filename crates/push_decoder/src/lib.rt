@@ -37,8 +37,6 @@ mod reading;
 mod sound;
 mod stage;
 mod step;
-#[cfg(test)]
-mod tests;
 pub mod uses;
 
 pub use decoder::PushDecoder;

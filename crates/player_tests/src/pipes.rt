@@ -1,6 +1,6 @@
 // Streams by their bytes, in pieces of any size.
-use super::dst_pipe;
 use dst_streams::{MemoryFlow, MemorySink};
+use pipe_tool::dst_pipe;
 use std::alloc::{AllocError, Global};
 use std::process::Abort;
 use std::test::Fail;

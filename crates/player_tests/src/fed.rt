@@ -1,7 +1,6 @@
 // The file of one frame, in pieces.
-use super::uses::{Player, play_piece};
-use super::*;
-use std::process::Abort;
+use push_decoder::uses::{Player, play_piece};
+use push_decoder::{FileFault, PushDecoder, Step};
 use std::test::Fail;
 
 // One frame FC 00 00 05 FF F8 of one channel, in 158 bytes.

@@ -1,10 +1,10 @@
 // Reads of small files with one, two and 64 frames kept.
 ghost use Rattle.std.specs.Prelude.{◌≡◌, ◌≤◌, ℕ, Some};
 
-use super::*;
 use dsdiff_chunks::{FileFault, Form, OpenFault, open_form};
 use dst_num::{FrameFault, Reason};
 use dst_streams::{HonestSource, Source};
+use frame_cache::{RangeFault, RangeReader, Reading};
 use frame_index::walk;
 use std::alloc::Global;
 use std::test::Fail;

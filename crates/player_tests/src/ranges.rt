@@ -1,7 +1,7 @@
 // Parts of a small file, by its bytes.
-use crate::{RangeWritten, range_out};
 use dsdiff_chunks::{FileFault, OpenFault};
 use dst_num::{FrameFault, Reason};
+use dst_ranges::{RangeWritten, range_out};
 use dst_read::DecodeFault;
 use dst_streams::{HonestSource, MemorySink};
 use std::test::Fail;
