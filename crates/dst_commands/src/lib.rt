@@ -18,8 +18,6 @@ mod opening;
 mod pieces;
 mod rules;
 mod sizes;
-#[cfg(test)]
-mod tests;
 
 pub use around::{write_end, write_front, write_opening, write_pad};
 pub use chunks::{FormRef, Passed, Side, chunks_count, chunks_length, pass_chunks};

@@ -17,7 +17,5 @@ mod cut_form;
 mod cut_index;
 mod cut_parts;
 mod cut_rules;
-#[cfg(test)]
-mod tests;
 
 pub use cut::{Cut, CutFault, cut_file};

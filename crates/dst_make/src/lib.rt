@@ -10,7 +10,5 @@
 #![tactic(auto)]
 
 mod make;
-#[cfg(test)]
-mod tests;
 
 pub use make::{Made, MakeFault, make_file};

@@ -19,8 +19,6 @@ mod listing;
 mod one_frame;
 mod show;
 mod summary;
-#[cfg(test)]
-mod tests;
 
 pub use faults::{FrameWritten, ListFault, Reported, ShowFault};
 pub use listing::index_file;

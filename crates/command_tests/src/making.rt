@@ -1,5 +1,5 @@
 // Files of made sound against heads written by hand and another program's frames, and sinks that fail.
-use crate::{Made, MakeFault, make_file};
+use dst_make::{Made, MakeFault, make_file};
 use dst_num::Channels;
 use dst_streams::{MemorySink, ShortFlowSink};
 use std::test::Fail;

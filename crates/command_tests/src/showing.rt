@@ -1,7 +1,7 @@
 // The calls that list and show a file, and give one frame: each by itself, and over devices that fail.
-use crate::{FrameWritten, ListFault, Reported, ShowFault, frame_out, index_file, show_file};
 use dsdiff_chunks::OpenFault;
 use dst_read::DecodeFault;
+use dst_show::{FrameWritten, ListFault, Reported, ShowFault, frame_out, index_file, show_file};
 use dst_streams::{HonestSource, MemorySink, MemorySource};
 use example_files::two_frames;
 use std::test::Fail;

@@ -1,6 +1,6 @@
 // Files that are opened by the rules of a command, and how many jobs there are.
-use super::*;
 use dsdiff_chunks::{FileFault, OpenFault};
+use dst_commands::{AllFrames, FrameByWalk, PlainFile, job_count, open_file};
 use dst_num::Channels;
 use dst_streams::HonestSource;
 use std::test::Fail;

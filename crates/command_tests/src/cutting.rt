@@ -1,6 +1,6 @@
 // Frames that are cut out of a file of two, by their bytes. No frame is decoded, so that theirs may be any.
-use crate::{Cut, CutFault, cut_file};
 use dsdiff_chunks::{FileFault, OpenFault};
+use dst_cut::{Cut, CutFault, cut_file};
 use dst_streams::{HonestSource, MemorySink, MemorySource};
 use example_files::{SILENT, joined};
 use std::alloc::{AllocError, Global};
