@@ -30,8 +30,6 @@ mod opened;
 mod row;
 mod rows;
 mod said;
-#[cfg(test)]
-mod tests;
 mod workspace;
 
 pub use decode::decode_dsf;

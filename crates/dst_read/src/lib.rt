@@ -32,6 +32,3 @@ pub use faults::{CheckFault, Checked, DecodeFault, Decoded};
 pub use feed::StoredFrames;
 pub use frames::decode_frames;
 pub use jobs::{Job, Tables, jobs_for, tables_for};
-
-#[cfg(test)]
-mod tests;

@@ -21,8 +21,6 @@ mod feed;
 mod frames;
 mod jobs;
 mod sizes;
-#[cfg(test)]
-mod tests;
 mod work;
 
 pub use encode::encode_file;

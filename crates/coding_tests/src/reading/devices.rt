@@ -1,6 +1,6 @@
 // Devices that fail at each of their calls, or whose room ends at each byte.
-use crate::{DecodeFault, Decoded, decode_file};
 use dsdiff_chunks::OpenFault;
+use dst_read::{DecodeFault, Decoded, decode_file};
 use dst_streams::{HonestSource, MemorySink, MemorySource, ShortFlowSink};
 use example_files::{SILENT, coded, odd_plain, two_frames};
 use frame_crew::OpenGate;

@@ -2,35 +2,14 @@
 mod crew;
 mod files;
 
-ghost use Rattle.std.specs.Prelude.{[]};
-
-use crate::{EncodeFault, Encoded, encode_file};
+use crate::no_pick::NoPick;
 use dsdiff_chunks::{FileFault, OpenFault};
-use dst_num::Channels;
 use dst_streams::{HonestSource, MemorySink};
+use dst_write::{EncodeFault, Encoded, encode_file};
 use example_files::{SILENT, odd_plain, two_frames};
 use files::{CODED_SILENT, CODED_SILENT_AND_THREE, SILENT_AND_THREE};
 use frame_crew::OpenGate;
-use frame_predictions::Predictions;
-use frame_store::{Candidates, Picker};
 use std::test::Fail;
-
-// Picks no parameters, so that each frame is stored in its plain form.
-struct NoPick;
-
-impl Picker for NoPick {
-    ghost picks = { λ _ _ _. [] };
-
-    fn pick(
-        &self,
-        _sound: &[u8],
-        _channels: Channels,
-        _predictions: &mut Predictions,
-        found: &mut Candidates,
-    ) {
-        found.clear();
-    }
-}
 
 #[test]
 fn a_file_without_sound_is_coded(rt: HostRuntime) -> Result<(), Fail> {

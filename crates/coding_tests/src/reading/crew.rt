@@ -1,65 +1,17 @@
 // Frames that several workers decode and check.
 ghost use Rattle.std.specs.Prelude.{◌<◌, ◌≤◌};
 
-use crate::{CheckFault, Checked, DecodeFault, Decoded, check_file, decode_file};
+use crate::holding::Holding;
 use dsdiff_chunks::{FileFault, OpenFault};
+use dst_read::{CheckFault, Checked, DecodeFault, Decoded, check_file, decode_file};
 use dst_spec::{FrameFault, Reason};
 use dst_streams::{HonestSource, MemorySink};
 use example_files::{SILENT, chunk, coded, frame, odd_plain, one_frame, two_frames, with_bytes};
-use frame_crew::{Gate, OpenGate};
+use frame_crew::OpenGate;
 use std::alloc::{AllocError, Global};
 use std::process::Abort;
-use std::sync::atomic::{AtomicU64, Ordering};
 use std::test::Fail;
 use std::thread::Threads;
-
-// Holds each job until as many jobs as workers were at the gate at once.
-#[derive(Drop)]
-struct Holding {
-    workers: u64,
-    passes: AtomicU64,
-    inside: AtomicU64,
-    most: AtomicU64,
-}
-
-impl Holding {
-    fn new(workers: u32) -> Holding {
-        Holding {
-            workers: u64::from(workers),
-            passes: AtomicU64::new(0),
-            inside: AtomicU64::new(0),
-            most: AtomicU64::new(0),
-        }
-    }
-
-    // Returns at last also where they don't come: the most that were there tell it.
-    fn wait(&self) {
-        for _ in 0..100_000_000u64 {
-            if self.most.load(Ordering::SeqCst) >= self.workers {
-                return;
-            }
-        }
-    }
-
-    // How often it was passed, and the most that were there at once.
-    fn seen(&self) -> (u64, u64) {
-        (
-            self.passes.load(Ordering::SeqCst),
-            self.most.load(Ordering::SeqCst),
-        )
-    }
-}
-
-impl Gate for Holding {
-    fn pass(&self, _place: usize) {
-        self.passes.fetch_add(1, Ordering::SeqCst);
-        let others = self.inside.fetch_add(1, Ordering::SeqCst);
-        self.most
-            .fetch_max(others.wrapping_add(1), Ordering::SeqCst);
-        self.wait();
-        self.inside.fetch_sub(1, Ordering::SeqCst);
-    }
-}
 
 // A coded file of so many frames, each the same sound as it is.
 fn frames_alike(alloc: Global, count: u32) -> Result<Vec<u8>, AllocError> {

@@ -1,15 +1,11 @@
 // A DSF file written by hand, of twelve samples of one channel.
-ghost use Rattle.std.specs.Prelude.{[]};
-
-use crate::{decode_dsf, encode_dsf};
+use crate::no_pick::NoPick;
 use dsdiff_chunks::{FileFault, OpenFault};
-use dst_num::Channels;
+use dst_dsf::{decode_dsf, encode_dsf};
 use dst_read::{DecodeFault, Decoded};
 use dst_streams::{HonestSource, MemorySink, MemorySource};
 use dst_write::{EncodeFault, Encoded};
 use frame_crew::OpenGate;
-use frame_predictions::Predictions;
-use frame_store::{Candidates, Picker};
 use std::test::Fail;
 
 // The head of a file of twelve samples, with 1 bit per sample.
@@ -47,23 +43,6 @@ fn coded() -> [u8; 4966] {
     file[..155].copy_from_slice(FRONT);
     file[4857..].copy_from_slice(END);
     file
-}
-
-// Picks no parameters, so that each frame is stored in its plain form.
-struct NoPick;
-
-impl Picker for NoPick {
-    ghost picks = { λ _ _ _. [] };
-
-    fn pick(
-        &self,
-        _sound: &[u8],
-        _channels: Channels,
-        _predictions: &mut Predictions,
-        found: &mut Candidates,
-    ) {
-        found.clear();
-    }
 }
 
 #[test]

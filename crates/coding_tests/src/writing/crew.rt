@@ -1,56 +1,15 @@
 // Frames that several workers store at once.
 ghost use Rattle.std.specs.Prelude.{◌<◌, ◌≤◌};
 
-use super::NoPick;
-use crate::{Encoded, encode_file};
+use crate::holding::Holding;
+use crate::no_pick::NoPick;
 use dst_streams::{HonestSource, MemorySink};
+use dst_write::{Encoded, encode_file};
 use example_files::{counting, odd_plain, plain, two_frames};
-use frame_crew::Gate;
 use std::alloc::{AllocError, Global};
 use std::process::Abort;
-use std::sync::atomic::{AtomicU64, Ordering};
 use std::test::Fail;
 use std::thread::Threads;
-
-// Holds each job until as many jobs as workers were at the gate at once.
-#[derive(Drop)]
-struct Holding {
-    workers: u64,
-    passes: AtomicU64,
-    inside: AtomicU64,
-    most: AtomicU64,
-}
-
-impl Holding {
-    fn new(workers: u32) -> Holding {
-        Holding {
-            workers: u64::from(workers),
-            passes: AtomicU64::new(0),
-            inside: AtomicU64::new(0),
-            most: AtomicU64::new(0),
-        }
-    }
-
-    // Returns at last also where they don't come: the most that were there tell it.
-    fn wait(&self) {
-        for _ in 0..100_000_000u64 {
-            if self.most.load(Ordering::SeqCst) >= self.workers {
-                return;
-            }
-        }
-    }
-}
-
-impl Gate for Holding {
-    fn pass(&self, _place: usize) {
-        self.passes.fetch_add(1, Ordering::SeqCst);
-        let others = self.inside.fetch_add(1, Ordering::SeqCst);
-        self.most
-            .fetch_max(others.wrapping_add(1), Ordering::SeqCst);
-        self.wait();
-        self.inside.fetch_sub(1, Ordering::SeqCst);
-    }
-}
 
 // Two frames for each worker are stored: each passes the gate, and as many as workers are there at once.
 fn all_store(
@@ -73,10 +32,8 @@ fn all_store(
         bytes: 4705 * u64::from(frames),
     };
     assert_eq!(rt; answer, Ok(done), "{workers} workers");
-    let passes = gate.passes.load(Ordering::SeqCst);
-    assert_eq!(rt; passes, u64::from(frames), "{workers} workers");
-    let most = gate.most.load(Ordering::SeqCst);
-    assert_eq!(rt; most, u64::from(workers), "{workers} workers");
+    let all = (u64::from(frames), u64::from(workers));
+    assert_eq!(rt; gate.seen(), all, "{workers} workers");
     Ok(())
 }
 
@@ -106,7 +63,6 @@ fn two_frames_are_stored_at_once(rt: HostRuntime) -> Result<(), Fail> {
     };
     assert_eq!(rt; answer, Ok(done));
     assert!(rt; sink.written() == coded.as_slice());
-    assert_eq!(rt; gate.passes.load(Ordering::SeqCst), 2);
-    assert_eq!(rt; gate.most.load(Ordering::SeqCst), 2);
+    assert_eq!(rt; gate.seen(), (2, 2));
     Ok(())
 }
