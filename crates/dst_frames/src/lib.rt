@@ -30,8 +30,6 @@ mod scratch;
 mod state;
 mod stored;
 mod tables;
-#[cfg(test)]
-mod tests;
 mod word_table;
 
 pub use batch::decode_batch;

@@ -18,8 +18,6 @@ mod recursion;
 mod refined;
 mod refining;
 mod scale;
-#[cfg(test)]
-mod tests;
 mod words;
 
 pub use counts::count_table;

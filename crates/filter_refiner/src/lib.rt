@@ -21,8 +21,6 @@ mod rows;
 mod sizes;
 mod solving;
 mod steps;
-#[cfg(test)]
-mod tests;
 
 pub use fitting::{fit, length_without_zeros};
 pub use gradient::add_gradient;

@@ -18,8 +18,6 @@ pub mod laws;
 mod predictions;
 mod row;
 mod single;
-#[cfg(test)]
-mod tests;
 
 pub use predictions::Predictions;
 pub use single::write_codes;

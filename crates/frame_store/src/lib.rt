@@ -22,8 +22,6 @@ mod picker;
 mod scratch;
 mod spell;
 mod store;
-#[cfg(test)]
-mod tests;
 
 pub use picker::{Candidates, OnePick, Picker};
 pub use scratch::StoreScratch;

@@ -19,8 +19,6 @@
 
 pub mod laws;
 mod maker;
-#[cfg(test)]
-mod tests;
 mod wave;
 
 pub use maker::SoundMaker;

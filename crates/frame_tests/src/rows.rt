@@ -1,6 +1,6 @@
 // Codes worked out by hand, and rows that are found again.
-use super::*;
 use dst_num::{Channels, FilterTable};
+use frame_predictions::Predictions;
 use std::alloc::Global;
 use std::test::Fail;
 

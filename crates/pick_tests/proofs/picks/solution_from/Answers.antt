@@ -3,7 +3,7 @@ use mir.Syntax.{w64}
 use Rattle.std.proofs.lemmas.Int.{ints, clamps}
 use Rattle.filter_refiner.proofs.Numbers.{zeros-at}
 use Rattle.filter_analyser.proofs.Writing.{set-most}
-use Rattle.filter_analyser.proofs.tests.solution_from.Goals as goal
+use Rattle.pick_tests.proofs.picks.solution_from.Goals as goal
 
 pub loop-place-init : goal.loop-place-init
 loop-place-init c = (refl, λ k. rw (zeros-at 128 k) (omega arith))

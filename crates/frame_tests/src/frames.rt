@@ -5,9 +5,10 @@ ghost use Rattle.dst_frames.specs.Running.{AreStored};
 ghost use Rattle.dst_frames.specs.declared.stored.StoredFrame.{StoredFrame};
 ghost use Rattle.dst_frames.specs.declared.stored.DecodedFrame.{DecodedFrame};
 
-use super::*;
+use dst_frames::{BatchScratch, DecodedFrame, Scratch, StoredFrame, decode_batch, decode_frame};
 use dst_num::{Channels, FrameFault, Reason};
 use std::alloc::Global;
+use std::process::Abort;
 use std::test::Fail;
 
 // One channel, the coefficient 0 and the probabilities 128 and 128: each sample is 1.
@@ -260,13 +261,39 @@ fn first_byte(heard: &DecodedFrame) -> Option<u8> {
     heard.sound.as_slice().first().copied()
 }
 
-#[test]
-fn frames_side_by_side_are_decoded_as_alone(rt: HostRuntime) -> Result<(), Fail> {
+// Of eight frames of one channel the first alone, the first two, and so on, side by side: the first byte of each one's sound.
+fn first_bytes_are(
+    rt: &impl Abort,
+    alloc: Global,
+    frames: &[&[u8]; 8],
+    bytes: &[Option<u8>; 8],
+) -> Result<(), Fail> {
     let mono = Channels::new(1).ok_or("one channel")?;
+    for count in 1..9usize {
+        let heard = side_by_side(alloc, mono, &frames[..count])?;
+        for (n, one) in heard.iter().enumerate() {
+            assert_eq!(rt;
+                Some(first_byte(one)),
+                bytes.get(n).copied(),
+                "{count}, frame {n}"
+            );
+        }
+    }
+    Ok(())
+}
+
+// A plain frame of one channel.
+fn plain_frame() -> [u8; 4705] {
     let mut plain = [0x69; 4705];
     plain[0] = 0x00;
-    // Coefficients 0, 1 and -1, two segmentations, two maps, three coefficients by method 2; then a plain frame, and one whose first
-    // code bit is 1. From the front, so that up to six all are coded, and turned round.
+    plain
+}
+
+// Coefficients 0, 1 and -1, two segmentations, two maps, three coefficients by method 2; then a plain frame, and one whose first code bit is 1:
+// up to six all are coded.
+#[test]
+fn frames_side_by_side_are_decoded_as_alone(rt: HostRuntime) -> Result<(), Fail> {
+    let plain = plain_frame();
     let frames: [&[u8]; 8] = [
         &ONES,
         &AS_BEFORE,
@@ -277,7 +304,24 @@ fn frames_side_by_side_are_decoded_as_alone(rt: HostRuntime) -> Result<(), Fail>
         &plain,
         &FIRST_BIT_1,
     ];
-    let turned: [&[u8]; 8] = [
+    let bytes = [
+        Some(0xff),
+        Some(0x00),
+        Some(0xaa),
+        Some(0xff),
+        Some(0xff),
+        Some(0xff),
+        Some(0x69),
+        None,
+    ];
+    first_bytes_are(&rt, rt.alloc(), &frames, &bytes)
+}
+
+// The same frames, the refused one first.
+#[test]
+fn frames_behind_a_refused_one_are_decoded_as_alone(rt: HostRuntime) -> Result<(), Fail> {
+    let plain = plain_frame();
+    let frames: [&[u8]; 8] = [
         &FIRST_BIT_1,
         &plain,
         &BY_METHOD_2,
@@ -287,20 +331,15 @@ fn frames_side_by_side_are_decoded_as_alone(rt: HostRuntime) -> Result<(), Fail>
         &AS_BEFORE,
         &ONES,
     ];
-    let bytes: [u8; 7] = [0xff, 0x00, 0xaa, 0xff, 0xff, 0xff, 0x69];
-    for count in 1..9usize {
-        let heard = side_by_side(rt.alloc(), mono, &frames[..count])?;
-        for (n, one) in heard.iter().enumerate() {
-            assert_eq!(rt;
-                first_byte(one),
-                bytes.get(n).copied(),
-                "{count}, frame {n}"
-            );
-        }
-        let heard = side_by_side(rt.alloc(), mono, &turned[..count])?;
-        for (n, one) in heard.iter().enumerate() {
-            assert_eq!(rt; first_byte(one), bytes.get(7 - n % 8).copied());
-        }
-    }
-    Ok(())
+    let bytes = [
+        None,
+        Some(0x69),
+        Some(0xff),
+        Some(0xff),
+        Some(0xff),
+        Some(0xaa),
+        Some(0x00),
+        Some(0xff),
+    ];
+    first_bytes_are(&rt, rt.alloc(), &frames, &bytes)
 }

@@ -1,5 +1,5 @@
-use crate::SoundMaker;
 use dst_num::Channels;
+use sound_maker::SoundMaker;
 use std::test::Fail;
 
 // The bytes, each times its place from 1 on, together.

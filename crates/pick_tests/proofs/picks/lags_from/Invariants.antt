@@ -1,5 +1,5 @@
 use Rattle.std.proofs.Common.{◌≡◌, ℕ, ◌^◌, ◌≤◌, ◌≤ℤ◌, pos, nat_abs, length, get_or}
-use Rattle.filter_analyser.proofs.tests.lags_from.Given as goal
+use Rattle.pick_tests.proofs.picks.lags_from.Given as goal
 
 abbrev pub invariant-loop-lag : goal.invariant-loop-lag
 invariant-loop-lag l = (length l.lags ≡ 129) × ((k : ℕ) → nat_abs (get_or l.lags k (pos 0)) ≤ nat_abs l.first) × (pos 1 ≤ℤ l.first) × (l.first ≤ℤ pos (2 ^ 20))

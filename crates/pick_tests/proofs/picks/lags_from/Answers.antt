@@ -3,7 +3,7 @@ use mir.Syntax.{w64}
 use Rattle.std.proofs.lemmas.Int.{ints, clamps}
 use Rattle.filter_refiner.proofs.Numbers.{zeros-at}
 use Rattle.filter_analyser.proofs.Writing.{set-most}
-use Rattle.filter_analyser.proofs.tests.lags_from.Goals as goal
+use Rattle.pick_tests.proofs.picks.lags_from.Goals as goal
 
 pub loop-lag-init : goal.loop-lag-init
 loop-lag-init c =

@@ -2,8 +2,8 @@
 ghost use Rattle.std.specs.Prelude.{ℕ, ◌≤◌, ◌^◌, pos, nat_abs, get_or};
 ghost use Rattle.level_spec.specs.Laws.{AreCorrelations};
 
-use super::*;
 use dst_num::{Channels, FilterTable};
+use filter_analyser::{LevelPicker, correlate, count_table, quantise, solve_filter};
 use frame_predictions::Predictions;
 use frame_store::{Candidates, Picker, StoreScratch, store_frame};
 use std::alloc::Global;

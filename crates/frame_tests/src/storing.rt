@@ -1,8 +1,8 @@
 // Spellings worked out apart, frames that are stored plain, and stored frames decoded again.
-use super::*;
 use arrayvec::ArrayVec;
 use dst_frames::{Scratch, decode_frame};
 use dst_num::{Channels, FilterTable, Map, Params, ProbTable};
+use frame_store::{OnePick, StoreScratch, spell_frame, store_frame};
 use std::alloc::Global;
 use std::test::Fail;
 

@@ -1,6 +1,6 @@
 // Values worked out apart.
-use super::*;
 use dst_num::ProbTable;
+use filter_refiner::shorten;
 use std::test::Fail;
 
 #[test]
