@@ -1,9 +1,6 @@
 -- The samples with the probability 128 at the beginning of a channel.
-use Rattle.std.proofs.Common.{◌≡◌, ℕ, ◌+◌, ◌*◌, ◌≤◌, ◌&&◌, nat_lt, Bool, true, false, if◌then◌else◌, refl, ap, sym, ◌∙◌, arith, le-ltb}
-
-pub at_the_start : (half_prob : Bool) (t early long : ℕ) → early ≡ (if half_prob then long else 0) → nat_lt t early ≡ (half_prob && nat_lt t long)
-at_the_start true t early long is = ap (nat_lt t) is
-at_the_start false t early long is = ap (nat_lt t) is ∙ le-ltb t 0 (omega arith)
+use Rattle.std.proofs.Common.{◌≡◌, ℕ, ◌+◌, ◌*◌, ◌≤◌, ◌&&◌, nat_lt, Bool, true, false, if◌then◌else◌, refl, sym, arith, le-ltb}
+use Rattle.channel_params.proofs.Early.{at_the_start}
 
 behind_it : (half_prob : Bool) (t long : ℕ) → long ≤ t → false ≡ (half_prob && nat_lt t long)
 behind_it true t long le = sym (le-ltb t long le)

@@ -1,33 +1,10 @@
 -- Entries of probabilities and guesses.
-use Rattle.std.proofs.Common.{◌≡◌, ◌≢◌, ◌⊎◌, inl, inr, ℕ, ◌+◌, ◌%◌, ◌<◌, ◌≤◌, ℤ, pos, List, length, map, get_or, sym, subst, ◌∙◌, arith, true, false}
-use Rattle.std.proofs.Common.{le-ltb, lt-ltb, ne_eqb, refl, ap}
-use Rattle.std.proofs.lemmas.Bool.{cases_lt}
-use Rattle.std.proofs.lemmas.Int.{ints}
-use Rattle.std.proofs.lemmas.List.{length-map, get_or-map}
-use Rattle.dst_spec.specs.Table.{prob_kind, InRange, IsTable}
+use Rattle.std.proofs.Common.{◌≡◌, ℕ, ◌+◌, ◌%◌, ◌<◌, ◌≤◌, ℤ, List, sym, ◌∙◌, arith, true, false}
+use Rattle.std.proofs.Common.{le-ltb, lt-ltb, ap}
 use Rattle.std.specs.Int.{is_negative}
-use Rattle.dst_spec.proofs.Lists.{get_all}
-use Rattle.dst_frames.specs.Tables.{prob_at, prob_in, IsByte}
-
-pub prob_in_range : (probs : List ℕ) (i : ℕ) → IsTable prob_kind (map pos probs) → i < length probs → (1 ≤ get_or probs i 0) × (get_or probs i 0 ≤ 128)
-prob_in_range probs i table lt =
-    let long = length-map probs (λ x. pos x) in
-    let there : i < length (map pos probs) = omega arith in
-    let one : InRange prob_kind (get_or (map pos probs) i (pos 0)) = get_all (InRange prob_kind) (map pos probs) i (pos 0) table.each there in
-    let at : InRange prob_kind (pos (get_or probs i 0)) = subst (InRange prob_kind) (get_or-map (λ x. pos x) probs i 0 (pos 0) lt) one in
-    (omega (arith, ints, at.0), omega (arith, ints, at.1))
-
-pub prob_again : (p : ℕ) → 1 ≤ p → p ≤ 128 → prob_in (p % 128) ≡ p
-prob_again p least most = go (cases_lt p 128)
-  where
-    go : (p < 128) ⊎ (128 ≤ p) → prob_in (p % 128) ≡ p
-    go (inl lt) =
-        let same : p % 128 ≡ p = omega arith in
-        let ne : p ≢ 0 = omega arith in
-        rw (same, ne_eqb p 0 ne) refl
-    go (inr le) =
-        let none : p % 128 ≡ 0 = omega arith in
-        rw none (omega arith)
+use Rattle.channel_params.specs.Probs.{prob_in}
+use Rattle.channel_params.proofs.Probs.{prob_again}
+use Rattle.dst_frames.specs.Tables.{prob_at, IsByte}
 
 pub low_entry : (z : ℤ) (probs : List ℕ) (p : ℕ) → p ≡ prob_at probs z → 1 ≤ p → p ≤ 128 → is_negative z ≡ true → IsByte z probs (p % 128)
 low_entry z probs p is least most negative =

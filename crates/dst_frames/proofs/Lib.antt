@@ -1,6 +1,5 @@
 pub mod Entries
 pub mod Words
-pub mod Maps
 pub mod Symbols
 pub mod History
 pub mod Rows

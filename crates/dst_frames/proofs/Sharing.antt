@@ -9,7 +9,7 @@ use Rattle.dst_spec.specs.Header.{Params}
 use Rattle.byte_predictor.specs.Upward.{size_sum}
 use Rattle.dst_spec.specs.Guess.{filter_of, probs_of}
 use Rattle.dst_frames.specs.Tables.{IsBuilt}
-use Rattle.dst_frames.specs.Sharing.{AreAlike}
+use Rattle.channel_params.specs.Alike.{AreAlike}
 use Rattle.dst_frames.specs.Eight.{no_tables, own_at, table_at, tables_at}
 use Rattle.dst_frames.specs.Running.{AreTables, AreEight}
 use Rattle.dst_frames.specs.declared.tables.ChannelTables.{ChannelTables}

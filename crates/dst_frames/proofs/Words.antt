@@ -7,7 +7,8 @@ use Rattle.std.proofs.lemmas.Bool.{cases_lt, eqb-true, eqb-false}
 use Rattle.std.proofs.lemmas.Int.{ints}
 use Rattle.std.specs.Int.{is_negative}
 use Rattle.arith_lanes.specs.Words.{IsWord}
-use Rattle.dst_frames.specs.Tables.{prob_at, prob_in, IsByte, IsEntry}
+use Rattle.channel_params.specs.Probs.{prob_in}
+use Rattle.dst_frames.specs.Tables.{prob_at, IsByte, IsEntry}
 use Rattle.dst_frames.specs.Words.{AllWords}
 
 -- the entry of a word that was made of a byte

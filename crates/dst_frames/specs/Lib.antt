@@ -1,5 +1,4 @@
 pub mod Scratch
-pub mod Reserved
 pub mod Words
 pub mod Tables
 pub mod Ready
@@ -8,4 +7,3 @@ pub mod Coded
 pub mod Eight
 pub mod Batch
 pub mod Running
-pub mod Sharing

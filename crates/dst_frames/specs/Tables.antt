@@ -1,21 +1,18 @@
 -- What the samples of a channel are decoded by: its filter, and an entry for each sum that the filter can give.
-use Rattle.std.specs.Prelude.{◌≡◌, ℕ, ◌+◌, ◌-◌, ◌/◌, ◌%◌, ◌<◌, ◌≤◌, ◌==◌, min, ℤ, nat_abs, Bool, false, not, nat_lt, if◌then◌else◌, List, length, get_or}
+use Rattle.std.specs.Prelude.{◌≡◌, ℕ, ◌+◌, ◌-◌, ◌/◌, ◌%◌, ◌<◌, ◌≤◌, min, ℤ, nat_abs, Bool, false, not, nat_lt, if◌then◌else◌, List, length, get_or}
 use Rattle.std.specs.Int.{is_negative}
 use Rattle.dst_spec.specs.Sample.{Shape}
 use Rattle.dst_spec.specs.Header.{Params}
 use Rattle.dst_spec.specs.Guess.{filter_of, probs_of}
 use Rattle.byte_predictor.specs.Samples.{signed_sum}
 use Rattle.byte_predictor.specs.Upward.{upward_sum}
+use Rattle.channel_params.specs.Probs.{prob_in}
 use Rattle.dst_frames.specs.Words.{entry_for}
 use Rattle.dst_frames.specs.declared.tables.ChannelTables.{ChannelTables}
 
 -- the probability that a sample is as predicted, by the size of the prediction
 abbrev pub prob_at : List ℕ → ℤ → ℕ
 prob_at probs prediction = get_or probs (min (nat_abs prediction / 8) (length probs - 1)) 0
-
--- the probability in seven bits, where 128 is 0
-abbrev pub prob_in : ℕ → ℕ
-prob_in low = if low == 0 then 128 else low
 
 -- A byte has the probability in its low seven bits, where 128 is 0, and above them a 1 where the prediction is 0 or greater.
 pub record IsByte (prediction : ℤ) (probs : List ℕ) (byte : ℕ) : Type 0 where

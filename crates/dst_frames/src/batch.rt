@@ -15,7 +15,6 @@ ghost use Rattle.dst_frames.specs.Tables.{IsBuilt, AreBuilt};
 ghost use Rattle.dst_frames.specs.Ready.{IsReady};
 ghost use Rattle.dst_frames.specs.Batch.{IsDecoded, IsWordOf, IsLaneFurther, AreLanes, HasBegun, stored_in, code_at};
 ghost use Rattle.dst_frames.specs.Eight.{states_at, table_at, tables_at};
-ghost use Rattle.dst_frames.specs.Sharing.{AreAlike};
 ghost use Rattle.dst_frames.specs.Running.{AreStored, AreTables, AreEight, AreWords, LaneDecoded};
 ghost use Rattle.dst_frames.specs.declared.state.ChannelState.{ChannelState};
 ghost use Rattle.dst_frames.specs.declared.eight.EightTables.{EightTables};
@@ -23,17 +22,16 @@ ghost use Rattle.dst_frames.specs.declared.stored.StoredFrame.{StoredFrame};
 ghost use Rattle.dst_frames.specs.declared.stored.DecodedFrame.{DecodedFrame};
 
 use crate::batch_scratch::BatchScratch;
-use crate::channel::{are_alike, channel_filter};
 use crate::eight::{EightStates, EightTables, table_of};
 use crate::frame::{decode_with, unread};
 use crate::octets::decode_octets;
-use crate::reserved::reserved_probability;
 use crate::state::ChannelState;
 use crate::stored::{DecodedFrame, StoredFrame};
 use crate::tables::ChannelTables;
 use arith_decoder::laws::decoded_code;
 use arith_lanes::{ArithLanes, word};
 use byte_predictor::filter_size;
+use channel_params::{alike_channel, channel_filter, reserved_probability};
 use dst_num::{Channels, Params};
 use frame_header::{FrameView, view_frame};
 
@@ -332,21 +330,6 @@ fn share_or_build(params: &Params, c: usize, n: usize, eight: &mut [EightTables]
         let tables = own.tables.as_mut_slice();
         tables[n].build(params, c);
     }
-}
-
-// The first channel that has the filter, the probabilities and the half bit of channel `c`.
-fn alike_channel(params: &Params, c: usize) -> usize
-    requires { c < length params.now.half_prob }
-    ensures before { result ≤ c }
-    ensures alike { AreAlike params.now result c }
-    ensures first { (d : ℕ) → d < result → AreAlike params.now d c → ⊥ }
-{
-    for d in 0..c {
-        if are_alike(params, d, c) {
-            return d;
-        }
-    }
-    c
 }
 
 fn reserved_word(params: &Params) -> u16

@@ -9,13 +9,13 @@ ghost use Rattle.dst_frames.specs.Tables.{AreBuilt};
 ghost use Rattle.dst_frames.specs.Ready.{IsReady};
 ghost use Rattle.dst_frames.specs.Coded.{IsCodeOfSound};
 
-use crate::reserved::reserved_probability;
 use crate::samples::decode_samples;
 use crate::state::ChannelState;
 use crate::tables::ChannelTables;
 use arith_decoder::ArithDecoder;
 use arith_decoder::laws::decoded_code;
 use bit_io::BitSlice;
+use channel_params::reserved_probability;
 use dst_num::{FrameFault, Params};
 
 /// Decodes the sound, as many bytes of each channel. Gives how many bits of the code are used.

@@ -11,20 +11,15 @@
 //! let mut scratch = BatchScratch::new(alloc, channels)?;
 //! decode_batch(&frames, channels, &mut scratch, &mut heard); // a sound and an answer for each
 //! ```
-//!
-//! What an encoder reads of parameters in the same way is public too: what they give a channel, and the probability of the
-//! reserved symbol.
 #![tactic(auto)]
 
 mod batch;
 mod batch_scratch;
-mod channel;
 mod code;
 mod eight;
 mod fill;
 mod frame;
 mod octets;
-mod reserved;
 mod samples;
 mod scratch;
 mod state;
@@ -34,9 +29,6 @@ mod word_table;
 
 pub use batch::decode_batch;
 pub use batch_scratch::BatchScratch;
-pub use channel::{channel_filter, channel_half_prob, channel_probs};
 pub use frame::decode_frame;
-pub use reserved::reserved_probability;
 pub use scratch::Scratch;
 pub use stored::{DecodedFrame, StoredFrame};
-pub use tables::prob_within;

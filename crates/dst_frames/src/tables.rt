@@ -2,12 +2,12 @@
 ghost use Rattle.std.specs.Prelude.{◌≡◌, ◌+◌, ◌*◌, ◌^◌, ◌<◌, ◌&&◌, nat_lt, false, length, get_or};
 ghost use Rattle.dst_spec.specs.Guess.{filter_of, probs_of};
 ghost use Rattle.byte_predictor.specs.Upward.{size_sum};
-ghost use Rattle.dst_frames.specs.Tables.{prob_in, IsBuilt};
+ghost use Rattle.dst_frames.specs.Tables.{IsBuilt};
 
-use crate::channel::{channel_filter, channel_half_prob, channel_probs};
 use crate::fill::fill_table;
 use crate::word_table::WordTable;
 use byte_predictor::RowFilter;
+use channel_params::{channel_filter, channel_half_prob, channel_probs};
 use dst_num::{FilterTable, Params, Prob, ProbTable};
 
 /// The filter of a channel, and for each sum that it can give the word of its probability and its guess.
@@ -71,19 +71,6 @@ impl ChannelTables {
         ensures { result ≡ (start && nat_lt (8 * byte + place) self.now.early) }
     {
         start && 8 * byte + place < self.early
-    }
-}
-
-/// The probability in the low seven bits of a byte, where 128 is 0.
-#[inline(always)]
-pub fn prob_within(low: u8) -> Prob
-    requires { low < 128 }
-    ensures { result ≡ prob_in low }
-{
-    let value = if low == 0 { 128 } else { u32::from(low) };
-    match Prob::new(value) {
-        Some(prob) => prob,
-        None => unreachable!(),
     }
 }
 

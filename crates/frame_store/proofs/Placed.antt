@@ -13,8 +13,8 @@ use Rattle.dst_spec.specs.Guess.{filter_of, probs_of, probability, as_guessed}
 use Rattle.dst_spec.specs.Symbols.{reserved_probability, symbols_at, symbols_before, symbols}
 use Rattle.dst_spec.proofs.Lists.{place-below}
 use Rattle.dst_spec.proofs.SymbolsBefore.{no_symbols, all_symbols, symbols_before-more}
-use Rattle.dst_frames.specs.Tables.{prob_in}
-use Rattle.dst_frames.proofs.Entries.{prob_again, prob_in_range}
+use Rattle.channel_params.specs.Probs.{prob_in}
+use Rattle.channel_params.proofs.Probs.{prob_again, prob_in_range}
 use Rattle.frame_store.specs.Pairs.{pair_of, symbol_byte, all_pairs}
 
 -- places of one channel and of another sample, or of one sample and another channel, are different

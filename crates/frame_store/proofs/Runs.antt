@@ -13,7 +13,7 @@ use Rattle.dst_spec.specs.Guess.{filter_of, probs_of, probability, as_guessed}
 use Rattle.dst_spec.specs.Symbols.{symbols_at, symbols_before}
 use Rattle.dst_spec.proofs.SymbolsBefore.{range-more, symbols_before-more}
 use Rattle.arith_encoder.specs.Lanes.{IsStep, AreSteps}
-use Rattle.dst_frames.proofs.Early.{at_the_start}
+use Rattle.channel_params.proofs.Early.{at_the_start}
 use Rattle.frame_predictions.specs.Codes.{codes}
 use Rattle.frame_predictions.specs.Predicting.{Predicted, nothing}
 use Rattle.frame_store.specs.declared.coded.ChannelSteps.{ChannelSteps}

@@ -8,7 +8,7 @@ ghost use Rattle.arith_encoder.specs.Lanes.{IsStep};
 ghost use Rattle.frame_store.specs.Coded.{AreCodeSteps, IsCoded, AreCoded, Stay};
 
 use arith_encoder::step_of;
-use dst_frames::{
+use channel_params::{
     channel_filter, channel_half_prob, channel_probs, prob_within, reserved_probability,
 };
 use dst_num::Params;

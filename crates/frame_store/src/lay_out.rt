@@ -5,7 +5,7 @@ ghost use Rattle.dst_spec.specs.Sample.{sound_bytes};
 ghost use Rattle.dst_spec.specs.Symbols.{symbols as symbols_of};
 ghost use Rattle.frame_store.specs.Pairs.{byte_of as byte_from, symbol_byte, all_pairs};
 
-use dst_frames::{channel_filter, channel_half_prob, channel_probs};
+use channel_params::{channel_filter, channel_half_prob, channel_probs};
 use dst_num::Params;
 use frame_predictions::Predictions;
 use frame_predictions::laws::{code_tells, row_of_codes};

@@ -13,7 +13,7 @@ use crate::measure::{prob_of, symbol_in};
 use crate::scratch::StoreScratch;
 use arith_encoder::ArithEncoder;
 use bit_io::BitWriter;
-use dst_frames::reserved_probability;
+use channel_params::reserved_probability;
 use dst_num::{Channels, Params, Prob};
 use frame_header::write_header;
 use frame_predictions::Predictions;

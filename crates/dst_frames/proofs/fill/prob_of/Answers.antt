@@ -1,7 +1,7 @@
 use Rattle.std.proofs.Common.{◌-◌, ◌/◌, ◌≤◌, min, pos, nat_abs, length, map, get_or, ap, ◌∙◌, w32, arith}
 use Rattle.std.proofs.lemmas.Int.{to_z-of_z}
 use Rattle.std.proofs.lemmas.List.{length-map}
-use Rattle.dst_frames.proofs.Entries.{prob_in_range}
+use Rattle.channel_params.proofs.Probs.{prob_in_range}
 use Rattle.dst_frames.proofs.fill.prob_of.Goals as goal
 
 pub returns : goal.returns

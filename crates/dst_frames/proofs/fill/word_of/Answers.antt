@@ -1,6 +1,7 @@
 use Rattle.std.proofs.Common.{◌%◌, subst, w32}
 use Rattle.std.proofs.lemmas.Int.{to_z-of_z}
-use Rattle.dst_frames.specs.Tables.{prob_in, IsByte}
+use Rattle.channel_params.specs.Probs.{prob_in}
+use Rattle.dst_frames.specs.Tables.{IsByte}
 use Rattle.dst_frames.proofs.Words.{entry_from}
 use Rattle.dst_frames.proofs.fill.word_of.Goals as goal
 

@@ -3,7 +3,7 @@ use Rattle.std.proofs.lemmas.List.{length-map}
 use Rattle.dst_spec.specs.Table.{prob_kind, IsTable}
 use Rattle.dst_spec.specs.Sample.{samples}
 use Rattle.dst_spec.specs.Guess.{filter_of, probs_of}
-use Rattle.dst_frames.proofs.Early.{at_the_start}
+use Rattle.channel_params.proofs.Early.{at_the_start}
 use Rattle.frame_predictions.specs.Codes.{code_at, codes}
 use Rattle.frame_predictions.specs.Predicting.{nothing}
 use Rattle.frame_store.specs.Pairs.{pair_of, symbol_byte}

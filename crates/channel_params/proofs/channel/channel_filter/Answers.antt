@@ -2,8 +2,8 @@ use Rattle.std.proofs.Common.{◌≡◌, [], length, subst}
 use Rattle.dst_spec.specs.Header.{Params}
 use Rattle.dst_spec.specs.Guess.{filter_of}
 use Rattle.dst_num.specs.Map.{params_of}
-use Rattle.dst_frames.proofs.Maps.{channel-inside, chosen-inside, chosen-is}
-use Rattle.dst_frames.proofs.channel.channel_filter.Goals as goal
+use Rattle.channel_params.proofs.Maps.{channel-inside, chosen-inside, chosen-is}
+use Rattle.channel_params.proofs.channel.channel_filter.Goals as goal
 
 pub bounds-filters-number : goal.bounds-filters-number
 bounds-filters-number c =

@@ -2,7 +2,7 @@
 ghost use Rattle.std.specs.Prelude.{◌≡◌, ◌<◌, ◌≤ℤ◌, ◌^◌, pos, negsuc, [], length, get_or};
 ghost use Rattle.dst_spec.specs.Bits.{signed_bits, low_bits};
 ghost use Rattle.dst_spec.specs.Symbols.{reserved_probability as probability_of};
-ghost use Rattle.dst_frames.specs.Reserved.{turned};
+ghost use Rattle.channel_params.specs.Reserved.{turned};
 
 use dst_num::{Params, Prob};
 

@@ -7,7 +7,7 @@ use Rattle.dst_spec.specs.Bits.{low_bits, signed_bits, number_from}
 use Rattle.dst_spec.specs.Header.{Params}
 use Rattle.dst_spec.specs.Symbols.{reserved_probability}
 use Rattle.dst_spec.specs.Map.{element_count}
-use Rattle.dst_frames.specs.Reserved.{turned}
+use Rattle.channel_params.specs.Reserved.{turned}
 use Rattle.dst_spec.proofs.MapNumbers.{element-below as below_count}
 
 pub element-below : (map : List ℕ) (c : ℕ) → c < length map → get_or map c 0 < element_count map

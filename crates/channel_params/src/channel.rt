@@ -1,7 +1,7 @@
-// What the parameters of a frame give a channel.
-ghost use Rattle.std.specs.Prelude.{◌≡◌, ◌<◌, true, false, length, get_or};
+// The tables of a channel, and the channels that have the same.
+ghost use Rattle.std.specs.Prelude.{◌≡◌, ◌<◌, ◌≤◌, ℕ, true, false, length, get_or};
 ghost use Rattle.dst_spec.specs.Guess.{filter_of, probs_of};
-ghost use Rattle.dst_frames.specs.Sharing.{AreAlike};
+ghost use Rattle.channel_params.specs.Alike.{AreAlike};
 
 use dst_num::{FilterTable, Params, ProbTable};
 
@@ -33,8 +33,23 @@ pub fn channel_half_prob(params: &Params, c: usize) -> bool
     params.half_prob.as_slice()[c]
 }
 
-/// Whether two channels have the same filter, the same probability table and the same half bit.
-pub(crate) fn are_alike(params: &Params, d: usize, c: usize) -> bool
+/// The first channel that has the filter, the probability table and the half bit of channel `c`: `c` itself where none before it has.
+pub fn alike_channel(params: &Params, c: usize) -> usize
+    requires { c < length params.now.half_prob }
+    ensures before { result ≤ c }
+    ensures alike { AreAlike params.now result c }
+    ensures first { (d : ℕ) → d < result → AreAlike params.now d c → ⊥ }
+{
+    for d in 0..c {
+        if are_alike(params, d, c) {
+            return d;
+        }
+    }
+    c
+}
+
+// Whether two channels have the same filter, the same probability table and the same half bit.
+fn are_alike(params: &Params, d: usize, c: usize) -> bool
     requires first { d < length params.now.half_prob }
     requires second { c < length params.now.half_prob }
     ensures alike { result ≡ true → AreAlike params.now d c }

@@ -1,8 +1,8 @@
 use Rattle.std.proofs.Common.{◌+◌, ap, sym, ◌∙◌, w16, SFits, rules}
 use Rattle.std.proofs.lemmas.Int.{to_z-of_z}
 use Rattle.dst_spec.specs.Bits.{signed_bits}
-use Rattle.dst_frames.proofs.Maps.{first-turned}
-use Rattle.dst_frames.proofs.reserved.reserved_probability.Goals as goal
+use Rattle.channel_params.proofs.Maps.{first-turned}
+use Rattle.channel_params.proofs.reserved.reserved_probability.Goals as goal
 
 pub returns : goal.returns
 returns c =

@@ -1,9 +1,9 @@
 use Rattle.std.proofs.Common.{◌≡◌, ◌+◌, ◌*◌, ◌/◌, ◌%◌, ap, ◌∙◌, refl, arith}
 use Rattle.std.proofs.lemmas.Nat.{shr-shr}
-use Rattle.dst_frames.specs.Reserved.{turned}
-use Rattle.dst_frames.proofs.Maps.{turned-suc, turned-small}
-use Rattle.dst_frames.proofs.reserved.turned_round.Goals as goal
-use Rattle.dst_frames.proofs.reserved.turned_round.Goals.{In-loop-place}
+use Rattle.channel_params.specs.Reserved.{turned}
+use Rattle.channel_params.proofs.Maps.{turned-suc, turned-small}
+use Rattle.channel_params.proofs.reserved.turned_round.Goals as goal
+use Rattle.channel_params.proofs.reserved.turned_round.Goals.{In-loop-place}
 
 next : (c : In-loop-place) → 2 * c.loop-place.number + c.loop-place.left % 2 ≡ turned (c.loop-place.place + 1) c.args.bits
 next c =

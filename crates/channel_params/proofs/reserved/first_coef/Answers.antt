@@ -4,8 +4,8 @@ use Rattle.std.proofs.lemmas.List.{get_or_default}
 use Rattle.dst_spec.specs.Map.{element_count}
 use Rattle.dst_spec.specs.Header.{Params}
 use Rattle.dst_num.specs.Map.{params_of}
-use Rattle.dst_frames.proofs.Maps.{element-below}
-use Rattle.dst_frames.proofs.reserved.first_coef.Goals as goal
+use Rattle.channel_params.proofs.Maps.{element-below}
+use Rattle.channel_params.proofs.reserved.first_coef.Goals as goal
 
 some_filter : (P Q : Params) (tables : List (List ℤ)) → Q ≡ P → 0 < length P.half_prob → length Q.filter_map ≡ length Q.half_prob →
     length Q.filters ≡ element_count Q.filter_map → tables ≡ Q.filters → 0 < length tables

@@ -1,0 +1,3 @@
+pub mod Reserved
+pub mod Alike
+pub mod Probs
