@@ -17,6 +17,7 @@ pub fn read_range<S: Source>(source: &mut S, from: u64, out: &mut [u8]) -> Resul
     ensures given { S.given source.new ≤ S.given source.old + length out.old }
     ensures given_whole { OnOk result (S.given source.old < 2 ^ 64 → S.given source.new ≡ counted (S.given source.old) (length out.old)) }
     ensures cause { HasCause (S.faults source.old) (S.faults source.new) result }
+    ensures quiet { OnOk result (S.faults source.new ≡ S.faults source.old) }
 {
     let mut place = 0;
     while place < out.len() {

@@ -1,13 +1,13 @@
 // A row of blocks, one of each channel, as bytes of sound.
 ghost use Rattle.std.specs.Prelude.{◌≡◌, ◌+◌, ◌-◌, ◌*◌, ◌/◌, ◌%◌, ◌^◌, ◌<◌, ◌≤◌, ℕ, List, length, true, Some, OnOk, slice_index};
 ghost use Rattle.dst_streams.specs.Causes.{HasCause};
-ghost use Rattle.dsdiff_spec.specs.Bytes.{bytes_at};
 ghost use Rattle.dsdiff_spec.specs.Dsf.{dsf_of, rows};
 ghost use Rattle.dsf_files.specs.Forms.{dsf_seen, has_blocks, is_order};
 ghost use Rattle.dsf_files.specs.Rows.{turned, in_order, IsRowOf, IsCleared};
 
 use crate::form::DsfForm;
 use crate::head::block_bytes;
+use dsdiff_chunks::read_range;
 use dst_streams::{Failed, Source};
 
 /// Bytes of a block.
@@ -58,24 +58,6 @@ fn row_place(form: &DsfForm, number: u64) -> u64
     92 + number * (4096 * form.channels.count() as u64)
 }
 
-// Fills `row` with the source's bytes from a place on.
-fn read_blocks<S: Source>(source: &mut S, from: u64, row: &mut [u8]) -> Result<(), Failed>
-    requires fits { from + length row.old < 2 ^ 64 }
-    requires inside { (n : ℕ) × (S.known source.old ≡ Some n) × (from + length row.old ≤ n) }
-    ensures bytes { S.bytes source.new ≡ S.bytes source.old }
-    ensures stays { S.known source.new ≡ S.known source.old }
-    ensures read { OnOk result ((f : List ℕ) → S.bytes source.old ≡ Some f → row.new ≡ bytes_at f from (length row.old)) }
-    ensures cause { HasCause (S.faults source.old) (S.faults source.new) result }
-    ensures quiet { OnOk result (S.faults source.new ≡ S.faults source.old) }
-{
-    let mut place = 0;
-    while place < row.len() {
-        let count = source.read_at(from + place as u64, &mut row[place..])?;
-        place += count;
-    }
-    Ok(())
-}
-
 // Reads a row of a file into `row`, as the sound that it is: in each byte the earliest sample in the most significant bit, and samples past
 // the last one 0.
 fn read_row<S: Source>(
@@ -96,7 +78,7 @@ fn read_row<S: Source>(
     ensures row { OnOk result ((f : List ℕ) → S.bytes source.old ≡ Some f → dsf_of f ≡ dsf_seen form.now → IsRowOf f number row.new) }
 {
     let place = row_place(form, number);
-    let Ok(()) = read_blocks(source, place, row) else {
+    let Ok(()) = read_range(source, place, row) else {
         return Err(Failed);
     };
     let channels = form.channels.count();

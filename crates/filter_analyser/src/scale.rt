@@ -1,9 +1,10 @@
 // From values with 24 fraction bits to the coefficients of a filter.
-ghost use Rattle.std.specs.Prelude.{◌≡◌, ℕ, ◌^◌, ◌≤◌, max, pos, nat_abs, length, map, get_or, take};
-ghost use Rattle.level_spec.specs.Scale.{coefficient as coefficient_of, is_coefficient as is_coefficient_of, scale as scale_of, bounded as bounded_of, without_zeros, quantised};
+ghost use Rattle.std.specs.Prelude.{◌≡◌, ℕ, ◌^◌, ◌≤◌, pos, nat_abs, length, map, get_or, take};
+ghost use Rattle.level_spec.specs.Scale.{coefficient as coefficient_of, is_coefficient as is_coefficient_of, scale as scale_of, bounded as bounded_of, quantised};
 ghost use Rattle.std.specs.List.{list_all};
 
 use dst_num::FilterTable;
+use filter_refiner::length_without_zeros;
 
 /// The filter of the first values of a solution, as many as its order, at the greatest scale at which all are coefficients.
 pub fn quantise(solution: &[i64; 128], order: usize) -> FilterTable
@@ -84,19 +85,4 @@ fn coefficients(values: &[i64], scale: u32) -> [i16; 128]
         coefs[place] = coef;
     }
     coefs
-}
-
-// 1 and the place of the last coefficient that isn't 0, and at least 1.
-fn length_without_zeros(coefs: &[i16]) -> usize
-    ensures without { take result coefs.now ≡ without_zeros coefs.now }
-    ensures least { 1 ≤ result }
-    ensures most { result ≤ max 1 (length coefs.now) }
-{
-    let mut length = 0;
-    for place in 0..coefs.len() {
-        if coefs[place] != 0 {
-            length = place + 1;
-        }
-    }
-    length.max(1)
 }

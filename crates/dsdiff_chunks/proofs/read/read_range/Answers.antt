@@ -44,5 +44,5 @@ loop-place-preserved g c =
           (rw behind at more);
       given = omega (arith, c.in_ok-count.ensures.given);
       given_whole = λ small. let before = c.loop-place.invariant.given_whole small in omega (arith, before, c.in_ok-count.ensures.given);
-      faults = search rules;
+      faults = c.in_ok-count.ensures.quiet ∙ c.loop-place.invariant.faults;
     }

@@ -12,7 +12,7 @@ invariant-loop-place g l = record {
   read : (xs : List ℕ) → g.S.Source.bytes l.initial.source ≡ Some xs → take l.place l.out ≡ bytes_at xs l.from l.place;
   given : g.S.Source.given l.source ≤ g.S.Source.given l.initial.source + l.place;
   given_whole : g.S.Source.given l.initial.source < 2 ^ 64 → g.S.Source.given l.source ≡ counted (g.S.Source.given l.initial.source) l.place;
-  faults : g.S.Source.faults l.initial.source ≤ g.S.Source.faults l.source;
+  faults : g.S.Source.faults l.source ≡ g.S.Source.faults l.initial.source;
 }
 
 abbrev pub decreases-loop-place : goal.decreases-loop-place
