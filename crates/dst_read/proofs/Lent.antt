@@ -1,17 +1,17 @@
 -- Jobs that are decoded where their bytes are lent to, and given back.
-use Rattle.std.proofs.Common.{◌≡◌, ℕ, suc, ◌+◌, ◌*◌, ◌<◌, ◌≤◌, List, [], ◌∷◌, length, get_or, ap, sym, ◌∙◌, arith}
+use Rattle.std.proofs.Common.{◌≡◌, ℕ, suc, ◌+◌, ◌*◌, ◌<◌, ◌≤◌, List, [], ◌∷◌, length, get_or, vec_capacity, ap, sym, ◌∙◌, arith}
 use Rattle.std.specs.Prelude.{All}
 use Rattle.std.specs.List.{AllZip}
 use Rattle.dst_spec.specs.Sample.{Shape, sound_bytes}
-use Rattle.dst_commands.specs.Rooms.{shape_number, room_number}
-use Rattle.dst_commands.proofs.Rooms.{room_for}
+use Rattle.dst_commands.specs.Rooms.{shape_number}
 use Rattle.dst_frames.specs.Batch.{IsDecoded, stored_in}
 use Rattle.dst_frames.specs.declared.stored.StoredFrame.{StoredFrame}
 use Rattle.dst_frames.specs.declared.stored.DecodedFrame.{DecodedFrame}
 use Rattle.dst_frames.proofs.Lanes.{one_of}
 use Rattle.dst_read.specs.declared.jobs.Job.{Job}
-use Rattle.dst_read.specs.Jobs.{longest, shape_of_job, IsWorked, stored_in as stored_in_job}
+use Rattle.dst_read.specs.Jobs.{room_number, shape_of_job, IsWorked, stored_in as stored_in_job}
 use Rattle.dst_read.specs.Lending.{IsLent, given_back}
+use Rattle.dst_read.proofs.Shapes.{room_for}
 use Rattle.dst_read.proofs.Working.{heard_or_refused}
 
 -- what is lent has room for the frame and its sound
@@ -23,10 +23,10 @@ pub record HasLent (f : Shape) (frame : StoredFrame) (heard : DecodedFrame) : Ty
 pub has_lent : (f : Shape) (before after : Job) (frame : StoredFrame) (heard : DecodedFrame) → f.channels < 8 → shape_of_job before ≡ shape_number f →
     IsLent before after frame heard → HasLent f frame heard
 has_lent f before after frame heard few shape lent =
-    let room = room_for longest before.size (length before.frame.items) (length before.sound.items) before.channels f few shape in
+    let room = room_for before.size (length before.frame.items) (vec_capacity before.frame) (length before.sound.items) before.channels f few shape in
     record {
       short = rw lent.frame_is room.short;
-      most = rw lent.frame_is (omega (arith, room.short, room.frame_long));
+      most = rw lent.frame_is (omega (arith, room.short, room.most));
       sound = ap (λ v. length v.items) lent.sound_is ∙ room.sound_long;
     }
 
@@ -51,9 +51,9 @@ worked f before after frame lent heard is decoded =
 pub shape_back : (f : Shape) (before after : Job) (frame : StoredFrame) (lent heard : DecodedFrame) → f.channels < 8 → shape_of_job before ≡ shape_number f →
     IsLent before after frame lent → length heard.sound.items ≡ sound_bytes f → shape_of_job (given_back after frame heard) ≡ shape_number f
 shape_back f before after frame lent heard few shape is long =
-    let room = room_for longest before.size (length before.frame.items) (length before.sound.items) before.channels f few shape in
+    let room = room_for before.size (length before.frame.items) (vec_capacity before.frame) (length before.sound.items) before.channels f few shape in
     let same : length heard.sound.items ≡ length before.sound.items = long ∙ sym room.sound_long in
-    let all : room_number longest after.size (length frame.bytes.items) (length heard.sound.items) after.channels ≡ shape_number f =
+    let all : room_number after.size (length frame.bytes.items) (vec_capacity frame.bytes) (length heard.sound.items) after.channels ≡ shape_number f =
     rw (is.size, is.channels, is.frame_is, same) shape in
     all
 

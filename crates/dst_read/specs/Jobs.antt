@@ -1,11 +1,11 @@
 -- Jobs: the buffers that a frame is worked in, told by one number, and what the work leaves in them.
-use Rattle.std.specs.Prelude.{◌≡◌, ℕ, ◌+◌, ◌*◌, ◌<◌, ◌≤◌, if◌then◌else◌, List, All, length, take, MatchResult}
+use Rattle.std.specs.Prelude.{◌≡◌, ℕ, ◌+◌, ◌*◌, ◌<◌, ◌≤◌, Bool, not, ◌&&◌, ◌==◌, if◌then◌else◌, List, All, length, take, MatchResult, vec_capacity}
 use Rattle.dst_spec.specs.Sample.{Shape, IsShape, sound_bytes}
 use Rattle.dst_spec.specs.Means.{MeansWithTail}
 use Rattle.dst_spec.specs.Offends.{Offends}
 use Rattle.dst_spec.specs.declared.faults.FrameFault.{FrameFault}
-use Rattle.dsdiff_spec.specs.Bytes.{◌below◌}
-use Rattle.dst_commands.specs.Rooms.{shape_number, room_number}
+use Rattle.dsdiff_spec.specs.Bytes.{◌below◌, ◌above◌}
+use Rattle.dst_commands.specs.Rooms.{shape_number}
 use Rattle.dst_read.specs.declared.jobs.Job.{Job}
 use Rattle.dst_read.specs.declared.jobs.Tables.{Tables}
 
@@ -13,9 +13,18 @@ use Rattle.dst_read.specs.declared.jobs.Tables.{Tables}
 abbrev pub longest : Shape → ℕ
 longest f = 2 * (sound_bytes f + 1)
 
--- the number of a job's shape, and 0 where its buffers don't have this room
+-- The frame of this size lies in its buffer, which has room for the longest one and is no longer than that. The sound's buffer is as long as the sound.
+abbrev pub has_room : (size long room sound : ℕ) → Shape → Bool
+has_room size long room sound f =
+    f.channels below 8 && not (size above long) && not (long above longest f) && not (longest f above room) && sound == sound_bytes f
+
+-- the number of the shape, and 0 where the buffers don't have this room
+abbrev pub room_number : (size long room sound : ℕ) → Shape → ℕ
+room_number size long room sound f = if has_room size long room sound f then shape_number f else 0
+
+-- the number of a job's shape
 abbrev pub shape_of_job : Job → ℕ
-shape_of_job j = room_number longest j.size (length j.frame.items) (length j.sound.items) j.channels
+shape_of_job j = room_number j.size (length j.frame.items) (vec_capacity j.frame) (length j.sound.items) j.channels
 
 -- at least one job, and each is of this shape
 pub record AreJobsFor (f : Shape) (jobs : List Job) : Type 0 where

@@ -1,5 +1,5 @@
 // Where the jobs come from: the stored frames of a form, in order.
-ghost use Rattle.std.specs.Prelude.{◌≡◌, ◌+◌, ◌-◌, ◌<◌, ◌≤◌, ◌^◌, ℕ, List, length, take, Some, OnOk};
+ghost use Rattle.std.specs.Prelude.{◌≡◌, ◌+◌, ◌-◌, ◌<◌, ◌≤◌, ◌^◌, ℕ, List, length, max, take, Some, OnOk, vec_len, vec_capacity};
 ghost use Rattle.dst_streams.specs.Causes.{HasCause};
 ghost use Rattle.dsdiff_spec.specs.Walk.{frame_at};
 ghost use Rattle.frame_index.specs.Entries.{entry_seen};
@@ -43,6 +43,7 @@ impl<S: Source> Feed<Job> for StoredFrames<'_, S> {
         let number = self.next;
         let entry = self.walked.index.entry(number);
         self.next += 1;
+        lengthen(&mut job.frame, entry.size as usize);
         match read_frame(self.source, entry, &mut job.frame) {
             Ok(()) => {}
             Err(failed) => return Err(failed),
@@ -51,6 +52,20 @@ impl<S: Source> Feed<Job> for StoredFrames<'_, S> {
         job.size = entry.size;
         Ok(true)
     }
+}
+
+// Makes a buffer longer, within its room, where it is shorter than this.
+fn lengthen(frame: &mut Vec<u8>, size: usize)
+    requires room { size ≤ vec_capacity frame.old }
+    ensures long { vec_len frame.new ≡ max (vec_len frame.old) size }
+    ensures room { vec_capacity frame.old ≤ vec_capacity frame.new }
+{
+    if frame.len() >= size {
+        return;
+    }
+    let Ok(()) = frame.resize(size, 0) else {
+        unreachable!()
+    };
 }
 
 // Reads a stored frame into the front of a buffer.

@@ -20,7 +20,7 @@ pub struct Job {
     pub size: u32,
     /// The channels of the form.
     pub channels: Channels,
-    /// The stored frame at the front, in room for the longest one.
+    /// The stored frame at the front, in room for the longest one. It is as long as the longest that was read into it.
     pub frame: Vec<u8>,
     /// The bytes of the frame's sound.
     pub sound: Vec<u8>,
@@ -55,7 +55,7 @@ impl Job {
             number: 0,
             size: 0,
             channels,
-            frame: vec![in alloc; 0; 2 * (size + 1)]?,
+            frame: Vec::with_capacity(alloc, 2 * (size + 1))?,
             sound: vec![in alloc; 0; size]?,
             answer: Ok(0),
         })

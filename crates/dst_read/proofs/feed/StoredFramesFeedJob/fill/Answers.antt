@@ -1,11 +1,17 @@
 -- The next frame lies in the source, and has room in the job.
-use Rattle.std.proofs.Common.{◌≡◌, ◌<◌, length, take, refl, ap, sym, ◌∙◌, arith}
+use Rattle.std.proofs.Common.{◌≡◌, ◌<◌, max, length, take, vec_capacity, refl, ap, sym, ◌∙◌, arith}
 use Rattle.dsdiff_spec.specs.Walk.{Entry, frame_at}
 use Rattle.frame_index.specs.Entries.{entry_seen}
 use Rattle.dst_read.proofs.Framing.{lent_whole}
 use Rattle.dst_read.proofs.Once.{next_left}
 use Rattle.dst_read.proofs.Shapes.{can_read, refilled}
 use Rattle.dst_read.proofs.feed.StoredFramesFeedJob.fill.Goals as goal
+
+pub lengthen-requires : goal.lengthen-requires
+lengthen-requires g c =
+    let can = can_read (g.S.Source.known c.args.self.now.source.now) c.args.self.now c.args.job.now (entry_seen c.entry-entry.result) c.requires
+    (omega (arith, c.if-self-length.false, c.length.ensures.length)) c.entry-entry.ensures in
+    omega (arith, can.short, can.has.enough)
 
 pub read_frame-requires-clause-size : goal.read_frame-requires-clause-size
 read_frame-requires-clause-size g c =
@@ -18,10 +24,7 @@ read_frame-requires-clause-fits g c =
     (omega (arith, c.if-self-length.false, c.length.ensures.length)) c.entry-entry.ensures).fits
 
 pub read_frame-requires-clause-room : goal.read_frame-requires-clause-room
-read_frame-requires-clause-room g c =
-    let can = can_read (g.S.Source.known c.args.self.now.source.now) c.args.self.now c.args.job.now (entry_seen c.entry-entry.result) c.requires
-    (omega (arith, c.if-self-length.false, c.length.ensures.length)) c.entry-entry.ensures in
-    omega (arith, can.short, ap length c.deref_mut.ensures.value)
+read_frame-requires-clause-room g c = omega (arith, c.lengthen.ensures.long, ap length c.deref_mut.ensures.value, c.lengthen.new.frame.ok.0)
 
 pub returns-clause-job_shape : goal.returns-clause-job_shape
 returns-clause-job_shape g c =
@@ -30,12 +33,30 @@ returns-clause-job_shape g c =
     let known = g.S.Source.known self.source.now in
     let can = can_read known self job (entry_seen c.entry-entry.result) c.requires (omega (arith, c.if-self-length.false, c.length.ensures.length))
     c.entry-entry.ensures in
-    let same : length c.read_frame.new.frame ≡ length job.frame.items = c.read_frame.ensures.long ∙ ap length c.deref_mut.ensures.value in
-    let whole = lent_whole job.frame.len _ c.read_frame.new.frame job.frame.items refl
-    (sym c.deref_mut.ensures.len ∙ ap length c.deref_mut.ensures.value) same in
-    refilled known self.walked.now.index job.size (length job.frame.items)
-    (length job.sound.items) c.entry-entry.result.size _ job.channels self.walked.now.form.channels
-    c.requires (ap length whole ∙ same) can.short
+    let frame = c.lengthen.new.frame in
+    let size = c.entry-entry.result.size in
+    let same : length c.read_frame.new.frame ≡ length frame.items = c.read_frame.ensures.long ∙ ap length c.deref_mut.ensures.value in
+    let whole = lent_whole frame.len _ c.read_frame.new.frame frame.items refl (sym c.deref_mut.ensures.len ∙ ap length c.deref_mut.ensures.value) same in
+    let long : length c.read_frame.new.frame ≡ max (length job.frame.items) size =
+    omega (arith, same, c.lengthen.ensures.long, frame.ok.0, job.frame.ok.0) in
+    refilled known self job (entry_seen c.entry-entry.result) size _ (vec_capacity frame) c.requires can (omega arith) (ap length whole ∙ long)
+    c.lengthen.ensures.room
+
+pub returns-in-Err-clause-job_shape : goal.returns-in-Err-clause-job_shape
+returns-in-Err-clause-job_shape g c =
+    let self = c.args.self.now in
+    let job = c.args.job.now in
+    let known = g.S.Source.known self.source.now in
+    let can = can_read known self job (entry_seen c.entry-entry.result) c.requires (omega (arith, c.if-self-length.false, c.length.ensures.length))
+    c.entry-entry.ensures in
+    let frame = c.lengthen.new.frame in
+    let size = c.entry-entry.result.size in
+    let same : length c.read_frame.new.frame ≡ length frame.items = c.read_frame.ensures.long ∙ ap length c.deref_mut.ensures.value in
+    let whole = lent_whole frame.len _ c.read_frame.new.frame frame.items refl (sym c.deref_mut.ensures.len ∙ ap length c.deref_mut.ensures.value) same in
+    let long : length c.read_frame.new.frame ≡ max (length job.frame.items) size =
+    omega (arith, same, c.lengthen.ensures.long, frame.ok.0, job.frame.ok.0) in
+    refilled known self job (entry_seen c.entry-entry.result) job.size _ (vec_capacity frame) c.requires can (omega (arith, can.has.short))
+    (ap length whole ∙ long) c.lengthen.ensures.room
 
 pub returns-clause-given : goal.returns-clause-given
 returns-clause-given g c =
@@ -44,9 +65,9 @@ returns-clause-given g c =
     let index = self.walked.now.index in
     let next : self.next < length index = omega (arith, c.if-self-length.false, c.length.ensures.length) in
     let size = ap (λ (e : Entry). e.size) c.entry-entry.ensures in
-    let same : length c.read_frame.new.frame ≡ length job.frame.items = c.read_frame.ensures.long ∙ ap length c.deref_mut.ensures.value in
-    let whole = lent_whole job.frame.len _ c.read_frame.new.frame job.frame.items refl
-    (sym c.deref_mut.ensures.len ∙ ap length c.deref_mut.ensures.value) same in
+    let frame = c.lengthen.new.frame in
+    let same : length c.read_frame.new.frame ≡ length frame.items = c.read_frame.ensures.long ∙ ap length c.deref_mut.ensures.value in
+    let whole = lent_whole frame.len _ c.read_frame.new.frame frame.items refl (sym c.deref_mut.ensures.len ∙ ap length c.deref_mut.ensures.value) same in
     λ given. record {
       same = record {
         lent = refl;
