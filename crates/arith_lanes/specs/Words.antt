@@ -1,10 +1,6 @@
 -- What a lane needs of a probability, in sixteen bits.
-use Rattle.std.specs.Prelude.{◌≡◌, ℕ, ◌+◌, ◌/◌, ◌%◌, ◌≤◌, ◌==◌, if◌then◌else◌}
+use Rattle.std.specs.Prelude.{◌≡◌, ℕ, ◌+◌, ◌/◌, ◌%◌, ◌≤◌}
 use Rattle.arith_decoder.specs.Registers.{IsFactor}
-
--- the probability in seven bits, where 128 is 0
-abbrev pub prob_in : ℕ → ℕ
-prob_in low = if low == 0 then 128 else low
 
 -- A word has the probability less 1 in its low seven bits, and in its high eight the power of 2 with which it has eight bits.
 pub record IsWord (p word : ℕ) : Type 0 where

@@ -8,7 +8,7 @@
 //! if lanes.are_short() {
 //!     lanes.refill(3, bytes);                  // and so each lane: 47 bits ahead again
 //! }
-//! let symbols = lanes.decode(&words);          // a word has a lane's probability, as `word` gives it
+//! let symbols = lanes.decode(&words);          // a word has a lane's probability: `word` gives that of an entry
 //! lanes.end(3);                                // the place behind the bits of its code that are used so far
 //! ```
 //!

@@ -1,14 +1,12 @@
 // The words of probabilities.
-ghost use Rattle.std.specs.Prelude.{◌≡◌, ◌/◌, ◌%◌};
-ghost use Rattle.arith_lanes.specs.Words.{IsWord, prob_in};
+ghost use Rattle.std.specs.Prelude.{◌≡◌, ◌+◌, ◌/◌, ◌%◌};
+ghost use Rattle.arith_lanes.specs.Words.{IsWord};
 
-// The words of all probabilities, that of 128 in front of the others: each less 1, a mark, and the power of 2 with which it has
-// eight bits.
+// The words of all probabilities: each less 1, a mark, and the power of 2 with which it has eight bits.
 macro_rules! words {
     ($mark:literal) => {
         words!(
             $mark;
-            1: 128;
             128: 1;
             64: 2 3;
             32: 4 5 6 7;
@@ -18,6 +16,7 @@ macro_rules! words {
             2: 64 65 66 67 68 69 70 71 72 73 74 75 76 77 78 79 80 81 82 83 84 85 86 87 88 89 90 91 92 93 94 95
                 96 97 98 99 100 101 102 103 104 105 106 107 108 109 110 111 112 113 114 115 116 117 118 119
                 120 121 122 123 124 125 126 127;
+            1: 128;
         )
     };
     ($mark:literal; $($factor:literal: $($p:literal)*;)*) => {
@@ -27,11 +26,11 @@ macro_rules! words {
 
 static WORDS: [[u16; 128]; 2] = [words!(0), words!(128)];
 
-/// The word of the probability in the low seven bits of a byte, where 128 is 0. Bit 7 of the word is that of the byte.
+/// The word of an entry, which has a probability less 1 in its low seven bits. Bit 7 of the word is that of the entry.
 #[inline(always)]
-pub fn word(byte: u8) -> u16
-    ensures prob { IsWord (prob_in (byte % 128)) result }
-    ensures mark { result / 128 % 2 ≡ byte / 128 }
+pub fn word(entry: u8) -> u16
+    ensures prob { IsWord (entry % 128 + 1) result }
+    ensures mark { result / 128 % 2 ≡ entry / 128 }
 {
-    WORDS.as_flattened()[byte as usize]
+    WORDS.as_flattened()[entry as usize]
 }

@@ -9,15 +9,15 @@ use dst_num::{FrameFault, Reason};
 fn words_have_a_probability_and_its_factor(rt: HostRuntime) {
     // 128 is eight bits long, 1 by a factor of 128, 3 by one of 64, 100 by one of 2
     let cases = [
-        (0u8, 0x017fu16),
-        (1, 0x8000),
-        (3, 0x4002),
-        (100, 0x0263),
-        (128, 0x01ff),
-        (0x83, 0x4082),
+        (127u8, 0x017fu16),
+        (0, 0x8000),
+        (2, 0x4002),
+        (99, 0x0263),
+        (255, 0x01ff),
+        (0x82, 0x4082),
     ];
-    for (byte, expected) in cases {
-        assert_eq!(rt; word(byte), expected, "{byte}");
+    for (entry, expected) in cases {
+        assert_eq!(rt; word(entry), expected, "{entry}");
     }
 }
 
@@ -41,10 +41,10 @@ fn codes_give_their_symbols_side_by_side(rt: HostRuntime) {
     assert!(rt; !lanes.are_short());
     // Lane 3 has a code of no bytes, with the probabilities 1 and 128 in turn: each of its symbols is 1.
     // Its words turn symbols round.
-    let half = word(128);
-    let least = word(129);
-    let turned = word(0);
-    let turned_least = word(1);
+    let half = word(255);
+    let least = word(128);
+    let turned = word(127);
+    let turned_least = word(0);
     let steps = [
         (half, turned_least, 1),
         (half, turned, 0),

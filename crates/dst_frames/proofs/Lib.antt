@@ -1,5 +1,4 @@
 pub mod Entries
-pub mod Words
 pub mod Symbols
 pub mod History
 pub mod Rows

@@ -1,5 +1,5 @@
 -- One channel of eight frames, and all channels of one of the frames.
-use Rattle.std.proofs.Common.{◌≡◌, ◌≢◌, ℕ, zero, suc, ◌+◌, ◌%◌, ◌<◌, ℤ, Bool, true, false, nat_eq, List, [], ◌∷◌, length, get_or, set, map, get_or-set_other}
+use Rattle.std.proofs.Common.{◌≡◌, ◌≢◌, ℕ, zero, suc, ◌+◌, ◌/◌, ◌%◌, ◌<◌, ℤ, Bool, true, false, nat_eq, List, [], ◌∷◌, length, get_or, set, map, get_or-set_other}
 use Rattle.std.proofs.Common.{refl, ap, sym, subst, ◌∙◌, arith}
 use Rattle.std.proofs.lemmas.Bool.{eqb-true, eqb-false}
 use Rattle.std.proofs.lemmas.List.{get_or_default, set-get_or, get_or-map, map-set, length-map}
@@ -20,6 +20,9 @@ pub word_of_itself : (p word : ℕ) → IsWord p word → IsWordOf (entry_in wor
 word_of_itself p word is =
     let same : p ≡ word % 256 % 128 + 1 = omega (arith, is.prob) in
     record { prob = subst (λ q. IsWord q word) same is; mark = omega arith }
+
+pub word_of_entry : (entry word : ℕ) → IsWord (entry % 128 + 1) word → word / 128 % 2 ≡ entry / 128 → entry_in word ≡ entry
+word_of_entry entry word is mark = omega (arith, is.prob)
 
 -- one of the frames is another one, or it isn't
 pub own_or_other : (n m : ℕ) (P : Type 0) → (n ≡ m → P) → (n ≢ m → P) → P

@@ -9,7 +9,7 @@ use Rattle.dst_spec.specs.Header.{bit_of}
 use Rattle.byte_predictor.specs.Samples.{signed_sum}
 use Rattle.byte_predictor.specs.Upward.{upward_sum}
 use Rattle.dst_frames.specs.Tables.{prob_at, IsEntry, IsBuilt, symbol_after}
-use Rattle.dst_frames.specs.Words.{entry_for}
+use Rattle.dst_frames.specs.Entries.{entry_for}
 use Rattle.dst_frames.specs.declared.tables.ChannelTables.{ChannelTables}
 
 pub high_is : (e : ℕ) → leb 128 e ≡ not (nat_lt e 128)
@@ -38,9 +38,9 @@ symbol_is filter probs samples early s e low p entry low_is p_is =
 -- an entry that was looked up for one value of the sample before it
 pub entry_behind : (filter : List ℤ) (probs samples : List ℕ) (half_prob b s : Bool) (tables : ChannelTables) (upward next : ℕ) →
     IsBuilt filter probs half_prob tables → 128 ≤ length samples →
-    upward ≡ upward_sum tables.filter (bit_of b ∷ samples) → next ≡ entry_for tables.words upward → s ≡ b →
+    upward ≡ upward_sum tables.filter (bit_of b ∷ samples) → next ≡ entry_for tables.entries upward → s ≡ b →
     IsEntry (signed_sum filter (bit_of s ∷ samples)) probs next
 entry_behind filter probs samples half_prob b s tables upward next built long sum is same =
     let whole = sum ∙ ap (λ coefs. upward_sum coefs (bit_of b ∷ samples)) built.filter_is in
     let entry = built.entries (bit_of b ∷ samples) (omega arith) in
-    subst₂ (λ x e. IsEntry (signed_sum filter (bit_of x ∷ samples)) probs e) (sym same) (ap (entry_for tables.words) (sym whole) ∙ sym is) entry
+    subst₂ (λ x e. IsEntry (signed_sum filter (bit_of x ∷ samples)) probs e) (sym same) (ap (entry_for tables.entries) (sym whole) ∙ sym is) entry

@@ -19,7 +19,7 @@ unfoldable pub states_at : List EightStates → ℕ → List ChannelState
 states_at rows n = map (λ row. state_in row n) rows
 
 abbrev pub no_tables : ChannelTables
-no_tables = record { filter = []; words = []; early = 0 }
+no_tables = record { filter = []; entries = []; early = 0 }
 
 -- those that each channel has for frame n
 unfoldable pub own_at : List EightTables → ℕ → List ChannelTables

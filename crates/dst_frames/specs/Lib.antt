@@ -1,5 +1,5 @@
 pub mod Scratch
-pub mod Words
+pub mod Entries
 pub mod Tables
 pub mod Ready
 pub mod Underway

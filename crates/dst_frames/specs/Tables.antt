@@ -6,20 +6,14 @@ use Rattle.dst_spec.specs.Header.{Params}
 use Rattle.dst_spec.specs.Guess.{filter_of, probs_of}
 use Rattle.byte_predictor.specs.Samples.{signed_sum}
 use Rattle.byte_predictor.specs.Upward.{upward_sum}
-use Rattle.channel_params.specs.Probs.{prob_in}
-use Rattle.dst_frames.specs.Words.{entry_for}
+use Rattle.dst_frames.specs.Entries.{entry_for}
 use Rattle.dst_frames.specs.declared.tables.ChannelTables.{ChannelTables}
 
 -- the probability that a sample is as predicted, by the size of the prediction
 abbrev pub prob_at : List ℕ → ℤ → ℕ
 prob_at probs prediction = get_or probs (min (nat_abs prediction / 8) (length probs - 1)) 0
 
--- A byte has the probability in its low seven bits, where 128 is 0, and above them a 1 where the prediction is 0 or greater.
-pub record IsByte (prediction : ℤ) (probs : List ℕ) (byte : ℕ) : Type 0 where
-  pub prob : prob_in (byte % 128) ≡ prob_at probs prediction
-  pub guess : nat_lt byte 128 ≡ is_negative prediction
-
--- An entry has the probability less 1 in its low seven bits, and above them the same.
+-- An entry has the probability less 1 in its low seven bits, and above them a 1 where the prediction is 0 or greater.
 pub record IsEntry (prediction : ℤ) (probs : List ℕ) (entry : ℕ) : Type 0 where
   pub prob : entry % 128 + 1 ≡ prob_at probs prediction
   pub guess : nat_lt entry 128 ≡ is_negative prediction
@@ -29,7 +23,7 @@ pub record IsEntry (prediction : ℤ) (probs : List ℕ) (entry : ℕ) : Type 0 
 pub record IsBuilt (filter : List ℤ) (probs : List ℕ) (half_prob : Bool) (tables : ChannelTables) : Type 0 where
   pub filter_is : tables.filter ≡ filter
   pub short : length filter ≤ 128
-  pub entries : (samples : List ℕ) → 128 ≤ length samples → IsEntry (signed_sum filter samples) probs (entry_for tables.words (upward_sum filter samples))
+  pub entries : (samples : List ℕ) → 128 ≤ length samples → IsEntry (signed_sum filter samples) probs (entry_for tables.entries (upward_sum filter samples))
   pub early : tables.early ≡ (if half_prob then length filter else 0)
 
 -- each channel has its tables

@@ -214,7 +214,7 @@ fn begin_all(
     ensures words { IfSome result (λ _. AreWords rows.new (length frames.now)) }
     ensures eight { AreEight eight.new channels.channels }
 {
-    let mut words = [word(1); 8];
+    let mut words = [word(0); 8];
     clear_all(rows);
     for n in 0..frames.len() {
         match begin_lane(frames[n].stored(), channels, lanes, n, eight, rows) {
@@ -336,7 +336,7 @@ fn reserved_word(params: &Params) -> u16
     requires { 0 < length params.now.half_prob }
     ensures { IsWord (probability_of params.now) result }
 {
-    word((reserved_probability(params).value() % 128) as u8)
+    word((reserved_probability(params).value() - 1) as u8)
 }
 
 // The unread bytes of a frame that is decoded, behind the place up to which its code is used.

@@ -14,7 +14,7 @@ const _: () = prove!(
         + size_of::<EightTables>()
         + size_of::<EightStates>()
         + size_of::<ChannelState>()
-        == 1_057_484
+        == 795_340
 );
 
 /// The memory in which up to eight frames of some channels are decoded at a time. Nothing of one frame is used for the next one.
@@ -44,7 +44,7 @@ impl Model for BatchScratch {
 }
 
 impl BatchScratch {
-    /// Takes all memory that decoding needs: 1,057,484 bytes a channel and 276 besides, so 2,115,244 bytes in stereo and 6,345,180 for six
+    /// Takes all memory that decoding needs: 795,340 bytes a channel and 276 besides, so 1,590,956 bytes in stereo and 4,772,316 for six
     /// channels, at any rate.
     pub fn new(alloc: Global, channels: Channels) -> Result<BatchScratch, AllocError>
         ensures { IfOk result (λ s. s.channels ≡ channels) }

@@ -85,7 +85,7 @@ impl EightStates {
     pub(crate) fn new() -> EightStates
         ensures { (n : ℕ) → n < 8 → IsWord 1 (get_or result.words n 0) }
     {
-        let words = [word(1); 8];
+        let words = [word(0); 8];
         EightStates {
             ahead: EightAhead::new(),
             words,
@@ -118,7 +118,7 @@ impl EightStates {
         ensures word { IsWordOf (entry_in result) result }
     {
         let upward = self.ahead.upward(n, &tables.filter, place);
-        tables.words.word(upward)
+        word(tables.entries.narrow_entry(upward))
     }
 
     // Takes the next sample of each frame, 1 where the low bit of what is given is 1. The words of the first frames become those
@@ -198,7 +198,7 @@ fn early_word(early: bool, own: u16) -> u16
     ensures mark { result / 128 % 2 ≡ own / 128 % 2 }
 {
     if early {
-        word((own % 256 / 128 * 128) as u8)
+        word((own % 256 / 128 * 128 + 127) as u8)
     } else {
         own
     }

@@ -17,6 +17,7 @@ mod batch;
 mod batch_scratch;
 mod code;
 mod eight;
+mod entry_table;
 mod fill;
 mod frame;
 mod octets;
@@ -25,7 +26,6 @@ mod scratch;
 mod state;
 mod stored;
 mod tables;
-mod word_table;
 
 pub use batch::decode_batch;
 pub use batch_scratch::BatchScratch;

@@ -9,7 +9,7 @@ use std::alloc::{AllocError, Global};
 use std::marker::Model;
 
 // What a channel takes.
-const _: () = prove!(size_of::<ChannelTables>() + size_of::<ChannelState>() == 132_140);
+const _: () = prove!(size_of::<ChannelTables>() + size_of::<ChannelState>() == 99_372);
 
 /// The memory in which frames of some channels are decoded. Nothing of one frame is used for the next one.
 #[derive(Drop)]
@@ -31,7 +31,7 @@ impl Model for Scratch {
 }
 
 impl Scratch {
-    /// Takes all memory that decoding needs: 132,140 bytes a channel and 276 besides, so 793,116 bytes for six channels, at any rate.
+    /// Takes all memory that decoding needs: 99,372 bytes a channel and 276 besides, so 596,508 bytes for six channels, at any rate.
     pub fn new(alloc: Global, channels: Channels) -> Result<Scratch, AllocError>
         ensures { IfOk result (λ s. s.channels ≡ channels) }
     {

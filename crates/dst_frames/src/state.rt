@@ -25,7 +25,7 @@ impl ChannelState {
         let ahead = Ahead::fresh(&tables.filter);
         let upward = ahead.upward(&tables.filter, 0);
         ChannelState {
-            next: tables.words.entry(upward),
+            next: tables.entries.entry(upward),
             ahead,
         }
     }
@@ -38,7 +38,7 @@ impl ChannelState {
             → IsReady filter probs place samples self.now → IsEntry (signed_sum filter (bit_of sample ∷ samples)) probs result }
     {
         let behind = self.ahead.upward_after(&tables.filter, place, sample);
-        tables.words.entry(behind)
+        tables.entries.entry(behind)
     }
 
     /// Both these entries, where the channel is alone: it needs the next one at once. Among others it doesn't, since their samples

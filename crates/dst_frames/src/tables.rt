@@ -4,17 +4,17 @@ ghost use Rattle.dst_spec.specs.Guess.{filter_of, probs_of};
 ghost use Rattle.byte_predictor.specs.Upward.{size_sum};
 ghost use Rattle.dst_frames.specs.Tables.{IsBuilt};
 
+use crate::entry_table::EntryTable;
 use crate::fill::fill_table;
-use crate::word_table::WordTable;
 use byte_predictor::RowFilter;
 use channel_params::{channel_filter, channel_half_prob, channel_probs};
 use dst_num::{FilterTable, Params, Prob, ProbTable};
 
-/// The filter of a channel, and for each sum that it can give the word of its probability and its guess.
+/// The filter of a channel, and for each sum that it can give the entry of its probability and its guess.
 #[derive(Drop)]
 pub(crate) struct ChannelTables {
     pub(crate) filter: RowFilter,
-    pub(crate) words: WordTable,
+    pub(crate) entries: EntryTable,
     /// How many samples at the beginning have the probability 128.
     pub(crate) early: usize,
 }
@@ -28,7 +28,7 @@ impl ChannelTables {
         let filter = RowFilter::new();
         ChannelTables {
             filter,
-            words: WordTable::new(),
+            entries: EntryTable::new(),
             early: 0,
         }
     }
@@ -60,7 +60,7 @@ impl ChannelTables {
     {
         let length = filter.coefs().len();
         self.filter.build(filter);
-        fill_table(&mut self.words, &self.filter, probs.entries());
+        fill_table(&mut self.entries, &self.filter, probs.entries());
         self.early = if half_prob { length } else { 0 };
     }
 

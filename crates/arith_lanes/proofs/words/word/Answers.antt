@@ -7,10 +7,10 @@ pub returns-clause-prob : goal.returns-clause-prob
 unfolding count_leading_zeros
 returns-clause-prob c =
     let value : c.as_flattened.result.now ≡ all_words = c.as_flattened.ensures.value in
-    is_word c.args.byte c.as_flattened.result.now c.ranges.byte.fits value
+    is_word c.args.entry c.as_flattened.result.now c.ranges.entry.fits value
 
 pub returns-clause-mark : goal.returns-clause-mark
 unfolding count_leading_zeros
 returns-clause-mark c =
     let value : c.as_flattened.result.now ≡ all_words = c.as_flattened.ensures.value in
-    mark_is c.args.byte c.as_flattened.result.now c.ranges.byte.fits value
+    mark_is c.args.entry c.as_flattened.result.now c.ranges.entry.fits value

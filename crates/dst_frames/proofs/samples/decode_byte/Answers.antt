@@ -103,7 +103,7 @@ returns-clause-sound c = λ f P reserved count built start.
     (λ j h. ap (λ n. get_or after (n + j) 0) same_first ∙ put_mid-at first (first + channels - first) j before bytes (omega arith) (omega arith))
     (λ j h k l. c.finish_byte.ensures.newest j state (filter_of P j) (probs_of P j) (later j) 8 (omega arith) (u.ready j state h) k l)
     (λ j other h.
-    let table : ChannelTables = record { filter = []; words = []; early = 0 } in
+    let table : ChannelTables = record { filter = []; entries = []; early = 0 } in
     let is = (built j table h).filter_is in
     let old : IsReady (get_or tables j table).filter (probs_of P j) 8 (later j) (get_or states j other) =
     subst (λ coefs. IsReady coefs (probs_of P j) 8 (later j) (get_or states j other)) (sym is) (u.ready j other h) in

@@ -1,12 +1,13 @@
-use Rattle.std.proofs.Common.{◌≡◌, ◌<◌, ap, arith, sym, subst, ◌∙◌}
+use Rattle.std.proofs.Common.{◌≡◌, ◌+◌, ◌%◌, ◌<◌, ap, arith, sym, subst, ◌∙◌}
 use Rattle.byte_predictor.specs.Samples.{signed_sum}
 use Rattle.byte_predictor.specs.Upward.{upward_sum, size_sum}
 use Rattle.byte_predictor.specs.SumsAhead.{IsAhead}
 use Rattle.byte_predictor.specs.Eight.{ahead_at}
 use Rattle.dst_frames.specs.Tables.{IsEntry}
-use Rattle.dst_frames.specs.Words.{entry_for}
+use Rattle.dst_frames.specs.Eight.{entry_in}
+use Rattle.dst_frames.specs.Entries.{entry_for}
 use Rattle.byte_predictor.proofs.Upward.{upward_sum-size}
-use Rattle.dst_frames.proofs.OneOfEight.{word_of_itself}
+use Rattle.dst_frames.proofs.OneOfEight.{word_of_itself, word_of_entry}
 use Rattle.dst_frames.proofs.eight.EightStates.word_at.Goals as goal
 
 pub returns-clause-entry : goal.returns-clause-entry
@@ -17,8 +18,9 @@ returns-clause-entry c = λ filter probs samples half_prob built ahead.
     let before : IsAhead tables.filter place samples own = subst (λ coefs. IsAhead coefs place samples own) (sym built.filter_is) ahead in
     let up : c.upward-upward.result ≡ upward_sum filter samples = rw built.filter_is at (c.upward-upward.ensures samples before) in
     let narrow : size_sum filter < 32768 = rw built.filter_is at c.requires.narrow in
-    let inside = c.word.ensures.entry (omega (arith, up, upward_sum-size filter samples, narrow)) in
-    subst (IsEntry (signed_sum filter samples) probs) (ap (entry_for tables.words) (sym up) ∙ sym inside) (built.entries samples ahead.long)
+    let inside = c.narrow_entry.ensures (omega (arith, up, upward_sum-size filter samples, narrow)) in
+    let whole : c.narrow_entry.result ≡ entry_in c.word.result = sym (word_of_entry c.narrow_entry.result c.word.result c.word.ensures.prob c.word.ensures.mark) in
+    subst (IsEntry (signed_sum filter samples) probs) (ap (entry_for tables.entries) (sym up) ∙ sym inside ∙ whole) (built.entries samples ahead.long)
 
 pub returns-clause-word : goal.returns-clause-word
-returns-clause-word c = word_of_itself c.word.ensures.word.0 c.word.result c.word.ensures.word.1
+returns-clause-word c = word_of_itself (c.narrow_entry.result % 128 + 1) c.word.result c.word.ensures.prob

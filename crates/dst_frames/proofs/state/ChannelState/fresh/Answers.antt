@@ -3,7 +3,7 @@ use Rattle.byte_predictor.specs.Samples.{samples_of, signed_sum}
 use Rattle.byte_predictor.specs.Upward.{upward_sum}
 use Rattle.byte_predictor.specs.SumsAhead.{IsAhead}
 use Rattle.dst_frames.specs.Tables.{IsEntry}
-use Rattle.dst_frames.specs.Words.{entry_for}
+use Rattle.dst_frames.specs.Entries.{entry_for}
 use Rattle.dst_frames.proofs.state.ChannelState.fresh.Goals as goal
 
 pub returns : goal.returns
@@ -14,5 +14,5 @@ returns c = λ filter probs half_prob built.
     let entry = built.entries samples fresh.long in
     record {
       ahead = subst (λ coefs. IsAhead coefs 0 samples c.fresh-ahead.result) built.filter_is fresh;
-      next = subst (IsEntry (signed_sum filter samples) probs) (ap (entry_for c.args.tables.now.words) sum ∙ sym c.entry.ensures) entry;
+      next = subst (IsEntry (signed_sum filter samples) probs) (ap (entry_for c.args.tables.now.entries) sum ∙ sym c.entry.ensures) entry;
     }

@@ -2,7 +2,7 @@ use Rattle.std.proofs.Common.{◌≡◌, ℕ, ◌≤◌, List, ℤ, length, ap, 
 use Rattle.byte_predictor.specs.Samples.{signed_sum}
 use Rattle.byte_predictor.specs.Upward.{upward_sum}
 use Rattle.dst_frames.specs.Tables.{IsEntry}
-use Rattle.dst_frames.specs.Words.{entry_for}
+use Rattle.dst_frames.specs.Entries.{entry_for}
 use Rattle.dst_frames.proofs.tables.ChannelTables.take.Goals as goal
 use Rattle.dst_frames.proofs.tables.ChannelTables.take.Goals.{then-half_prob, else-half_prob}
 

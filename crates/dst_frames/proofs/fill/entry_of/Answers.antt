@@ -3,7 +3,7 @@ use Rattle.std.specs.Int.{is_negative}
 use Rattle.std.proofs.lemmas.Int.{to_z-of_z}
 use Rattle.dst_frames.specs.Tables.{prob_at}
 use Rattle.dst_frames.proofs.Entries.{low_entry, high_entry}
-use Rattle.dst_frames.proofs.fill.byte_of.Goals as goal
+use Rattle.dst_frames.proofs.fill.entry_of.Goals as goal
 
 pub returns-then-prediction-lt0 : goal.returns-then-prediction-lt0
 returns-then-prediction-lt0 c =
