@@ -1,16 +1,15 @@
--- A frame begins in a lane: the words and the tables of the others.
-use Rattle.std.proofs.Common.{◌≡◌, ◌≢◌, ℕ, ◌+◌, ◌%◌, ◌<◌, ◌≤◌, ℤ, pos, [], ◌∷◌, Bool, true, false, nat_eq, List, length, get_or, set, get_or-set_same}
+-- A frame begins in a lane: the words of the others, and tables that are narrow.
+use Rattle.std.proofs.Common.{◌≡◌, ◌≢◌, ℕ, ◌+◌, ◌%◌, ◌<◌, ℤ, pos, [], ◌∷◌, Bool, true, false, nat_eq, List, length, get_or, set, get_or-set_same}
 use Rattle.std.proofs.Common.{get_or-set_other, length-set}
-use Rattle.std.proofs.Common.{refl, ap, sym, subst, ◌∙◌, arith}
+use Rattle.std.proofs.Common.{refl, ap, sym, subst, arith}
 use Rattle.std.proofs.lemmas.Bool.{eqb-true, eqb-false}
 use Rattle.arith_lanes.specs.Words.{IsWord}
 use Rattle.byte_predictor.specs.Upward.{size_sum}
 use Rattle.dst_frames.specs.Eight.{state_in}
 use Rattle.dst_frames.specs.Batch.{IsWordOf}
-use Rattle.dst_frames.specs.Running.{AreTables, AreEight, AreWords}
+use Rattle.dst_frames.specs.Running.{AreNarrow, AreWords}
 use Rattle.dst_frames.specs.declared.tables.ChannelTables.{ChannelTables}
 use Rattle.dst_frames.specs.declared.state.ChannelState.{ChannelState}
-use Rattle.dst_frames.specs.declared.eight.EightTables.{EightTables}
 use Rattle.dst_frames.specs.declared.eight.EightStates.{EightStates}
 
 pub words_begun : (n c : ℕ) (was : EightStates) (rows : List EightStates) (row : EightStates) → c < length rows → AreWords rows n →
@@ -46,38 +45,16 @@ words_begun n c was rows row lt are own states words = record {
         rw (is, get_or-set_same rows c row other lt) moved
     next_at m d other h k false e = rw (get_or-set_other rows c d row other (eqb-false d c e)) (are.next m d other h k)
 
-pub eight_set : (channels c : ℕ) (eight : List EightTables) (one : EightTables) → AreEight eight channels → c < length eight →
-    AreTables one.tables.items → ((n : ℕ) → n < 8 → get_or one.from n 0 ≤ c) → AreEight (set eight c one) channels
-eight_set channels c eight one are lt long front = record {
-  count = length-set eight c one ∙ are.count;
-  tables = λ d other h. at d other h (nat_eq d c) refl;
-  from = λ n d other k h. from_at n d other k h (nat_eq d c) refl;
-}
+-- one table in the place of another
+pub narrow_set : (tables : List ChannelTables) (k : ℕ) (one : ChannelTables) → AreNarrow tables → k < length tables → size_sum one.filter < 32768 →
+    AreNarrow (set tables k one)
+narrow_set tables k one are lt narrow = λ j other h. at j other (omega (arith, length-set tables k one)) (nat_eq j k) refl
   where
-    at : (d : ℕ) (other : EightTables) → d < channels → (b : Bool) → nat_eq d c ≡ b → AreTables (get_or (set eight c one) d other).tables.items
-    at d other h true e = let is = eqb-true d c e in rw (is, get_or-set_same eight c one other lt) long
-    at d other h false e = rw (get_or-set_other eight c d one other (eqb-false d c e)) (are.tables d other h)
-
-    from_at : (n d : ℕ) (other : EightTables) → n < 8 → d < channels → (b : Bool) → nat_eq d c ≡ b → get_or (get_or (set eight c one) d other).from n 0 ≤ d
-    from_at n d other k h true e =
-        let is = eqb-true d c e in
-        rw (is, get_or-set_same eight c one other lt) (front n k)
-    from_at n d other k h false e = rw (get_or-set_other eight c d one other (eqb-false d c e)) (are.from n d other k h)
-
--- the tables of one frame in the place of others
-pub tables_set : (tables : List ChannelTables) (n : ℕ) (one : ChannelTables) → AreTables tables → n < 8 → size_sum one.filter < 32768 →
-    AreTables (set tables n one)
-tables_set tables n one are lt narrow = record {
-  count = length-set tables n one ∙ are.count;
-  narrow = λ m other h. at m other h (nat_eq m n) refl;
-}
-  where
-    at : (m : ℕ) (other : ChannelTables) → m < 8 → (b : Bool) → nat_eq m n ≡ b → size_sum (get_or (set tables n one) m other).filter < 32768
-    at m other h true e =
-        let is = eqb-true m n e in
-        let inside : n < length tables = omega (arith, are.count) in
-        rw (is, get_or-set_same tables n one other inside) narrow
-    at m other h false e = rw (get_or-set_other tables n m one other (eqb-false m n e)) (are.narrow m other h)
+    at : (j : ℕ) (other : ChannelTables) → j < length tables → (b : Bool) → nat_eq j k ≡ b → size_sum (get_or (set tables k one) j other).filter < 32768
+    at j other h true e =
+        let is = eqb-true j k e in
+        rw (is, get_or-set_same tables k one other lt) narrow
+    at j other h false e = rw (get_or-set_other tables k j one other (eqb-false j k e)) (are j other h)
 
 -- the coefficient 0 alone
 pub none_narrow : (filter : List ℤ) → filter ≡ pos 0 ∷ [] → size_sum filter < 32768

@@ -20,7 +20,7 @@ use Rattle.dst_frames.specs.Batch.{HasBegun, IsDecoded, AreLanes, stored_in, cod
 use Rattle.dst_frames.specs.Running.{LaneDecoded}
 use Rattle.dst_frames.specs.declared.tables.ChannelTables.{ChannelTables}
 use Rattle.dst_frames.specs.declared.state.ChannelState.{ChannelState}
-use Rattle.dst_frames.specs.declared.eight.EightTables.{EightTables}
+use Rattle.dst_frames.specs.declared.eight.TableNumbers.{TableNumbers}
 use Rattle.dst_frames.specs.declared.eight.EightStates.{EightStates}
 use Rattle.dst_frames.specs.declared.stored.StoredFrame.{StoredFrame}
 use Rattle.dst_frames.specs.declared.stored.DecodedFrame.{DecodedFrame}
@@ -84,14 +84,15 @@ answered f frame sound answer tail shape is means = rw is (record {
 })
 
 -- the lanes behind their reserved symbols
-pub begun_lanes : (f : Shape) (s t : ArithLanes) (frames : List StoredFrame) (eight : List EightTables) (rows : List EightStates) (words given : List ℕ) →
+pub begun_lanes : (f : Shape) (s t : ArithLanes) (frames : List StoredFrame) (tables : List ChannelTables) (numbers : List TableNumbers)
+    (rows : List EightStates) (words given : List ℕ) →
     length frames ≤ 8 →
     ((n : ℕ) (frame : StoredFrame) → n < length frames →
-    HasBegun f s n (stored_in (get_or frames n frame)) (tables_at eight n) (states_at rows n) (get_or words n 0)) →
+    HasBegun f s n (stored_in (get_or frames n frame)) (tables_at tables numbers n) (states_at rows n) (get_or words n 0)) →
     ((n : ℕ) → length frames ≤ n → n < 8 → Begins s n [] 0 × IsWord 1 (get_or words n 0)) →
     ((n p : ℕ) (bytes : List ℕ) → n < 8 → IsLane s n bytes → IsWord p (get_or words n 0) → 8 ≤ ahead_at s n → used_at s n ≤ 2 ^ 40 →
     (symbol : Bool) × (get_or given n 0 ≡ given_of (get_or words n 0) symbol) × TakesSymbol s t n bytes p symbol) → AreLanes t (code_at frames) (2 ^ 30)
-begun_lanes f s t frames eight rows words given few begun empty taken = record {
+begun_lanes f s t frames tables numbers rows words given few begun empty taken = record {
   lane = λ n h. (at n h (nat_lt n (length frames)) refl).0;
   used = λ n h. (at n h (nat_lt n (length frames)) refl).1;
 }

@@ -1,18 +1,18 @@
 -- One channel of eight frames, and all channels of one of the frames.
-use Rattle.std.proofs.Common.{◌≡◌, ◌≢◌, ℕ, zero, suc, ◌+◌, ◌/◌, ◌%◌, ◌<◌, ℤ, Bool, true, false, nat_eq, List, [], ◌∷◌, length, get_or, set, map, get_or-set_other}
-use Rattle.std.proofs.Common.{refl, ap, sym, subst, ◌∙◌, arith}
+use Rattle.std.proofs.Common.{◌≡◌, ◌≢◌, ℕ, zero, suc, ◌+◌, ◌/◌, ◌%◌, ◌<◌, ℤ, Bool, true, false, nat_eq, List, [], ◌∷◌, length, get_or, set}
+use Rattle.std.proofs.Common.{refl, ap, ap₂, sym, subst, ◌∙◌, arith}
 use Rattle.std.proofs.lemmas.Bool.{eqb-true, eqb-false}
-use Rattle.std.proofs.lemmas.List.{get_or_default, set-get_or, get_or-map, map-set, length-map}
+use Rattle.std.proofs.lemmas.List.{get_or_default, set-get_or, get_or-map, length-map}
 use Rattle.std.proofs.Math.Seq.{map-set_same}
 use Rattle.arith_lanes.specs.Words.{IsWord}
 use Rattle.byte_predictor.specs.Samples.{signed_sum}
 use Rattle.byte_predictor.specs.SumsAhead.{SumsAhead, IsAhead}
 use Rattle.dst_frames.specs.Tables.{IsBuilt, IsEntry}
 use Rattle.dst_frames.specs.Batch.{IsWordOf}
-use Rattle.dst_frames.specs.Eight.{entry_in, state_in, states_at, no_tables, own_at, table_at, tables_at}
+use Rattle.dst_frames.specs.Eight.{entry_in, state_in, states_at, no_tables, table_at, tables_at}
 use Rattle.dst_frames.specs.declared.tables.ChannelTables.{ChannelTables}
 use Rattle.dst_frames.specs.declared.state.ChannelState.{ChannelState}
-use Rattle.dst_frames.specs.declared.eight.EightTables.{EightTables}
+use Rattle.dst_frames.specs.declared.eight.TableNumbers.{TableNumbers}
 use Rattle.dst_frames.specs.declared.eight.EightStates.{EightStates}
 
 -- the low half of a word is its entry
@@ -35,6 +35,10 @@ own_or_other n m P own other = go (nat_eq n m) refl
 -- a row of no frames
 abbrev pub no_row : EightStates
 no_row = record { ahead = record { sums = []; newest = [] }; words = [] }
+
+-- numbers of no frames
+abbrev pub no_numbers : TableNumbers
+no_numbers = record { of = [] }
 
 -- a word tells the entry of the sample at a place
 abbrev pub TellsNext : ℕ → ChannelTables → SumsAhead → ℕ → Type 0
@@ -68,59 +72,32 @@ states_same rows n c was row h same =
     states-set rows n c row ∙ ap (set (states_at rows n) c) (same ∙ sym (get_or-states rows n c other was h)) ∙ set-get_or (states_at rows n) c other
 
 -- ---- the tables of a frame
-pub length-tables : (eight : List EightTables) (n : ℕ) → length (tables_at eight n) ≡ length eight
+pub length-tables : (tables : List ChannelTables) (numbers : List TableNumbers) (n : ℕ) → length (tables_at tables numbers n) ≡ length numbers
 unfolding tables_at
-length-tables eight n = length-map eight (λ (one : EightTables). table_at eight one.from n)
+length-tables tables numbers n = length-map numbers (λ (own : TableNumbers). table_at tables own.of n)
 
-pub get_or-tables : (eight : List EightTables) (n c : ℕ) (other : ChannelTables) (one : EightTables) → c < length eight →
-    get_or (tables_at eight n) c other ≡ table_at eight (get_or eight c one).from n
+pub get_or-tables : (tables : List ChannelTables) (numbers : List TableNumbers) (n c : ℕ) (other : ChannelTables) (one : TableNumbers) → c < length numbers →
+    get_or (tables_at tables numbers n) c other ≡ table_at tables (get_or numbers c one).of n
 unfolding tables_at
-get_or-tables eight n c other one h = get_or-map (λ (x : EightTables). table_at eight x.from n) eight c one other h
+get_or-tables tables numbers n c other one h = get_or-map (λ (own : TableNumbers). table_at tables own.of n) numbers c one other h
 
-pub get_or-own : (eight : List EightTables) (n c : ℕ) (one : EightTables) → c < length eight →
-    get_or (own_at eight n) c no_tables ≡ get_or (get_or eight c one).tables.items n no_tables
-unfolding own_at
-get_or-own eight n c one h = get_or-map (λ (x : EightTables). get_or x.tables.items n no_tables) eight c one no_tables h
-
-pub table-in : (eight : List EightTables) (from : List ℕ) (n : ℕ) (one : EightTables) (other : ChannelTables) → get_or from n 0 < length eight →
-    n < length (get_or eight (get_or from n 0) one).tables.items →
-    table_at eight from n ≡ get_or (get_or eight (get_or from n 0) one).tables.items n other
+pub table-in : (tables : List ChannelTables) (from : List ℕ) (n : ℕ) (other : ChannelTables) → get_or from n 0 < length tables →
+    table_at tables from n ≡ get_or tables (get_or from n 0) other
 unfolding table_at
-table-in eight from n one other h l =
-    get_or-own eight n (get_or from n 0) one h ∙ get_or_default (get_or eight (get_or from n 0) one).tables.items n no_tables other l
+table-in tables from n other h = get_or_default tables (get_or from n 0) no_tables other h
 
-own_same : (eight : List EightTables) (n c : ℕ) (was one : EightTables) →
-    get_or one.tables.items n no_tables ≡ get_or (get_or eight c was).tables.items n no_tables → own_at (set eight c one) n ≡ own_at eight n
-unfolding own_at
-own_same eight n c was one same = map-set_same (λ (x : EightTables). get_or x.tables.items n no_tables) eight c one was same
-
--- a channel gets tables and a number that are the same for a frame
-pub tables_same : (eight : List EightTables) (n c : ℕ) (was one : EightTables) → get_or one.from n 0 ≡ get_or (get_or eight c was).from n 0 →
-    get_or one.tables.items n no_tables ≡ get_or (get_or eight c was).tables.items n no_tables → tables_at (set eight c one) n ≡ tables_at eight n
+-- a channel gets a number, and that for a frame is the same
+pub numbers_on : (tables : List ChannelTables) (numbers : List TableNumbers) (n c : ℕ) (was one : TableNumbers) →
+    get_or one.of n 0 ≡ get_or (get_or numbers c was).of n 0 → tables_at tables (set numbers c one) n ≡ tables_at tables numbers n
 unfolding tables_at table_at
-tables_same eight n c was one number same =
-    ap (λ own. map (λ (x : EightTables). get_or own (get_or x.from n 0) no_tables) (set eight c one)) (own_same eight n c was one same)
-    ∙ map-set_same (λ (x : EightTables). get_or (own_at eight n) (get_or x.from n 0) no_tables) eight c one was
-    (ap (λ k. get_or (own_at eight n) k no_tables) number)
+numbers_on tables numbers n c was one same =
+    map-set_same (λ (own : TableNumbers). get_or tables (get_or own.of n 0) no_tables) numbers c one was (ap (λ k. get_or tables k no_tables) same)
 
--- the tables of a channel before another one that gets others
-pub table_before : (eight : List EightTables) (from : List ℕ) (n c : ℕ) (one : EightTables) → get_or from n 0 < c →
-    table_at (set eight c one) from n ≡ table_at eight from n
-unfolding table_at own_at
-table_before eight from n c one h =
-    let ne : get_or from n 0 ≢ c = omega arith in
-    let own = λ (x : EightTables). get_or x.tables.items n no_tables in
-    ap (λ xs. get_or xs (get_or from n 0) no_tables) (map-set own eight c one)
-    ∙ get_or-set_other (map own eight) c (get_or from n 0) (own one) no_tables ne
-
--- two channels with one number for a frame
-pub table_number : (eight : List EightTables) (from others : List ℕ) (n : ℕ) → get_or from n 0 ≡ get_or others n 0 →
-    table_at eight from n ≡ table_at eight others n
-unfolding table_at
-table_number eight from others n same = ap (λ k. get_or (own_at eight n) k no_tables) same
-
--- where a channel's number alone changes
-pub table_shared : (eight : List EightTables) (from : List ℕ) (n c : ℕ) (was one : EightTables) →
-    get_or one.tables.items n no_tables ≡ get_or (get_or eight c was).tables.items n no_tables → table_at (set eight c one) from n ≡ table_at eight from n
-unfolding table_at
-table_shared eight from n c was one same = ap (λ own. get_or own (get_or from n 0) no_tables) (own_same eight n c was one same)
+-- other tables, of which those of a frame are the same
+pub tables_on : (old new : List ChannelTables) (numbers : List TableNumbers) (n : ℕ) →
+    ((c : ℕ) (other : TableNumbers) → c < length numbers → table_at new (get_or numbers c other).of n ≡ table_at old (get_or numbers c other).of n) →
+    tables_at new numbers n ≡ tables_at old numbers n
+unfolding tables_at
+tables_on old new [] n same = refl
+tables_on old new (x ∷ numbers) n same =
+    ap₂ (λ own rest. own ∷ rest) (same 0 x (omega arith)) (tables_on old new numbers n (λ c other h. same (suc c) other (omega arith)))

@@ -3,6 +3,7 @@ use Rattle.std.specs.Prelude.{ℕ, ◌%◌, List, [], map, get_or}
 use Rattle.byte_predictor.specs.Eight.{ahead_at}
 use Rattle.dst_frames.specs.declared.tables.ChannelTables.{ChannelTables}
 use Rattle.dst_frames.specs.declared.state.ChannelState.{ChannelState}
+use Rattle.dst_frames.specs.declared.eight.TableNumbers.{TableNumbers}
 use Rattle.dst_frames.specs.declared.eight.EightTables.{EightTables}
 use Rattle.dst_frames.specs.declared.eight.EightStates.{EightStates}
 
@@ -21,14 +22,13 @@ states_at rows n = map (λ row. state_in row n) rows
 abbrev pub no_tables : ChannelTables
 no_tables = record { filter = []; entries = []; early = 0 }
 
--- those that each channel has for frame n
-unfoldable pub own_at : List EightTables → ℕ → List ChannelTables
-own_at eight n = map (λ (one : EightTables). get_or one.tables.items n no_tables) eight
-
--- those of the channel that is named for frame n
-unfoldable pub table_at : List EightTables → List ℕ → ℕ → ChannelTables
-table_at eight from n = get_or (own_at eight n) (get_or from n 0) no_tables
+-- the table of the number that a channel has for frame n
+unfoldable pub table_at : List ChannelTables → List ℕ → ℕ → ChannelTables
+table_at tables from n = get_or tables (get_or from n 0) no_tables
 
 -- those by which each channel of frame n is decoded
-unfoldable pub tables_at : List EightTables → ℕ → List ChannelTables
-tables_at eight n = map (λ (one : EightTables). table_at eight one.from n) eight
+unfoldable pub tables_at : List ChannelTables → List TableNumbers → ℕ → List ChannelTables
+tables_at tables numbers n = map (λ (own : TableNumbers). table_at tables own.of n) numbers
+
+abbrev pub tables_in : EightTables → ℕ → List ChannelTables
+tables_in eight n = tables_at eight.tables.items eight.numbers.items n

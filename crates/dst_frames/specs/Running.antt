@@ -1,5 +1,5 @@
 -- A batch whose codes are being decoded.
-use Rattle.std.specs.Prelude.{◌≡◌, ℕ, ◌+◌, ◌*◌, ◌<◌, ◌≤◌, Bool, List, length, drop, get_or}
+use Rattle.std.specs.Prelude.{◌≡◌, ℕ, ◌+◌, ◌*◌, ◌<◌, ◌≤◌, Bool, List, length, drop, get_or, vec_capacity}
 use Rattle.dst_spec.specs.Sample.{Shape}
 use Rattle.dst_spec.specs.Header.{Params}
 use Rattle.arith_decoder.specs.Decoding.{Decoding}
@@ -13,6 +13,7 @@ use Rattle.dst_frames.specs.Eight.{state_in}
 use Rattle.dst_frames.specs.Batch.{IsWordOf}
 use Rattle.dst_frames.specs.declared.tables.ChannelTables.{ChannelTables}
 use Rattle.dst_frames.specs.declared.state.ChannelState.{ChannelState}
+use Rattle.dst_frames.specs.declared.eight.TableNumbers.{TableNumbers}
 use Rattle.dst_frames.specs.declared.eight.EightTables.{EightTables}
 use Rattle.dst_frames.specs.declared.eight.EightStates.{EightStates}
 use Rattle.dst_frames.specs.declared.stored.StoredFrame.{StoredFrame}
@@ -21,16 +22,35 @@ use Rattle.dst_frames.specs.declared.stored.StoredFrame.{StoredFrame}
 abbrev pub AreStored : List StoredFrame → Type 0
 AreStored frames = (n : ℕ) (other : StoredFrame) → n < length frames → (get_or frames n other).size ≤ length (get_or frames n other).bytes.items
 
--- the tables of eight frames, none of a filter that gives the greatest of all sums
-pub record AreTables (tables : List ChannelTables) : Type 0 where
-  pub count : length tables ≡ 8
-  pub narrow : (n : ℕ) (other : ChannelTables) → n < 8 → size_sum (get_or tables n other).filter < 32768
+-- no table is of a filter that gives the greatest of all sums
+abbrev pub AreNarrow : List ChannelTables → Type 0
+AreNarrow tables = (k : ℕ) (other : ChannelTables) → k < length tables → size_sum (get_or tables k other).filter < 32768
 
--- Each channel has the tables of eight frames, or shares those of a channel before it.
-pub record AreEight (eight : List EightTables) (channels : ℕ) : Type 0 where
-  pub count : length eight ≡ channels
-  pub tables : (c : ℕ) (other : EightTables) → c < channels → AreTables (get_or eight c other).tables.items
-  pub from : (n c : ℕ) (other : EightTables) → n < 8 → c < channels → get_or (get_or eight c other).from n 0 ≤ c
+-- Each channel has, for each of eight frames, the number of a table in the pool.
+pub record AreEight (tables : List ChannelTables) (numbers : List TableNumbers) (channels : ℕ) : Type 0 where
+  pub count : length numbers ≡ channels
+  pub narrow : AreNarrow tables
+  pub inside : (n c : ℕ) (other : TableNumbers) → n < 8 → c < channels → get_or (get_or numbers c other).of n 0 < length tables
+
+-- a pool with room for a table of each channel of eight frames
+pub record IsPool (eight : EightTables) (channels : ℕ) : Type 0 where
+  pub are : AreEight eight.tables.items eight.numbers.items channels
+  pub room : 8 * channels ≤ vec_capacity eight.tables
+
+-- A pool has grown, to so many tables at least: those that stood in it are what they were.
+pub record IsGrown (old new : List ChannelTables) (count : ℕ) : Type 0 where
+  pub enough : count ≤ length new
+  pub longer : length old ≤ length new
+  pub same : (k : ℕ) (other : ChannelTables) → k < length old → get_or new k other ≡ get_or old k other
+  pub narrow : AreNarrow old → AreNarrow new
+
+-- What a batch has taken of the pool: its first tables, for the first frames and for the first channels of the next frame.
+pub record AreTaken (eight : EightTables) (frames channels : ℕ) : Type 0 where
+  pub frame : (m c : ℕ) (other : TableNumbers) → m < frames → c < length eight.numbers.items →
+      get_or (get_or eight.numbers.items c other).of m 0 < eight.taken
+  pub channel : (c : ℕ) (other : TableNumbers) → c < channels → get_or (get_or eight.numbers.items c other).of frames 0 < eight.taken
+  pub few : eight.taken ≤ frames * length eight.numbers.items + channels
+  pub inside : eight.taken ≤ length eight.tables.items
 
 -- The words of each channel: those of the next samples of the first frames, and some behind them.
 pub record AreWords (rows : List EightStates) (frames : ℕ) : Type 0 where

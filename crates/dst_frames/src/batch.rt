@@ -1,5 +1,5 @@
 // Up to eight frames, decoded side by side.
-ghost use Rattle.std.specs.Prelude.{◌≡◌, ◌≢◌, true, false, ◌<◌, ◌≤◌, ◌+◌, ◌*◌, ◌^◌, ℕ, List, [], length, take, get_or, replicate, Ok, IfSome};
+ghost use Rattle.std.specs.Prelude.{◌≡◌, ◌≢◌, true, false, ◌<◌, ◌≤◌, ◌+◌, ◌*◌, ◌^◌, ℕ, List, [], length, take, get_or, replicate, Ok, IfSome, vec_capacity};
 ghost use Rattle.dst_spec.specs.Bits.{bits};
 ghost use Rattle.dst_spec.specs.Sample.{Shape, sound_bytes};
 ghost use Rattle.dst_spec.specs.Header.{Params, HasHeader};
@@ -14,15 +14,15 @@ ghost use Rattle.dst_frames.specs.Coded.{IsCodeOfSound};
 ghost use Rattle.dst_frames.specs.Tables.{IsBuilt, AreBuilt};
 ghost use Rattle.dst_frames.specs.Ready.{IsReady};
 ghost use Rattle.dst_frames.specs.Batch.{IsDecoded, IsWordOf, IsLaneFurther, AreLanes, HasBegun, stored_in, code_at};
-ghost use Rattle.dst_frames.specs.Eight.{states_at, table_at, tables_at};
-ghost use Rattle.dst_frames.specs.Running.{AreStored, AreTables, AreEight, AreWords, LaneDecoded};
+ghost use Rattle.dst_frames.specs.Eight.{states_at, table_at, tables_at, tables_in};
+ghost use Rattle.dst_frames.specs.Running.{AreStored, AreNarrow, AreEight, IsPool, AreTaken, AreWords, LaneDecoded};
 ghost use Rattle.dst_frames.specs.declared.state.ChannelState.{ChannelState};
-ghost use Rattle.dst_frames.specs.declared.eight.EightTables.{EightTables};
+ghost use Rattle.dst_frames.specs.declared.eight.TableNumbers.{TableNumbers};
 ghost use Rattle.dst_frames.specs.declared.stored.StoredFrame.{StoredFrame};
 ghost use Rattle.dst_frames.specs.declared.stored.DecodedFrame.{DecodedFrame};
 
 use crate::batch_scratch::BatchScratch;
-use crate::eight::{EightStates, EightTables, table_of};
+use crate::eight::{EightStates, EightTables, TableNumbers, grow_to, keep_narrow, table_of};
 use crate::frame::{decode_with, unread};
 use crate::octets::decode_octets;
 use crate::state::ChannelState;
@@ -54,7 +54,7 @@ pub fn decode_batch(
     ensures long { (n : ℕ) (other : DecodedFrame) → n < length frames.now → length (get_or heard.new n other).sound.items ≡ sound_bytes channels }
     ensures channels { scratch.new.channels ≡ scratch.old.channels }
 {
-    let eight = scratch.tables.as_mut_slice();
+    let eight = &mut scratch.eight;
     let rows = scratch.rows.as_mut_slice();
     let states = scratch.states.as_mut_slice();
     decode_within(frames, channels, eight, rows, states, heard);
@@ -63,7 +63,7 @@ pub fn decode_batch(
 fn decode_within(
     frames: &[StoredFrame],
     channels: Channels,
-    eight: &mut [EightTables],
+    eight: &mut EightTables,
     rows: &mut [EightStates],
     states: &mut [ChannelState],
     heard: &mut [DecodedFrame],
@@ -73,24 +73,24 @@ fn decode_within(
     requires stored { AreStored frames.now }
     requires frames { (n : ℕ) (other : StoredFrame) → n < length frames.now → (get_or frames.now n other).size ≤ 2 * (sound_bytes channels + 1) }
     requires sounds { (n : ℕ) (other : DecodedFrame) → n < length frames.now → length (get_or heard.old n other).sound.items ≡ sound_bytes channels }
-    requires eight { AreEight eight.old channels.channels }
+    requires eight { IsPool eight.old channels.channels }
     requires rows { length rows.old ≡ channels.channels }
     requires states { length states.old ≡ channels.channels }
     ensures decoded { (n : ℕ) (frame : StoredFrame) (other : DecodedFrame) → n < length frames.now
         → IsDecoded channels (stored_in (get_or frames.now n frame)) (get_or heard.new n other).sound.items (get_or heard.new n other).answer }
     ensures long { (n : ℕ) (other : DecodedFrame) → n < length frames.now → length (get_or heard.new n other).sound.items ≡ sound_bytes channels }
-    ensures eight { AreEight eight.new channels.channels }
+    ensures eight { IsPool eight.new channels.channels }
 {
     if !decode_front(frames, channels, eight, rows, heard) {
-        decode_each(frames, channels, &mut eight[0], states, heard);
+        decode_each(frames, channels, &mut eight.tables, states, heard);
     }
 }
 
-// Decodes frames one by one, with the first tables.
+// Decodes frames one by one, with the first tables of the pool.
 fn decode_each(
     frames: &[StoredFrame],
     channels: Channels,
-    first: &mut EightTables,
+    tables: &mut Vec<ChannelTables>,
     states: &mut [ChannelState],
     heard: &mut [DecodedFrame],
 )
@@ -98,23 +98,25 @@ fn decode_each(
     requires stored { AreStored frames.now }
     requires frames { (n : ℕ) (other : StoredFrame) → n < length frames.now → (get_or frames.now n other).size ≤ 2 * (sound_bytes channels + 1) }
     requires sounds { (n : ℕ) (other : DecodedFrame) → n < length frames.now → length (get_or heard.old n other).sound.items ≡ sound_bytes channels }
-    requires tables { AreTables first.old.tables.items }
-    requires few { channels.channels ≤ 6 }
+    requires room { channels.channels ≤ vec_capacity tables.old }
     requires states { length states.old ≡ channels.channels }
     ensures decoded { (n : ℕ) (frame : StoredFrame) (other : DecodedFrame) → n < length frames.now
         → IsDecoded channels (stored_in (get_or frames.now n frame)) (get_or heard.new n other).sound.items (get_or heard.new n other).answer }
     ensures long { (n : ℕ) (other : DecodedFrame) → n < length frames.now → length (get_or heard.new n other).sound.items ≡ sound_bytes channels }
-    ensures tables { AreTables first.new.tables.items }
-    ensures from { first.new.from ≡ first.old.from }
+    ensures tables { length tables.old.items ≤ length tables.new.items }
+    ensures narrow { AreNarrow tables.new.items }
+    ensures capacity { vec_capacity tables.new ≡ vec_capacity tables.old }
 {
-    decode_apart(frames, channels, first, states, heard);
-    first.keep_narrow();
+    grow_to(tables, states.len());
+    let all = tables.as_mut_slice();
+    decode_apart(frames, channels, all, states, heard);
+    keep_narrow(all);
 }
 
 fn decode_apart(
     frames: &[StoredFrame],
     channels: Channels,
-    first: &mut EightTables,
+    all: &mut [ChannelTables],
     states: &mut [ChannelState],
     heard: &mut [DecodedFrame],
 )
@@ -122,17 +124,13 @@ fn decode_apart(
     requires stored { AreStored frames.now }
     requires frames { (n : ℕ) (other : StoredFrame) → n < length frames.now → (get_or frames.now n other).size ≤ 2 * (sound_bytes channels + 1) }
     requires sounds { (n : ℕ) (other : DecodedFrame) → n < length frames.now → length (get_or heard.old n other).sound.items ≡ sound_bytes channels }
-    requires tables { length first.old.tables.items ≡ 8 }
-    requires few { channels.channels ≤ 6 }
+    requires enough { channels.channels ≤ length all.old }
     requires states { length states.old ≡ channels.channels }
     ensures decoded { (n : ℕ) (frame : StoredFrame) (other : DecodedFrame) → n < length frames.now
         → IsDecoded channels (stored_in (get_or frames.now n frame)) (get_or heard.new n other).sound.items (get_or heard.new n other).answer }
     ensures long { (n : ℕ) (other : DecodedFrame) → n < length frames.now → length (get_or heard.new n other).sound.items ≡ sound_bytes channels }
-    ensures tables { length first.new.tables.items ≡ 8 }
-    ensures from { first.new.from ≡ first.old.from }
 {
     let count = states.len();
-    let all = first.tables.as_mut_slice();
     let tables = &mut all[..count];
     for n in 0..frames.len() {
         decode_one(&frames[n], channels, tables, states, &mut heard[n]);
@@ -143,7 +141,7 @@ fn decode_apart(
 fn decode_front(
     frames: &[StoredFrame],
     channels: Channels,
-    eight: &mut [EightTables],
+    eight: &mut EightTables,
     rows: &mut [EightStates],
     heard: &mut [DecodedFrame],
 ) -> bool
@@ -152,13 +150,13 @@ fn decode_front(
     requires stored { AreStored frames.now }
     requires frames { (n : ℕ) (other : StoredFrame) → n < length frames.now → (get_or frames.now n other).size ≤ 2 * (sound_bytes channels + 1) }
     requires sounds { (n : ℕ) (other : DecodedFrame) → n < length frames.now → length (get_or heard.old n other).sound.items ≡ sound_bytes channels }
-    requires eight { AreEight eight.old channels.channels }
+    requires eight { IsPool eight.old channels.channels }
     requires rows { length rows.old ≡ channels.channels }
     ensures decoded { result ≡ true → (n : ℕ) (frame : StoredFrame) (other : DecodedFrame) → n < length frames.now
         → IsDecoded channels (stored_in (get_or frames.now n frame)) (get_or heard.new n other).sound.items (get_or heard.new n other).answer }
     ensures long { (n : ℕ) (other : DecodedFrame) → n < length frames.now → length (get_or heard.new n other).sound.items ≡ sound_bytes channels }
     ensures left { result ≡ false → heard.new ≡ heard.old }
-    ensures eight { AreEight eight.new channels.channels }
+    ensures eight { IsPool eight.new channels.channels }
 {
     if frames.len() < 3 {
         return false;
@@ -166,7 +164,11 @@ fn decode_front(
     let mut lanes = ArithLanes::new();
     match begin_all(frames, channels, &mut lanes, eight, rows) {
         Some(reserved) => {
-            decode_lanes(frames, channels, &mut lanes, eight, rows, heard, &reserved);
+            let tables = eight.tables.as_slice();
+            let numbers = eight.numbers.as_slice();
+            decode_lanes(
+                frames, channels, &mut lanes, tables, numbers, rows, heard, &reserved,
+            );
             true
         }
         None => false,
@@ -199,22 +201,23 @@ fn begin_all(
     frames: &[StoredFrame],
     channels: Channels,
     lanes: &mut ArithLanes,
-    eight: &mut [EightTables],
+    eight: &mut EightTables,
     rows: &mut [EightStates],
 ) -> Option<[u16; 8]>
     requires few { length frames.now ≤ 8 }
     requires stored { AreStored frames.now }
     requires frames { (n : ℕ) (other : StoredFrame) → n < length frames.now → (get_or frames.now n other).size ≤ 2 * (sound_bytes channels + 1) }
-    requires eight { AreEight eight.old channels.channels }
+    requires eight { IsPool eight.old channels.channels }
     requires rows { length rows.old ≡ channels.channels }
     requires empty { (n : ℕ) → n < 8 → Begins lanes.old n [] 0 }
     ensures begun { IfSome result (λ words. (n : ℕ) (frame : StoredFrame) → n < length frames.now
-        → HasBegun channels lanes.new n (stored_in (get_or frames.now n frame)) (tables_at eight.new n) (states_at rows.new n) (get_or words n 0)) }
+        → HasBegun channels lanes.new n (stored_in (get_or frames.now n frame)) (tables_in eight.new n) (states_at rows.new n) (get_or words n 0)) }
     ensures empty { IfSome result (λ words. (n : ℕ) → length frames.now ≤ n → n < 8 → Begins lanes.new n [] 0 × IsWord 1 (get_or words n 0)) }
     ensures words { IfSome result (λ _. AreWords rows.new (length frames.now)) }
-    ensures eight { AreEight eight.new channels.channels }
+    ensures eight { IsPool eight.new channels.channels }
 {
     let mut words = [word(0); 8];
+    eight.taken = 0;
     clear_all(rows);
     for n in 0..frames.len() {
         match begin_lane(frames[n].stored(), channels, lanes, n, eight, rows) {
@@ -240,20 +243,22 @@ fn begin_lane(
     channels: Channels,
     lanes: &mut ArithLanes,
     n: usize,
-    eight: &mut [EightTables],
+    eight: &mut EightTables,
     rows: &mut [EightStates],
 ) -> Option<u16>
     requires lane { n < 8 }
     requires frame { length frame.now ≤ 2 * (sound_bytes channels + 1) }
-    requires eight { AreEight eight.old channels.channels }
+    requires eight { IsPool eight.old channels.channels }
+    requires taken { AreTaken eight.old n 0 }
     requires rows { length rows.old ≡ channels.channels }
     requires words { AreWords rows.old n }
-    ensures begun { IfSome result (HasBegun channels lanes.new n frame.now (tables_at eight.new n) (states_at rows.new n)) }
+    ensures begun { IfSome result (HasBegun channels lanes.new n frame.now (tables_in eight.new n) (states_at rows.new n)) }
     ensures words { IfSome result (λ _. AreWords rows.new (n + 1)) }
     ensures others { (m : ℕ) → m ≢ n → IsKept lanes.old lanes.new m }
-    ensures tables { (m : ℕ) → m ≢ n → tables_at eight.new m ≡ tables_at eight.old m }
+    ensures tables { (m : ℕ) → m < n → tables_in eight.new m ≡ tables_in eight.old m }
     ensures states { (m : ℕ) → m ≢ n → states_at rows.new m ≡ states_at rows.old m }
-    ensures eight { AreEight eight.new channels.channels }
+    ensures eight { IsPool eight.new channels.channels }
+    ensures taken { IfSome result (λ _. AreTaken eight.new (n + 1) 0) }
 {
     match view_frame(frame, channels) {
         Ok(FrameView::Coded(params, code)) if are_narrow(&params, rows.len()) => match lanes.begin(
@@ -283,52 +288,58 @@ fn are_narrow(params: &Params, channels: usize) -> bool
 }
 
 // The tables of each channel of frame `n`, and no samples yet.
-fn build_all_in(params: &Params, n: usize, eight: &mut [EightTables], rows: &mut [EightStates])
+fn build_all_in(params: &Params, n: usize, eight: &mut EightTables, rows: &mut [EightStates])
     requires lane { n < 8 }
     requires channels { length params.now.half_prob ≡ length rows.old }
     requires narrow { (c : ℕ) → c < length rows.old → size_sum (filter_of params.now c) < 32768 }
-    requires eight { AreEight eight.old (length rows.old) }
+    requires eight { IsPool eight.old (length rows.old) }
+    requires taken { AreTaken eight.old n 0 }
     requires words { AreWords rows.old n }
-    ensures built { (f : Shape) → f.channels ≡ length rows.old → AreBuilt f params.now (tables_at eight.new n) }
+    ensures built { (f : Shape) → f.channels ≡ length rows.old → AreBuilt f params.now (tables_in eight.new n) }
     ensures fresh { (c : ℕ) (other : ChannelState) → c < length rows.old
         → IsReady (filter_of params.now c) (probs_of params.now c) 0 (samples_of (replicate 16 0xaa)) (get_or (states_at rows.new n) c other) }
     ensures words { AreWords rows.new (n + 1) }
-    ensures tables { (m : ℕ) → m ≢ n → tables_at eight.new m ≡ tables_at eight.old m }
+    ensures tables { (m : ℕ) → m < n → tables_in eight.new m ≡ tables_in eight.old m }
     ensures states { (m : ℕ) → m ≢ n → states_at rows.new m ≡ states_at rows.old m }
-    ensures eight { AreEight eight.new (length rows.old) }
+    ensures eight { IsPool eight.new (length rows.old) }
+    ensures taken { AreTaken eight.new (n + 1) 0 }
 {
     for c in 0..rows.len() {
         share_or_build(params, c, n, eight);
-        let from = eight[c].from;
-        let tables = table_of(eight, &from, n);
-        rows[c].begin(n, tables);
+        let numbers = eight.numbers.as_slice();
+        let own = table_of(eight.tables.as_slice(), &numbers[c].of, n);
+        rows[c].begin(n, own);
     }
 }
 
-// The tables of channel `c` of frame `n`: those of a channel before it that has the same parameters, or its own.
-fn share_or_build(params: &Params, c: usize, n: usize, eight: &mut [EightTables])
+// The table of channel `c` of frame `n`: that of a channel before it that has the same parameters, or the next one of the pool.
+fn share_or_build(params: &Params, c: usize, n: usize, eight: &mut EightTables)
     requires lane { n < 8 }
-    requires channel { c < length eight.old }
-    requires channels { length params.now.half_prob ≡ length eight.old }
+    requires channel { c < length eight.old.numbers.items }
+    requires channels { length params.now.half_prob ≡ length eight.old.numbers.items }
     requires narrow { size_sum (filter_of params.now c) < 32768 }
-    requires eight { AreEight eight.old (length eight.old) }
-    requires before { (d : ℕ) (other : EightTables) → d < c → IsBuilt (filter_of params.now d) (probs_of params.now d)
-        (get_or params.now.half_prob d false) (table_at eight.old (get_or eight.old d other).from n) }
-    ensures built { (d : ℕ) (other : EightTables) → d < c + 1 → IsBuilt (filter_of params.now d) (probs_of params.now d)
-        (get_or params.now.half_prob d false) (table_at eight.new (get_or eight.new d other).from n) }
-    ensures tables { (m : ℕ) → m ≢ n → tables_at eight.new m ≡ tables_at eight.old m }
-    ensures eight { AreEight eight.new (length eight.old) }
+    requires eight { IsPool eight.old (length eight.old.numbers.items) }
+    requires taken { AreTaken eight.old n c }
+    requires before { (d : ℕ) (other : TableNumbers) → d < c → IsBuilt (filter_of params.now d) (probs_of params.now d)
+        (get_or params.now.half_prob d false) (table_at eight.old.tables.items (get_or eight.old.numbers.items d other).of n) }
+    ensures built { (d : ℕ) (other : TableNumbers) → d < c + 1 → IsBuilt (filter_of params.now d) (probs_of params.now d)
+        (get_or params.now.half_prob d false) (table_at eight.new.tables.items (get_or eight.new.numbers.items d other).of n) }
+    ensures tables { (m : ℕ) → m < n → tables_in eight.new m ≡ tables_in eight.old m }
+    ensures eight { IsPool eight.new (length eight.old.numbers.items) }
+    ensures taken { AreTaken eight.new n (c + 1) }
 {
+    let numbers = eight.numbers.as_mut_slice();
     let alike = alike_channel(params, c);
     if alike < c {
-        let from = eight[alike].from[n];
-        let own = &mut eight[c];
-        own.from[n] = from;
+        let shared = numbers[alike].of[n];
+        numbers[c].set(n, shared);
     } else {
-        let own = &mut eight[c];
-        own.from[n] = c;
-        let tables = own.tables.as_mut_slice();
-        tables[n].build(params, c);
+        let next = eight.taken;
+        numbers[c].set(n, next);
+        grow_to(&mut eight.tables, next + 1);
+        let tables = eight.tables.as_mut_slice();
+        tables[next].build(params, c);
+        eight.taken = next + 1;
     }
 }
 
@@ -355,7 +366,8 @@ fn decode_lanes(
     frames: &[StoredFrame],
     channels: Channels,
     lanes: &mut ArithLanes,
-    eight: &[EightTables],
+    tables: &[ChannelTables],
+    numbers: &[TableNumbers],
     rows: &mut [EightStates],
     heard: &mut [DecodedFrame],
     reserved: &[u16; 8],
@@ -365,11 +377,11 @@ fn decode_lanes(
     requires stored { AreStored frames.now }
     requires frames { (n : ℕ) (other : StoredFrame) → n < length frames.now → (get_or frames.now n other).size ≤ 2 * (sound_bytes channels + 1) }
     requires sounds { (n : ℕ) (other : DecodedFrame) → n < length frames.now → length (get_or heard.old n other).sound.items ≡ sound_bytes channels }
-    requires eight { AreEight eight.now channels.channels }
+    requires eight { AreEight tables.now numbers.now channels.channels }
     requires rows { length rows.old ≡ channels.channels }
     requires words { AreWords rows.old (length frames.now) }
     requires begun { (n : ℕ) (frame : StoredFrame) → n < length frames.now
-        → HasBegun channels lanes.old n (stored_in (get_or frames.now n frame)) (tables_at eight.now n) (states_at rows.old n) (get_or reserved.now n 0) }
+        → HasBegun channels lanes.old n (stored_in (get_or frames.now n frame)) (tables_at tables.now numbers.now n) (states_at rows.old n) (get_or reserved.now n 0) }
     requires empty { (n : ℕ) → length frames.now ≤ n → n < 8 → Begins lanes.old n [] 0 × IsWord 1 (get_or reserved.now n 0) }
     ensures decoded { (n : ℕ) (frame : StoredFrame) (other : DecodedFrame) → n < length frames.now
         → IsDecoded channels (stored_in (get_or frames.now n frame)) (get_or heard.new n other).sound.items (get_or heard.new n other).answer }
@@ -377,7 +389,7 @@ fn decode_lanes(
 {
     let octets = 4704 * channels.multiple();
     lanes.decode(reserved);
-    decode_all(lanes, frames, eight, rows, heard, octets);
+    decode_all(lanes, frames, tables, numbers, rows, heard, octets);
     decoded_code();
     for n in 0..frames.len() {
         let end = lanes.end(n);
@@ -389,7 +401,8 @@ fn decode_lanes(
 fn decode_all(
     lanes: &mut ArithLanes,
     frames: &[StoredFrame],
-    eight: &[EightTables],
+    tables: &[ChannelTables],
+    numbers: &[TableNumbers],
     rows: &mut [EightStates],
     heard: &mut [DecodedFrame],
     octets: usize,
@@ -398,7 +411,7 @@ fn decode_all(
     requires most { octets < 2 ^ 20 }
     requires few { length frames.now ≤ 8 }
     requires channels { length rows.old ≤ 6 }
-    requires eight { AreEight eight.now (length rows.old) }
+    requires eight { AreEight tables.now numbers.now (length rows.old) }
     requires stored { AreStored frames.now }
     requires lanes { AreLanes lanes.old (code_at frames.now) (2 ^ 30) }
     requires words { AreWords rows.old (length frames.now) }
@@ -409,12 +422,12 @@ fn decode_all(
     ensures long { (n : ℕ) (other : DecodedFrame) → n < length heard.old
         → length (get_or heard.new n other).sound.items ≡ length (get_or heard.old n other).sound.items }
     ensures sound { (n : ℕ) (frame : DecodedFrame) → n < length frames.now
-        → LaneDecoded n 0 octets (code_at frames.now n) lanes.old lanes.new (tables_at eight.now n) (states_at rows.old n) (states_at rows.new n)
+        → LaneDecoded n 0 octets (code_at frames.now n) lanes.old lanes.new (tables_at tables.now numbers.now n) (states_at rows.old n) (states_at rows.new n)
         (get_or heard.old n frame).sound.items (get_or heard.new n frame).sound.items }
 {
     match frames.len() {
-        8 => decode_octets(lanes, frames, eight, rows, 8, heard, octets),
-        count => decode_octets(lanes, frames, eight, rows, count, heard, octets),
+        8 => decode_octets(lanes, frames, tables, numbers, rows, 8, heard, octets),
+        count => decode_octets(lanes, frames, tables, numbers, rows, count, heard, octets),
     }
 }
 

@@ -1,6 +1,6 @@
-// What one channel of the frames of a batch is decoded with, sample after sample.
+// What the frames of a batch are decoded with: their tables, and one channel of eight frames, sample after sample.
 ghost use Rattle.std.specs.Prelude.{◌≡◌, ◌≢◌, ◌<◌, ◌≤◌, ◌+◌, ◌*◌, ◌/◌, ◌%◌, ◌^◌, ℕ, ℤ, Bool, List, ◌&&◌, nat_lt, length, get_or, replicate, if◌then◌else◌};
-ghost use Rattle.std.specs.Prelude.{IfOk};
+ghost use Rattle.std.specs.Prelude.{IfOk, vec_len, vec_capacity};
 ghost use Rattle.arith_lanes.specs.Words.{IsWord};
 ghost use Rattle.arith_lanes.specs.Lanes.{IsLane, decoding_at, used_at, ahead_at as bits_ahead};
 ghost use Rattle.byte_predictor.specs.Samples.{samples_of, signed_sum};
@@ -11,65 +11,107 @@ ghost use Rattle.dst_frames.specs.Tables.{IsBuilt, IsEntry};
 ghost use Rattle.dst_frames.specs.Ready.{IsReady};
 ghost use Rattle.dst_frames.specs.Eight.{entry_in, state_in, table_at};
 ghost use Rattle.dst_frames.specs.Batch.{IsWordOf, LaneTakes, LaneSteps, IsLaneFurther};
-ghost use Rattle.dst_frames.specs.Running.{AreTables, AreEight};
+ghost use Rattle.dst_frames.specs.Running.{AreNarrow, IsGrown, IsPool};
 
 use crate::tables::ChannelTables;
 use arith_lanes::{ArithLanes, word};
 use byte_predictor::EightAhead;
 use std::alloc::{AllocError, Global};
 
-/// The tables of one channel of eight frames.
+/// The tables that the frames of a batch are decoded by, in a pool. A channel of a frame takes the next one, or that of a channel
+/// before it with the same parameters: often all channels of a frame have one filter.
 #[derive(Drop)]
 pub(crate) struct EightTables {
+    /// At least one. A table is added where a batch takes more of them than any before it.
     pub(crate) tables: Vec<ChannelTables>,
-    /// For each frame the channel whose tables this one is decoded by: often all channels of a frame have one filter.
-    pub(crate) from: [usize; 8],
+    /// Those of each channel.
+    pub(crate) numbers: Vec<TableNumbers>,
+    /// How many tables this batch has taken.
+    pub(crate) taken: usize,
+}
+
+/// For each of eight frames the number of the table that a channel is decoded by.
+#[derive(Drop)]
+pub(crate) struct TableNumbers {
+    pub(crate) of: [usize; 8],
+}
+
+impl TableNumbers {
+    /// This number for frame `n`.
+    pub(crate) fn set(&mut self, n: usize, number: usize)
+        requires { n < 8 }
+        ensures own { get_or self.new.of n 0 ≡ number }
+        ensures others { (m : ℕ) → m ≢ n → get_or self.new.of m 0 ≡ get_or self.old.of m 0 }
+    {
+        self.of[n] = number;
+    }
 }
 
 impl EightTables {
-    /// Those of channel `c`, which shares none.
-    pub(crate) fn new(alloc: Global, c: usize) -> Result<EightTables, AllocError>
-        ensures tables { IfOk result (λ t. AreTables t.tables.items) }
-        ensures from { IfOk result (λ t. (n : ℕ) → n < 8 → get_or t.from n 0 ≡ c) }
+    /// One table, and room for one of each channel of eight frames.
+    pub(crate) fn new(alloc: Global, channels: usize) -> Result<EightTables, AllocError>
+        requires { channels ≤ 6 }
+        ensures { IfOk result (λ t. IsPool t channels) }
     {
-        let mut tables = Vec::with_capacity(alloc, 8)?;
-        for _ in 0..8usize {
-            tables.push(ChannelTables::new())?;
+        let mut tables = Vec::with_capacity(alloc, 8 * channels)?;
+        let mut numbers = Vec::with_capacity(alloc, channels)?;
+        tables.push(ChannelTables::new())?;
+        for _ in 0..channels {
+            numbers.push(TableNumbers { of: [0; 8] })?;
         }
         Ok(EightTables {
             tables,
-            from: [c; 8],
+            numbers,
+            taken: 0,
         })
-    }
-
-    /// Tables of no filter again, where those give the greatest of all sums.
-    pub(crate) fn keep_narrow(&mut self)
-        requires { length self.old.tables.items ≡ 8 }
-        ensures tables { AreTables self.new.tables.items }
-        ensures from { self.new.from ≡ self.old.from }
-    {
-        let all = self.tables.as_mut_slice();
-        for n in 0..8usize {
-            all[n].keep_narrow();
-        }
     }
 }
 
-/// The tables by which a channel of frame `n` is decoded.
+/// Adds tables of no filter where there are fewer than this.
+pub(crate) fn grow_to(tables: &mut Vec<ChannelTables>, count: usize)
+    requires { count ≤ vec_capacity tables.old }
+    ensures grown { IsGrown tables.old.items tables.new.items count }
+    ensures capacity { vec_capacity tables.new ≡ vec_capacity tables.old }
+{
+    for _ in tables.len()..count {
+        add_table(tables);
+    }
+}
+
+// Apart, so that only its calls need place on the stack for a table.
+#[inline(never)]
+fn add_table(tables: &mut Vec<ChannelTables>)
+    requires { vec_len tables.old < vec_capacity tables.old }
+    ensures grown { IsGrown tables.old.items tables.new.items (length tables.old.items + 1) }
+    ensures one { length tables.new.items ≡ length tables.old.items + 1 }
+    ensures capacity { vec_capacity tables.new ≡ vec_capacity tables.old }
+{
+    tables.push_reserved(ChannelTables::new());
+}
+
+/// Of no filter again, where that gives the greatest of all sums.
+pub(crate) fn keep_narrow(tables: &mut [ChannelTables])
+    ensures { AreNarrow tables.new }
+{
+    for k in 0..tables.len() {
+        tables[k].keep_narrow();
+    }
+}
+
+/// The table by which a channel of frame `n` is decoded.
 #[inline(always)]
 pub(crate) fn table_of<'a>(
-    eight: &'a [EightTables],
+    tables: &'a [ChannelTables],
     from: &[usize; 8],
     n: usize,
 ) -> &'a ChannelTables
     requires frame { n < 8 }
-    requires eight { AreEight eight.now (length eight.now) }
-    requires from { get_or from.now n 0 < length eight.now }
-    ensures is { result.now ≡ table_at eight.now from.now n }
+    requires narrow { AreNarrow tables.now }
+    requires from { get_or from.now n 0 < length tables.now }
+    ensures is { result.now ≡ table_at tables.now from.now n }
     ensures narrow { size_sum result.now.filter < 32768 }
 {
-    let tables = eight[from[n]].tables.as_slice();
-    &tables[n]
+    &tables[from[n]]
 }
 
 /// One channel of eight frames between two samples.
@@ -126,7 +168,7 @@ impl EightStates {
     #[inline(always)]
     fn take(
         &mut self,
-        eight: &[EightTables],
+        tables: &[ChannelTables],
         from: &[usize; 8],
         count: usize,
         place: usize,
@@ -134,17 +176,17 @@ impl EightStates {
     )
         requires place { place < 8 }
         requires few { count ≤ 8 }
-        requires eight { AreEight eight.now (length eight.now) }
-        requires from { (n : ℕ) → n < 8 → get_or from.now n 0 < length eight.now }
+        requires narrow { AreNarrow tables.now }
+        requires from { (n : ℕ) → n < 8 → get_or from.now n 0 < length tables.now }
         ensures taken { (n : ℕ) → n < count
-            → LaneTakes place (get_or given.now n 0) (table_at eight.now from.now n) (state_in self.old n) (state_in self.new n) (get_or self.new.words n 0) }
+            → LaneTakes place (get_or given.now n 0) (table_at tables.now from.now n) (state_in self.old n) (state_in self.new n) (get_or self.new.words n 0) }
         ensures others { (n : ℕ) → count ≤ n → get_or self.new.words n 0 ≡ get_or self.old.words n 0 }
     {
-        let own = table_of(eight, from, place);
+        let own = table_of(tables, from, place);
         self.ahead.push(given, place, &own.filter);
         for n in 0..count {
-            let tables = table_of(eight, from, n);
-            let next = self.word_at(n, tables, place + 1);
+            let table = table_of(tables, from, n);
+            let next = self.word_at(n, table, place + 1);
             self.words[n] = next;
         }
     }
@@ -169,24 +211,24 @@ impl EightStates {
 // The words of the samples before sample `t`, with the probability 128 in those that are early.
 #[inline(always)]
 fn early_words(
-    eight: &[EightTables],
+    tables: &[ChannelTables],
     from: &[usize; 8],
     count: usize,
     t: usize,
     words: &[u16; 8],
 ) -> [u16; 8]
     requires few { count ≤ 8 }
-    requires eight { AreEight eight.now (length eight.now) }
-    requires from { (n : ℕ) → n < 8 → get_or from.now n 0 < length eight.now }
+    requires narrow { AreNarrow tables.now }
+    requires from { (n : ℕ) → n < 8 → get_or from.now n 0 < length tables.now }
     ensures early { (n p : ℕ) → n < count → IsWord p (get_or words.now n 0)
-        → IsWord (if nat_lt t (table_at eight.now from.now n).early then 128 else p) (get_or result n 0) }
+        → IsWord (if nat_lt t (table_at tables.now from.now n).early then 128 else p) (get_or result n 0) }
     ensures mark { (n : ℕ) → get_or result n 0 / 128 % 2 ≡ get_or words.now n 0 / 128 % 2 }
     ensures others { (n : ℕ) → count ≤ n → get_or result n 0 ≡ get_or words.now n 0 }
 {
     let mut early = *words;
     for n in 0..count {
         let own = words[n];
-        early[n] = early_word(t < table_of(eight, from, n).early, own);
+        early[n] = early_word(t < table_of(tables, from, n).early, own);
     }
     early
 }
@@ -207,7 +249,7 @@ fn early_word(early: bool, own: u16) -> u16
 // The words of the samples before sample `t`. Only at the start there are early ones.
 #[inline(always)]
 fn words_at(
-    eight: &[EightTables],
+    tables: &[ChannelTables],
     from: &[usize; 8],
     count: usize,
     t: usize,
@@ -215,15 +257,15 @@ fn words_at(
     words: &[u16; 8],
 ) -> [u16; 8]
     requires few { count ≤ 8 }
-    requires eight { AreEight eight.now (length eight.now) }
-    requires from { (n : ℕ) → n < 8 → get_or from.now n 0 < length eight.now }
+    requires narrow { AreNarrow tables.now }
+    requires from { (n : ℕ) → n < 8 → get_or from.now n 0 < length tables.now }
     ensures prob { (n p : ℕ) → n < count → IsWord p (get_or words.now n 0)
-        → IsWord (if (start && nat_lt t (table_at eight.now from.now n).early) then 128 else p) (get_or result n 0) }
+        → IsWord (if (start && nat_lt t (table_at tables.now from.now n).early) then 128 else p) (get_or result n 0) }
     ensures mark { (n : ℕ) → get_or result n 0 / 128 % 2 ≡ get_or words.now n 0 / 128 % 2 }
     ensures others { (n : ℕ) → count ≤ n → get_or result n 0 ≡ get_or words.now n 0 }
 {
     if start {
-        early_words(eight, from, count, t, words)
+        early_words(tables, from, count, t, words)
     } else {
         *words
     }
@@ -233,7 +275,7 @@ fn words_at(
 #[inline(always)]
 pub(crate) fn decode_next(
     lanes: &mut ArithLanes,
-    eight: &[EightTables],
+    tables: &[ChannelTables],
     from: &[usize; 8],
     row: &mut EightStates,
     count: usize,
@@ -243,18 +285,18 @@ pub(crate) fn decode_next(
 )
     requires place { place < 8 }
     requires few { count ≤ 8 }
-    requires eight { AreEight eight.now (length eight.now) }
-    requires from { (n : ℕ) → n < 8 → get_or from.now n 0 < length eight.now }
+    requires narrow { AreNarrow tables.now }
+    requires from { (n : ℕ) → n < 8 → get_or from.now n 0 < length tables.now }
     ensures steps { (n : ℕ) (bytes : List ℕ) → n < count → IsLane lanes.old n bytes
         → 8 ≤ bits_ahead lanes.old n → used_at lanes.old n ≤ 2 ^ 40
         → IsWordOf (state_in row.old n).next (get_or row.old.words n 0)
-        → LaneSteps place (start && nat_lt t (table_at eight.now from.now n).early) (table_at eight.now from.now n) (state_in row.old n) (state_in row.new n)
+        → LaneSteps place (start && nat_lt t (table_at tables.now from.now n).early) (table_at tables.now from.now n) (state_in row.old n) (state_in row.new n)
         (decoding_at lanes.old n bytes) (decoding_at lanes.new n bytes) (get_or row.new.words n 0) }
     ensures further { (n p : ℕ) (bytes : List ℕ) → n < 8 → IsLane lanes.old n bytes → 8 ≤ bits_ahead lanes.old n
         → used_at lanes.old n ≤ 2 ^ 40 → IsWord p (get_or row.old.words n 0) → IsLaneFurther lanes.old lanes.new n bytes 8 }
     ensures others { (n : ℕ) → count ≤ n → get_or row.new.words n 0 ≡ get_or row.old.words n 0 }
 {
-    let now = words_at(eight, from, count, t, start, &row.words);
+    let now = words_at(tables, from, count, t, start, &row.words);
     let given = lanes.decode(&now);
-    row.take(eight, from, count, place, &given);
+    row.take(tables, from, count, place, &given);
 }

@@ -11,8 +11,9 @@ ghost use Rattle.dst_frames.specs.declared.tables.ChannelTables.{ChannelTables};
 ghost use Rattle.dst_frames.specs.declared.state.ChannelState.{ChannelState};
 ghost use Rattle.dst_frames.specs.declared.eight.EightStates.{EightStates};
 
-use crate::eight::{EightStates, EightTables, decode_next, table_of};
+use crate::eight::{EightStates, TableNumbers, decode_next, table_of};
 use crate::stored::{DecodedFrame, StoredFrame};
+use crate::tables::ChannelTables;
 use arith_lanes::ArithLanes;
 use byte_predictor::laws::samples_before;
 
@@ -58,7 +59,8 @@ fn code_bytes(frames: &[StoredFrame], n: usize) -> &[u8]
 fn decode_place(
     lanes: &mut ArithLanes,
     frames: &[StoredFrame],
-    eight: &[EightTables],
+    tables: &[ChannelTables],
+    numbers: &[TableNumbers],
     rows: &mut [EightStates],
     count: usize,
     byte: usize,
@@ -71,13 +73,13 @@ fn decode_place(
     requires few { length frames.now ≤ 8 }
     requires count { count ≤ 8 }
     requires channels { length rows.old ≤ 6 }
-    requires eight { AreEight eight.now (length rows.old) }
+    requires eight { AreEight tables.now numbers.now (length rows.old) }
     requires stored { AreStored frames.now }
     requires lanes { AreLanes lanes.old (code_at frames.now) (2 ^ 39) }
     requires words { AreWords rows.old count }
     ensures lanes { (n : ℕ) → n < 8 → IsLaneFurther lanes.old lanes.new n (code_at frames.now n) (8 * length rows.old) }
     ensures words { AreWords rows.new count }
-    ensures rows { (n : ℕ) (f : Shape) (P : Params) (reserved : Bool) → n < count → f.channels ≡ length rows.old → AreBuilt f P (tables_at eight.now n)
+    ensures rows { (n : ℕ) (f : Shape) (P : Params) (reserved : Bool) → n < count → f.channels ≡ length rows.old → AreBuilt f P (tables_at tables.now numbers.now n)
         → RowsDecoded f P reserved (8 * byte + place) place n (code_at frames.now n) lanes.old lanes.new (states_at rows.old n) (states_at rows.new n) }
 {
     samples_before();
@@ -85,8 +87,8 @@ fn decode_place(
         refill_where_short(lanes, frames);
         decode_next(
             lanes,
-            eight,
-            &eight[c].from,
+            tables,
+            &numbers[c].of,
             &mut rows[c],
             count,
             place,
@@ -98,74 +100,89 @@ fn decode_place(
 
 // Gives out the eight samples of each channel of frame `n`, and adds them to the sums ahead.
 #[inline(always)]
-fn finish_rows(eight: &[EightTables], rows: &mut [EightStates], n: usize, out: &mut [u8])
+fn finish_rows(
+    tables: &[ChannelTables],
+    numbers: &[TableNumbers],
+    rows: &mut [EightStates],
+    n: usize,
+    out: &mut [u8],
+)
     requires frame { n < 8 }
-    requires eight { AreEight eight.now (length rows.old) }
+    requires eight { AreEight tables.now numbers.now (length rows.old) }
     requires out { length out.old ≡ length rows.old }
     ensures newest { (c : ℕ) (other : ChannelState) (filter : List ℤ) (probs samples : List ℕ) (place : ℕ) → c < length rows.old
         → IsReady filter probs place samples (get_or (states_at rows.old n) c other)
         → (k : ℕ) → k < 8 → get_or out.new c 0 / 2 ^ k % 2 ≡ get_or samples k 0 }
     ensures added { (c : ℕ) (table : ChannelTables) (other : ChannelState) (probs samples : List ℕ) → c < length rows.old
-        → IsReady (get_or (tables_at eight.now n) c table).filter probs 8 samples (get_or (states_at rows.old n) c other)
-        → IsReady (get_or (tables_at eight.now n) c table).filter probs 0 samples (get_or (states_at rows.new n) c other) }
+        → IsReady (get_or (tables_at tables.now numbers.now n) c table).filter probs 8 samples (get_or (states_at rows.old n) c other)
+        → IsReady (get_or (tables_at tables.now numbers.now n) c table).filter probs 0 samples (get_or (states_at rows.new n) c other) }
     ensures others { (m : ℕ) → m ≢ n → states_at rows.new m ≡ states_at rows.old m }
     ensures words { (c : ℕ) (row : EightStates) → (get_or rows.new c row).words ≡ (get_or rows.old c row).words }
 {
     for c in 0..rows.len() {
-        let tables = table_of(eight, &eight[c].from, n);
-        let newest = rows[c].finish(n, tables);
+        let own = table_of(tables, &numbers[c].of, n);
+        let newest = rows[c].finish(n, own);
         out[c] = newest;
     }
 }
 
 #[inline(always)]
 fn finish_sound(
-    eight: &[EightTables],
+    tables: &[ChannelTables],
+    numbers: &[TableNumbers],
     rows: &mut [EightStates],
     n: usize,
     sound: &mut [u8],
     byte: usize,
 )
     requires frame { n < 8 }
-    requires eight { AreEight eight.now (length rows.old) }
+    requires eight { AreEight tables.now numbers.now (length rows.old) }
     requires channels { length rows.old ≤ 6 }
     requires byte { byte < 2 ^ 20 }
     requires inside { (byte + 1) * length rows.old ≤ length sound.old }
-    ensures finishes { FinishesSound byte (length rows.old) (tables_at eight.now n) (states_at rows.old n) (states_at rows.new n) sound.old sound.new }
+    ensures finishes { FinishesSound byte (length rows.old) (tables_at tables.now numbers.now n) (states_at rows.old n) (states_at rows.new n) sound.old sound.new }
     ensures others { (m : ℕ) → m ≢ n → states_at rows.new m ≡ states_at rows.old m }
     ensures words { (c : ℕ) (row : EightStates) → (get_or rows.new c row).words ≡ (get_or rows.old c row).words }
 {
     let channels = rows.len();
     let first = byte * channels;
-    finish_rows(eight, rows, n, &mut sound[first..first + channels]);
+    finish_rows(
+        tables,
+        numbers,
+        rows,
+        n,
+        &mut sound[first..first + channels],
+    );
 }
 
 #[inline(always)]
 fn finish_heard(
-    eight: &[EightTables],
+    tables: &[ChannelTables],
+    numbers: &[TableNumbers],
     rows: &mut [EightStates],
     n: usize,
     heard: &mut DecodedFrame,
     byte: usize,
 )
     requires frame { n < 8 }
-    requires eight { AreEight eight.now (length rows.old) }
+    requires eight { AreEight tables.now numbers.now (length rows.old) }
     requires channels { length rows.old ≤ 6 }
     requires byte { byte < 2 ^ 20 }
     requires inside { (byte + 1) * length rows.old ≤ length heard.old.sound.items }
-    ensures finishes { FinishesSound byte (length rows.old) (tables_at eight.now n) (states_at rows.old n) (states_at rows.new n) heard.old.sound.items
+    ensures finishes { FinishesSound byte (length rows.old) (tables_at tables.now numbers.now n) (states_at rows.old n) (states_at rows.new n) heard.old.sound.items
         heard.new.sound.items }
     ensures others { (m : ℕ) → m ≢ n → states_at rows.new m ≡ states_at rows.old m }
     ensures words { (c : ℕ) (row : EightStates) → (get_or rows.new c row).words ≡ (get_or rows.old c row).words }
 {
     let sound = heard.sound.as_mut_slice();
-    finish_sound(eight, rows, n, sound, byte);
+    finish_sound(tables, numbers, rows, n, sound, byte);
 }
 
 // Gives out the eight samples of each channel of each frame.
 #[inline(always)]
 fn finish_all(
-    eight: &[EightTables],
+    tables: &[ChannelTables],
+    numbers: &[TableNumbers],
     rows: &mut [EightStates],
     count: usize,
     heard: &mut [DecodedFrame],
@@ -173,17 +190,17 @@ fn finish_all(
 )
     requires few { count ≤ 8 }
     requires same { length heard.old ≡ count }
-    requires eight { AreEight eight.now (length rows.old) }
+    requires eight { AreEight tables.now numbers.now (length rows.old) }
     requires channels { length rows.old ≤ 6 }
     requires byte { byte < 2 ^ 20 }
     requires inside { (n : ℕ) (other : DecodedFrame) → n < length heard.old → (byte + 1) * length rows.old ≤ length (get_or heard.old n other).sound.items }
     ensures finishes { (n : ℕ) (frame : DecodedFrame) → n < count
-        → FinishesSound byte (length rows.old) (tables_at eight.now n) (states_at rows.old n) (states_at rows.new n) (get_or heard.old n frame).sound.items
+        → FinishesSound byte (length rows.old) (tables_at tables.now numbers.now n) (states_at rows.old n) (states_at rows.new n) (get_or heard.old n frame).sound.items
         (get_or heard.new n frame).sound.items }
     ensures words { (c : ℕ) (row : EightStates) → (get_or rows.new c row).words ≡ (get_or rows.old c row).words }
 {
     for n in 0..count {
-        finish_heard(eight, rows, n, &mut heard[n], byte);
+        finish_heard(tables, numbers, rows, n, &mut heard[n], byte);
     }
 }
 
@@ -192,7 +209,8 @@ fn finish_all(
 fn decode_octet(
     lanes: &mut ArithLanes,
     frames: &[StoredFrame],
-    eight: &[EightTables],
+    tables: &[ChannelTables],
+    numbers: &[TableNumbers],
     rows: &mut [EightStates],
     count: usize,
     heard: &mut [DecodedFrame],
@@ -204,7 +222,7 @@ fn decode_octet(
     requires few { length frames.now ≤ 8 }
     requires count { count ≤ 8 }
     requires channels { length rows.old ≤ 6 }
-    requires eight { AreEight eight.now (length rows.old) }
+    requires eight { AreEight tables.now numbers.now (length rows.old) }
     requires stored { AreStored frames.now }
     requires lanes { AreLanes lanes.old (code_at frames.now) (2 ^ 38) }
     requires words { AreWords rows.old count }
@@ -216,13 +234,15 @@ fn decode_octet(
     ensures long { (n : ℕ) (other : DecodedFrame) → n < length heard.old
         → length (get_or heard.new n other).sound.items ≡ length (get_or heard.old n other).sound.items }
     ensures sound { (n : ℕ) (frame : DecodedFrame) → n < count
-        → LaneDecoded n byte (byte + 1) (code_at frames.now n) lanes.old lanes.new (tables_at eight.now n) (states_at rows.old n) (states_at rows.new n)
+        → LaneDecoded n byte (byte + 1) (code_at frames.now n) lanes.old lanes.new (tables_at tables.now numbers.now n) (states_at rows.old n) (states_at rows.new n)
         (get_or heard.old n frame).sound.items (get_or heard.new n frame).sound.items }
 {
     for place in 0..8 {
-        decode_place(lanes, frames, eight, rows, count, byte, place, start);
+        decode_place(
+            lanes, frames, tables, numbers, rows, count, byte, place, start,
+        );
     }
-    finish_all(eight, rows, count, heard, byte);
+    finish_all(tables, numbers, rows, count, heard, byte);
 }
 
 /// All samples of the frames, `octets` bytes of each channel. Only the first sixteen bytes of a channel can have early samples. The
@@ -231,7 +251,8 @@ fn decode_octet(
 pub(crate) fn decode_octets(
     lanes: &mut ArithLanes,
     frames: &[StoredFrame],
-    eight: &[EightTables],
+    tables: &[ChannelTables],
+    numbers: &[TableNumbers],
     rows: &mut [EightStates],
     count: usize,
     heard: &mut [DecodedFrame],
@@ -242,7 +263,7 @@ pub(crate) fn decode_octets(
     requires few { length frames.now ≤ 8 }
     requires count { count ≤ 8 }
     requires channels { length rows.old ≤ 6 }
-    requires eight { AreEight eight.now (length rows.old) }
+    requires eight { AreEight tables.now numbers.now (length rows.old) }
     requires stored { AreStored frames.now }
     requires lanes { AreLanes lanes.old (code_at frames.now) (2 ^ 30) }
     requires words { AreWords rows.old count }
@@ -253,13 +274,17 @@ pub(crate) fn decode_octets(
     ensures long { (n : ℕ) (other : DecodedFrame) → n < length heard.old
         → length (get_or heard.new n other).sound.items ≡ length (get_or heard.old n other).sound.items }
     ensures sound { (n : ℕ) (frame : DecodedFrame) → n < count
-        → LaneDecoded n 0 octets (code_at frames.now n) lanes.old lanes.new (tables_at eight.now n) (states_at rows.old n) (states_at rows.new n)
+        → LaneDecoded n 0 octets (code_at frames.now n) lanes.old lanes.new (tables_at tables.now numbers.now n) (states_at rows.old n) (states_at rows.new n)
         (get_or heard.old n frame).sound.items (get_or heard.new n frame).sound.items }
 {
     for byte in 0..16 {
-        decode_octet(lanes, frames, eight, rows, count, heard, byte, true);
+        decode_octet(
+            lanes, frames, tables, numbers, rows, count, heard, byte, true,
+        );
     }
     for byte in 16..octets {
-        decode_octet(lanes, frames, eight, rows, count, heard, byte, false);
+        decode_octet(
+            lanes, frames, tables, numbers, rows, count, heard, byte, false,
+        );
     }
 }

@@ -2,7 +2,7 @@ use Rattle.std.proofs.Common.{◌≡◌, ◌≢◌, ℕ, ◌<◌, [], length, ge
 use Rattle.std.proofs.Common.{◌∙◌, arith}
 use Rattle.std.proofs.lemmas.List.{get_or_default, length-take-le}
 use Rattle.arith_lanes.proofs.Beginning.{alike}
-use Rattle.dst_frames.specs.Eight.{states_at, tables_at}
+use Rattle.dst_frames.specs.Eight.{states_at, tables_in}
 use Rattle.dst_frames.specs.Batch.{HasBegun, stored_in}
 use Rattle.dst_frames.specs.Running.{AreWords}
 use Rattle.dst_frames.specs.declared.stored.StoredFrame.{StoredFrame}
@@ -14,7 +14,13 @@ loop-n-init c = record {
   many = refl;
   begun = λ m frame h. absurd (omega arith);
   empty = λ m a h. (c.requires.empty m h, rw (alike c.word-words.result m h) c.word-words.ensures.prob);
-  eight = c.requires.eight;
+  eight = record { are = c.requires.eight.are; room = c.requires.eight.room };
+  taken = record {
+    frame = λ m d other h k. absurd (omega arith);
+    channel = λ d other h. absurd (omega arith);
+    few = omega arith;
+    inside = omega arith;
+  };
   words = c.clear_all.ensures;
 }
 
@@ -43,18 +49,18 @@ loop-n-preserved c =
     let x = c.in-Some.reserved in
     let lt_frames : i < length frames = omega arith in
     let lt_words : i < length words = omega (arith, inv.many, c.requires.few) in
-    let P : ℕ → Type 0 = λ m. (frame : StoredFrame) → HasBegun f new m (stored_in (get_or frames m frame)) (tables_at eight m) (states_at rows m)
+    let P : ℕ → Type 0 = λ m. (frame : StoredFrame) → HasBegun f new m (stored_in (get_or frames m frame)) (tables_in eight m) (states_at rows m)
     (get_or (set words i x) m 0) in
     let below : (m : ℕ) → m < i → P m = λ m h frame.
     let ne : m ≢ i = omega arith in
-    rw (c.begin_lane.ensures.tables m ne, c.begin_lane.ensures.states m ne, get_or-set_other words i m x 0 ne)
-    (begun_kept f lanes new m (stored_in (get_or frames m frame)) (tables_at c.loop-n.eight m) (states_at c.loop-n.rows m) (get_or words m 0)
+    rw (c.begin_lane.ensures.tables m h, c.begin_lane.ensures.states m ne, get_or-set_other words i m x 0 ne)
+    (begun_kept f lanes new m (stored_in (get_or frames m frame)) (tables_in c.loop-n.eight m) (states_at c.loop-n.rows m) (get_or words m 0)
     (inv.begun m frame h) (c.begin_lane.ensures.others m ne)) in
     let bytes : (frame : StoredFrame) → c.stored.result.now ≡ stored_in (get_or frames i frame) = λ frame.
     c.stored.ensures.bytes ∙ ap (λ (q : StoredFrame). stored_in q) (c.index-frames-n.is ∙ get_or_default frames i c.index-frames-n.result frame lt_frames) in
     let here : P i = λ frame.
-    subst (λ w. HasBegun f new i (stored_in (get_or frames i frame)) (tables_at eight i) (states_at rows i) w) (sym (get_or-set_same words i x 0 lt_words))
-    (subst (λ bs. HasBegun f new i bs (tables_at eight i) (states_at rows i) x) (bytes frame) c.in-Some.ensures.begun) in
+    subst (λ w. HasBegun f new i (stored_in (get_or frames i frame)) (tables_in eight i) (states_at rows i) w) (sym (get_or-set_same words i x 0 lt_words))
+    (subst (λ bs. HasBegun f new i bs (tables_in eight i) (states_at rows i) x) (bytes frame) c.in-Some.ensures.begun) in
     record {
       many = simp length-set inv.many;
       begun = λ m frame h. below_more P i below here m h frame;
@@ -63,6 +69,7 @@ loop-n-preserved c =
           let was = inv.empty m (omega arith) h in
           (begins_kept lanes new m [] 0 was.0 (c.begin_lane.ensures.others m ne), rw (get_or-set_other words i m x 0 ne) was.1);
       eight = c.begin_lane.ensures.eight;
+      taken = c.in-Some.ensures.taken;
       words = c.in-Some.ensures.words;
     }
 

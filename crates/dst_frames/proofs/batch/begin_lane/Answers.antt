@@ -1,11 +1,11 @@
 use Rattle.std.proofs.Common.{◌≡◌, get_or, subst, arith}
 use Rattle.dst_spec.specs.Bits.{bits}
 use Rattle.arith_lanes.specs.Lanes.{Begins}
-use Rattle.dst_frames.specs.Running.{AreEight}
+use Rattle.dst_frames.specs.Running.{IsPool}
 use Rattle.dst_frames.proofs.batch.begin_lane.Goals as goal
 
 pub build_all_in-requires-clause-eight : goal.build_all_in-requires-clause-eight
-build_all_in-requires-clause-eight c = subst (AreEight c.args.eight.now) (omega (arith, c.requires.rows)) c.requires.eight
+build_all_in-requires-clause-eight c = subst (IsPool c.args.eight.now) (omega (arith, c.requires.rows)) c.requires.eight
 
 pub returns-in-Ok-clause-begun : goal.returns-in-Ok-clause-begun
 returns-in-Ok-clause-begun c =
@@ -27,4 +27,4 @@ returns-in-Ok-clause-begun c =
     }
 
 pub returns-in-Ok-clause-eight : goal.returns-in-Ok-clause-eight
-returns-in-Ok-clause-eight c = subst (AreEight c.build_all_in.new.eight) (omega (arith, c.requires.rows)) c.build_all_in.ensures.eight
+returns-in-Ok-clause-eight c = subst (IsPool c.build_all_in.new.eight) (omega (arith, c.requires.rows)) c.build_all_in.ensures.eight

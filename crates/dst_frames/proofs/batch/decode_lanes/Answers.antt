@@ -15,11 +15,11 @@ use Rattle.dst_frames.proofs.Running.{code_of}
 use Rattle.dst_frames.proofs.batch.decode_lanes.Goals as goal
 
 pub decode_all-requires-clause-eight : goal.decode_all-requires-clause-eight
-decode_all-requires-clause-eight c = subst (AreEight c.args.eight.now) (omega (arith, c.requires.rows)) c.requires.eight
+decode_all-requires-clause-eight c = subst (AreEight c.args.tables.now c.args.numbers.now) (omega (arith, c.requires.rows)) c.requires.eight
 
 pub decode_all-requires-clause-lanes : goal.decode_all-requires-clause-lanes
 decode_all-requires-clause-lanes c =
-    begun_lanes c.args.channels c.args.lanes.now c.decode.new.self c.args.frames.now c.args.eight.now c.args.rows.now c.args.reserved.now
+    begun_lanes c.args.channels c.args.lanes.now c.decode.new.self c.args.frames.now c.args.tables.now c.args.numbers.now c.args.rows.now c.args.reserved.now
     c.decode.result c.requires.few c.requires.begun c.requires.empty c.decode.ensures
 
 pub end-end-requires-clause-code : goal.end-end-requires-clause-code
@@ -63,10 +63,10 @@ loop-n-preserved c =
     let hd = get_or first_heard i c.index-heard-n.result in
     let decoded = rw (← code) at (c.decode_all.ensures.sound i c.index-heard-n.result lt) in
     let further = c.decode_all.ensures.lanes i eight in
-    let is_code = code_in_lane c.decoded_code.ensures f s t u i bytes (tables_at c.args.eight.now i) (states_at c.args.rows.now i)
+    let is_code = code_in_lane c.decoded_code.ensures f s t u i bytes (tables_at c.args.tables.now c.args.numbers.now i) (states_at c.args.rows.now i)
     (states_at c.decode_all.new.rows i)
     (get_or c.args.reserved.now i 0) (4704 * c.multiple-octets.result) k.0 (get_or sounds i c.index-heard-n.result).sound.items hd.sound.items b k.2
-    (sym (length-tables c.args.eight.now i ∙ c.requires.eight.count)) c.multiple-octets.ensures.multiple decoded further.first in
+    (sym (length-tables c.args.tables.now c.args.numbers.now i ∙ c.requires.eight.count)) c.multiple-octets.ensures.multiple decoded further.first in
     let lt_first : i < length sounds = omega (arith, c.requires.heard) in
     let long : length hd.sound.items ≡ sound_bytes f = c.decode_all.ensures.long i c.index-heard-n.result lt_first
     ∙ c.requires.sounds i c.index-heard-n.result lt in

@@ -8,7 +8,7 @@ pub loop-n-preserved : goal.loop-n-preserved
 loop-n-preserved c =
     let i = c.loop-n.n in
     let inv = c.loop-n.invariant in
-    let table = table_at c.args.eight.now c.args.from.now in
+    let table = table_at c.args.tables.now c.args.from.now in
     let words = c.args.words.now in
     let x = c.early_word.result in
     let lt_early : i < length c.loop-n.early = omega (arith, inv.many, c.requires.few) in

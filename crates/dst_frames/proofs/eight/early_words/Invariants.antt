@@ -7,7 +7,7 @@ abbrev pub invariant-loop-n : goal.invariant-loop-n
 invariant-loop-n l = record {
   many : length l.early ≡ 8;
   early : (m p : ℕ) → m < l.n → IsWord p (get_or l.words m 0) →
-      IsWord (if nat_lt l.t (table_at l.eight l.from m).early then 128 else p) (get_or l.early m 0);
+      IsWord (if nat_lt l.t (table_at l.tables l.from m).early then 128 else p) (get_or l.early m 0);
   mark : (m : ℕ) → m < l.n → get_or l.early m 0 / 128 % 2 ≡ get_or l.words m 0 / 128 % 2;
   left : (m : ℕ) → l.n ≤ m → get_or l.early m 0 ≡ get_or l.words m 0;
 }

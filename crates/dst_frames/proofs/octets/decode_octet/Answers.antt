@@ -22,7 +22,7 @@ loop-place-init c = record {
 }
 
 pub decode_place-requires-clause-eight : goal.decode_place-requires-clause-eight
-decode_place-requires-clause-eight c = subst (AreEight c.args.eight.now) (omega arith) c.requires.eight
+decode_place-requires-clause-eight c = subst (AreEight c.args.tables.now c.args.numbers.now) (omega arith) c.requires.eight
 
 pub decode_place-requires-clause-lanes : goal.decode_place-requires-clause-lanes
 decode_place-requires-clause-lanes c =
@@ -52,7 +52,7 @@ loop-place-preserved c =
     }
 
 pub finish_all-requires-clause-eight : goal.finish_all-requires-clause-eight
-finish_all-requires-clause-eight c = subst (AreEight c.args.eight.now) (omega arith) c.requires.eight
+finish_all-requires-clause-eight c = subst (AreEight c.args.tables.now c.args.numbers.now) (omega arith) c.requires.eight
 
 pub finish_all-requires-clause-inside : goal.finish_all-requires-clause-inside
 finish_all-requires-clause-inside c = λ n other h.
@@ -75,7 +75,7 @@ pub returns-clause-sound : goal.returns-clause-sound
 returns-clause-sound c n frame h = λ f P reserved count built start.
     let m = c.args.byte in
     let sound = (get_or c.args.heard.now n frame).sound.items in
-    let long = length-tables c.args.eight.now n in
+    let long = length-tables c.args.tables.now c.args.numbers.now n in
     let channels : f.channels ≡ length c.args.rows.now = count ∙ long ∙ c.requires.eight.count in
     let s = c.loop-place.invariant.samples n f P reserved (λ j. earlier f sound j (8 * m)) h channels built start in
     let all : c.loop-place.place ≡ 8 = omega arith in

@@ -14,7 +14,7 @@ invariant-loop-place l = record {
   lanes : (n : ℕ) → n < 8 → IsLaneFurther l.initial.lanes l.lanes n (code_at l.frames n) (48 * l.place);
   words : AreWords l.rows l.count;
   samples : (n : ℕ) (f : Shape) (P : Params) (reserved : Bool) (samples : ℕ → List ℕ) → n < l.count →
-      f.channels ≡ length l.initial.rows → AreBuilt f P (tables_at l.eight n) →
+      f.channels ≡ length l.initial.rows → AreBuilt f P (tables_at l.tables l.numbers n) →
       IsUnderway f P reserved (8 * l.byte) 0 samples (decoding_at l.initial.lanes n (code_at l.frames n)) (states_at l.initial.rows n) →
       (later : ℕ → List ℕ) × ((c : ℕ) → c < f.channels → drop l.place (later c) ≡ samples c)
       × IsUnderway f P reserved (8 * l.byte + l.place) l.place later (decoding_at l.lanes n (code_at l.frames n)) (states_at l.rows n);

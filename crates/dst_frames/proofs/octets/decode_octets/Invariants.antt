@@ -12,7 +12,7 @@ invariant-loop-byte l = record {
   long : (n : ℕ) (frame : DecodedFrame) → n < length l.fn.heard →
       length (get_or l.heard n frame).sound.items ≡ length (get_or l.fn.heard n frame).sound.items;
   sound : (n : ℕ) (frame : DecodedFrame) → n < l.count →
-      LaneDecoded n 0 l.byte (code_at l.frames n) l.fn.lanes l.lanes (tables_at l.eight n) (states_at l.fn.rows n) (states_at l.rows n)
+      LaneDecoded n 0 l.byte (code_at l.frames n) l.fn.lanes l.lanes (tables_at l.tables l.numbers n) (states_at l.fn.rows n) (states_at l.rows n)
       (get_or l.fn.heard n frame).sound.items (get_or l.heard n frame).sound.items;
 }
 
@@ -23,6 +23,6 @@ invariant-loop-byte-2 l = record {
   long : (n : ℕ) (frame : DecodedFrame) → n < length l.fn.heard →
       length (get_or l.heard n frame).sound.items ≡ length (get_or l.fn.heard n frame).sound.items;
   sound : (n : ℕ) (frame : DecodedFrame) → n < l.count →
-      LaneDecoded n 0 l.byte (code_at l.frames n) l.fn.lanes l.lanes (tables_at l.eight n) (states_at l.fn.rows n) (states_at l.rows n)
+      LaneDecoded n 0 l.byte (code_at l.frames n) l.fn.lanes l.lanes (tables_at l.tables l.numbers n) (states_at l.fn.rows n) (states_at l.rows n)
       (get_or l.fn.heard n frame).sound.items (get_or l.heard n frame).sound.items;
 }

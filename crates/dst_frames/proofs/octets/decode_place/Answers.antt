@@ -5,14 +5,13 @@ use Rattle.arith_lanes.specs.Lanes.{decoding_at, used_at, ahead_at}
 use Rattle.dst_frames.specs.Tables.{IsBuilt}
 use Rattle.dst_frames.specs.Eight.{no_tables, table_at, state_in, states_at, tables_at}
 use Rattle.dst_frames.specs.Batch.{HasEnough, LaneSteps, code_at}
-use Rattle.dst_frames.specs.Running.{AreEight}
 use Rattle.dst_frames.specs.declared.tables.ChannelTables.{ChannelTables}
 use Rattle.dst_frames.specs.declared.eight.EightStates.{EightStates}
 use Rattle.dst_frames.proofs.History.{Predicts}
 use Rattle.dst_frames.proofs.Rows.{IsRow, row_begins, row_ends}
 use Rattle.dst_frames.proofs.LaneRows.{row_on}
 use Rattle.dst_frames.proofs.Running.{lane_still, lane_on, used_kept, words_on}
-use Rattle.dst_frames.proofs.OneOfEight.{no_row, length-states, get_or-states, states-set, get_or-tables}
+use Rattle.dst_frames.proofs.OneOfEight.{no_row, no_numbers, length-states, get_or-states, states-set, get_or-tables}
 use Rattle.dst_frames.proofs.octets.decode_place.Goals as goal
 
 pub loop-c-init : goal.loop-c-init
@@ -24,14 +23,8 @@ loop-c-init c = record {
       (states_at c.args.rows.now n) u;
 }
 
-pub decode_next-requires-clause-eight : goal.decode_next-requires-clause-eight
-decode_next-requires-clause-eight c = subst (AreEight c.args.eight.now) (sym c.requires.eight.count) c.requires.eight
-
 pub decode_next-requires-clause-from : goal.decode_next-requires-clause-from
-decode_next-requires-clause-from c = λ n h.
-    let i = c.loop-c.c in
-    let front = c.requires.eight.from n i c.index-eight-c.result h (omega arith) in
-    omega (arith, front, c.requires.eight.count)
+decode_next-requires-clause-from c = λ n h. c.requires.eight.inside n c.loop-c.c no_numbers h (omega arith)
 
 pub loop-c-preserved : goal.loop-c-preserved
 loop-c-preserved c =
@@ -46,7 +39,8 @@ loop-c-preserved c =
     let place = c.args.place in
     let count = c.args.count in
     let rows = c.loop-c.rows in
-    let eight = c.args.eight.now in
+    let tables = c.args.tables.now in
+    let numbers = c.args.numbers.now in
     let lt : i < length rows = omega arith in
     let lt_eight : i < length c.args.rows.now = omega arith in
     let s = c.loop-c.lanes in
@@ -54,13 +48,13 @@ loop-c-preserved c =
     let t = c.decode_next.new.lanes in
     let row = c.decode_next.new.row in
     let was = get_or rows i no_row in
-    let one = c.index-eight-c.result in
-    let lt_tables : i < length eight = omega (arith, c.requires.eight.count) in
+    let one = no_numbers in
+    let lt_tables : i < length numbers = omega (arith, c.requires.eight.count) in
     let enough : (n : ℕ) → n < 8 → HasEnough s r n (code_at c.args.frames.now n) = c.refill_where_short.ensures in
     let ahead : (n : ℕ) → n < 8 → 8 ≤ ahead_at r n = λ n h. omega (arith, (enough n h).ahead) in
     let used : (n : ℕ) → n < 8 → used_at r n ≤ 2 ^ 40 = λ n h.
     omega (arith, used_kept s r n (code_at c.args.frames.now n) (enough n h).same, (inv.lanes n h).used, c.requires.lanes.used n h) in
-    let table : ℕ → ChannelTables = table_at eight (get_or eight i one).from in
+    let table : ℕ → ChannelTables = table_at tables (get_or numbers i one).of in
     let step : (n : ℕ) → n < count → LaneSteps place (c.args.start && nat_lt (8 * byte + place) (table n).early) (table n) (state_in was n) (state_in row n)
     (decoding_at r n (code_at c.args.frames.now n)) (decoding_at t n (code_at c.args.frames.now n)) (get_or row.words n 0) = λ n h.
     let within : n < 8 = omega (arith, c.requires.count) in
@@ -76,7 +70,7 @@ loop-c-preserved c =
       rows = λ n f P reserved samples h channels built u.
           let within : n < 8 = omega (arith, c.requires.count) in
           let in_f : i < f.channels = omega arith in
-          let place_is : get_or (tables_at eight n) i no_tables ≡ table n = get_or-tables eight n i no_tables one lt_tables in
+          let place_is : get_or (tables_at tables numbers n) i no_tables ≡ table n = get_or-tables tables numbers n i no_tables one lt_tables in
           let own : IsBuilt (filter_of P i) (probs_of P i) (get_or P.half_prob i false) (table n) =
           subst (IsBuilt (filter_of P i) (probs_of P i) (get_or P.half_prob i false)) place_is (built i no_tables in_f) in
           subst (IsRow f P reserved (8 * byte + place) place samples (i + 1) (decoding_at t n (code_at c.args.frames.now n))) (sym (states-set rows n i row))

@@ -15,7 +15,7 @@ invariant-loop-c l = record {
   lanes : (n : ℕ) → n < 8 → IsLaneFurther l.initial.lanes l.lanes n (code_at l.frames n) (8 * l.c);
   words : AreWords l.rows l.count;
   rows : (n : ℕ) (f : Shape) (P : Params) (reserved : Bool) (samples : ℕ → List ℕ) → n < l.count →
-      f.channels ≡ length l.initial.rows → AreBuilt f P (tables_at l.eight n) →
+      f.channels ≡ length l.initial.rows → AreBuilt f P (tables_at l.tables l.numbers n) →
       IsUnderway f P reserved (8 * l.byte + l.place) l.place samples (decoding_at l.initial.lanes n (code_at l.frames n)) (states_at l.initial.rows n) →
       IsRow f P reserved (8 * l.byte + l.place) l.place samples l.c (decoding_at l.lanes n (code_at l.frames n)) (states_at l.rows n);
 }

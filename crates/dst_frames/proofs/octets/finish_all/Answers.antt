@@ -30,7 +30,7 @@ loop-n-preserved c =
     let h_here : (frame : DecodedFrame) → get_or heard i c.index-heard-n.result ≡ get_or sounds i frame = λ frame.
     inv.heard_left i c.index-heard-n.result (omega arith) ∙ get_or_default sounds i c.index-heard-n.result frame (omega (arith, c.requires.same)) in
     let F : ℕ → List ChannelState → List ChannelState → DecodedFrame → DecodedFrame → Type 0 = λ m before after x y.
-    FinishesSound c.args.byte (length old) (tables_at c.args.eight.now m) before after x.sound.items y.sound.items in
+    FinishesSound c.args.byte (length old) (tables_at c.args.tables.now c.args.numbers.now m) before after x.sound.items y.sound.items in
     let P : ℕ → Type 0 = λ m. (frame : DecodedFrame) → F m (states_at old m) (states_at new m) (get_or sounds m frame)
     (get_or (set heard i frame_new) m frame) in
     let below : (m : ℕ) → m < i → P m = λ m h frame.
@@ -38,7 +38,7 @@ loop-n-preserved c =
     subst₂ (λ a (b : DecodedFrame). F m (states_at old m) a (get_or sounds m frame) b) (sym (c.finish_heard.ensures.others m ne))
     (sym (get_or-set_other heard i m frame_new frame ne)) (inv.done m frame h) in
     let e : F i (states_at rows i) (states_at new i) (get_or heard i c.index-heard-n.result) frame_new =
-    subst (λ k. FinishesSound c.args.byte k (tables_at c.args.eight.now i) (states_at rows i) (states_at new i)
+    subst (λ k. FinishesSound c.args.byte k (tables_at c.args.tables.now c.args.numbers.now i) (states_at rows i) (states_at new i)
     (get_or heard i c.index-heard-n.result).sound.items frame_new.sound.items) channels c.finish_heard.ensures.finishes in
     let here : P i = λ frame.
     subst (λ (b : DecodedFrame). F i (states_at old i) (states_at new i) (get_or sounds i frame) b) (sym (get_or-set_same heard i frame_new frame lt))

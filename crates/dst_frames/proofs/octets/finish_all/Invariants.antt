@@ -8,7 +8,7 @@ use Rattle.dst_frames.proofs.octets.finish_all.Given as goal
 abbrev pub invariant-loop-n : goal.invariant-loop-n
 invariant-loop-n l = record {
   done : (m : ℕ) (frame : DecodedFrame) → m < l.n →
-      FinishesSound l.byte (length l.initial.rows) (tables_at l.eight m) (states_at l.initial.rows m) (states_at l.rows m)
+      FinishesSound l.byte (length l.initial.rows) (tables_at l.tables l.numbers m) (states_at l.initial.rows m) (states_at l.rows m)
       (get_or l.initial.heard m frame).sound.items (get_or l.heard m frame).sound.items;
   rows_left : (m : ℕ) → l.n ≤ m → states_at l.rows m ≡ states_at l.initial.rows m;
   heard_left : (m : ℕ) (frame : DecodedFrame) → l.n ≤ m → get_or l.heard m frame ≡ get_or l.initial.heard m frame;

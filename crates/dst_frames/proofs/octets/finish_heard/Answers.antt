@@ -11,5 +11,5 @@ returns-clause-finishes c =
     let heard = c.finish_sound.new.sound in
     let long : length heard ≡ sound.len = c.finish_sound.auto.sound ∙ c.as_mut_slice-sound.ensures.len in
     let f = rw c.as_mut_slice-sound.ensures.value at c.finish_sound.ensures.finishes in
-    subst (λ x. FinishesSound c.args.byte (length c.args.rows.now) (tables_at c.args.eight.now n) (states_at c.args.rows.now n)
+    subst (λ x. FinishesSound c.args.byte (length c.args.rows.now) (tables_at c.args.tables.now c.args.numbers.now n) (states_at c.args.rows.now n)
     (states_at c.finish_sound.new.rows n) sound.items x) (sym (with_items_is sound heard long)) f

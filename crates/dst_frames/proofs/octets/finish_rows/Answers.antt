@@ -4,11 +4,10 @@ use Rattle.std.proofs.lemmas.Bool.{eqb-true, eqb-false}
 use Rattle.std.proofs.lemmas.List.{get_or_default}
 use Rattle.dst_frames.specs.Ready.{IsReady}
 use Rattle.dst_frames.specs.Eight.{state_in, states_at, tables_at}
-use Rattle.dst_frames.specs.Running.{AreEight}
 use Rattle.dst_frames.specs.declared.state.ChannelState.{ChannelState}
 use Rattle.dst_frames.specs.declared.tables.ChannelTables.{ChannelTables}
 use Rattle.dst_frames.specs.declared.eight.EightStates.{EightStates}
-use Rattle.dst_frames.proofs.OneOfEight.{no_row, get_or-states, states_same, get_or-tables}
+use Rattle.dst_frames.proofs.OneOfEight.{no_row, no_numbers, get_or-states, states_same, get_or-tables}
 use Rattle.dst_frames.proofs.octets.finish_rows.Goals as goal
 
 -- what a row with the same words keeps
@@ -23,13 +22,9 @@ words_kept rows i j new was other lt same = go (nat_eq j i) refl
         rw (is, get_or-set_same rows i new other lt) (same ∙ ap (λ (x : EightStates). x.words) at)
     go false e = rw (get_or-set_other rows i j new other (eqb-false j i e)) refl
 
-pub table_of-tables-requires-clause-eight : goal.table_of-tables-requires-clause-eight
-table_of-tables-requires-clause-eight c = subst (AreEight c.args.eight.now) (sym c.requires.eight.count) c.requires.eight
-
-pub table_of-tables-requires-clause-from : goal.table_of-tables-requires-clause-from
-table_of-tables-requires-clause-from c =
-    let front = c.requires.eight.from c.args.n c.loop-c.c c.index-eight-c.result c.requires.frame (omega arith) in
-    omega (arith, front, c.requires.eight.count)
+pub table_of-own-requires-clause-from : goal.table_of-own-requires-clause-from
+table_of-own-requires-clause-from c =
+    c.requires.eight.inside c.args.n c.loop-c.c no_numbers c.requires.frame (omega arith)
 
 pub loop-c-preserved : goal.loop-c-preserved
 loop-c-preserved c =
@@ -39,7 +34,8 @@ loop-c-preserved c =
     let rows = c.loop-c.rows in
     let out = c.loop-c.out in
     let old = c.args.rows.now in
-    let eight = c.args.eight.now in
+    let tables = c.args.tables.now in
+    let numbers = c.args.numbers.now in
     let row = c.finish-newest.new.self in
     let x = c.finish-newest.result in
     let d = no_row in
@@ -47,11 +43,11 @@ loop-c-preserved c =
     let lt : i < length rows = omega arith in
     let lt_old : i < length old = omega arith in
     let lt_out : i < length out = omega arith in
-    let lt_eight : i < length eight = omega (arith, c.requires.eight.count) in
-    let one = c.index-eight-c.result in
-    let table = c.table_of-tables.result.now in
-    let table_is : (other : ChannelTables) → get_or (tables_at eight n) i other ≡ table = λ other.
-    get_or-tables eight n i other one lt_eight ∙ sym c.table_of-tables.ensures.is in
+    let lt_eight : i < length numbers = omega (arith, c.requires.eight.count) in
+    let one = no_numbers in
+    let table = c.table_of-own.result.now in
+    let table_is : (other : ChannelTables) → get_or (tables_at tables numbers n) i other ≡ table = λ other.
+    get_or-tables tables numbers n i other one lt_eight ∙ sym c.table_of-own.ensures.is in
     let before : (other : ChannelState) → get_or (states_at old n) i other ≡ state_in was n = λ other.
     get_or-states old n i other d lt_old ∙ ap (λ (q : EightStates). state_in q n) (sym (inv.left i d (omega arith))) in
     let after : (other : ChannelState) → get_or (states_at (set rows i row) n) i other ≡ state_in row n = λ other.
@@ -65,8 +61,8 @@ loop-c-preserved c =
     let N : ℕ → Type 0 = λ j. (other : ChannelState) (filter : List ℤ) (probs samples : List ℕ) (place : ℕ) →
     IsReady filter probs place samples (get_or (states_at old n) j other) → (k : ℕ) → k < 8 → get_or (set out i x) j 0 / 2 ^ k % 2 ≡ get_or samples k 0 in
     let A : ℕ → Type 0 = λ j. (other_table : ChannelTables) (other : ChannelState) (probs samples : List ℕ) →
-    IsReady (get_or (tables_at eight n) j other_table).filter probs 8 samples (get_or (states_at old n) j other) →
-    IsReady (get_or (tables_at eight n) j other_table).filter probs 0 samples (get_or (states_at (set rows i row) n) j other) in
+    IsReady (get_or (tables_at tables numbers n) j other_table).filter probs 8 samples (get_or (states_at old n) j other) →
+    IsReady (get_or (tables_at tables numbers n) j other_table).filter probs 0 samples (get_or (states_at (set rows i row) n) j other) in
     let n_below : (j : ℕ) → j < i → N j = λ j h other filter probs samples place a k l.
     let ne : j ≢ i = omega arith in
     ap (λ y. y / 2 ^ k % 2) (get_or-set_other out i j x 0 ne) ∙ inv.newest j other filter probs samples place h a k l in
@@ -74,7 +70,7 @@ loop-c-preserved c =
     ap (λ y. y / 2 ^ k % 2) (get_or-set_same out i x 0 lt_out)
     ∙ c.finish-newest.ensures.newest filter probs samples place (subst (IsReady filter probs place samples) (before other) a) k l in
     let a_below : (j : ℕ) → j < i → A j = λ j h other_table other probs samples a.
-    subst (IsReady (get_or (tables_at eight n) j other_table).filter probs 0 samples) (sym (apart j other h))
+    subst (IsReady (get_or (tables_at tables numbers n) j other_table).filter probs 0 samples) (sym (apart j other h))
     (inv.added j other_table other probs samples h a) in
     let a_here : A i = λ other_table other probs samples a.
     let start : IsReady table.filter probs 8 samples (state_in was n) =

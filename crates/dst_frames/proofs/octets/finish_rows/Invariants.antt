@@ -12,8 +12,8 @@ invariant-loop-c l = record {
       IsReady filter probs place samples (get_or (states_at l.initial.rows l.n) c other)
       → (k : ℕ) → k < 8 → get_or l.out c 0 / 2 ^ k % 2 ≡ get_or samples k 0;
   added : (c : ℕ) (table : ChannelTables) (other : ChannelState) (probs samples : List ℕ) → c < l.c
-      → IsReady (get_or (tables_at l.eight l.n) c table).filter probs 8 samples (get_or (states_at l.initial.rows l.n) c other) →
-      IsReady (get_or (tables_at l.eight l.n) c table).filter probs 0 samples (get_or (states_at l.rows l.n) c other);
+      → IsReady (get_or (tables_at l.tables l.numbers l.n) c table).filter probs 8 samples (get_or (states_at l.initial.rows l.n) c other) →
+      IsReady (get_or (tables_at l.tables l.numbers l.n) c table).filter probs 0 samples (get_or (states_at l.rows l.n) c other);
   left : (c : ℕ) (row : EightStates) → l.c ≤ c → get_or l.rows c row ≡ get_or l.initial.rows c row;
   others : (m : ℕ) → m ≢ l.n → states_at l.rows m ≡ states_at l.initial.rows m;
   words : (c : ℕ) (row : EightStates) → (get_or l.rows c row).words ≡ (get_or l.initial.rows c row).words;

@@ -16,7 +16,7 @@ loop-n-preserved c =
     let inv = c.loop-n.invariant in
     let words = c.loop-n.self.words in
     let x = c.word_at-next.result in
-    let table = table_at c.args.eight.now c.args.from.now in
+    let table = table_at c.args.tables.now c.args.from.now in
     let pushed = c.push.new.self in
     let place = c.args.place + 1 in
     let lt : i < length words = omega (arith, inv.many, c.requires.few) in
@@ -26,9 +26,9 @@ loop-n-preserved c =
     let ne : m ≢ i = omega arith in
     subst (TellsNext place (table m) (ahead_at pushed m)) (sym (get_or-set_other words i m x 0 ne)) (inv.tells m h) in
     let t_here : T i =
-    let e : TellsNext place c.table_of-tables.result.now (ahead_at c.loop-n.self.ahead i) x = c.word_at-next.ensures.entry in
+    let e : TellsNext place c.table_of-table.result.now (ahead_at c.loop-n.self.ahead i) x = c.word_at-next.ensures.entry in
     let f : TellsNext place (table i) (ahead_at c.loop-n.self.ahead i) x =
-    subst (λ (t : ChannelTables). TellsNext place t (ahead_at c.loop-n.self.ahead i) x) c.table_of-tables.ensures.is e in
+    subst (λ (t : ChannelTables). TellsNext place t (ahead_at c.loop-n.self.ahead i) x) c.table_of-table.ensures.is e in
     let g : TellsNext place (table i) (ahead_at pushed i) x = subst (λ (a : EightAhead). TellsNext place (table i) (ahead_at a i) x) inv.ahead f in
     subst (TellsNext place (table i) (ahead_at pushed i)) (sym (get_or-set_same words i x 0 lt)) g in
     let w_below : (m : ℕ) → m < i → W m = λ m h.
@@ -58,7 +58,7 @@ returns-clause-taken c = λ n h.
           own_or_other n place (IsAhead filter (place + 1) (bit ∷ samples) (ahead_at c.push.new.self n))
           (λ e.
           let here : c.table_of-own.result.now.filter ≡ filter = ap (λ (t : ChannelTables). t.filter)
-          (c.table_of-own.ensures.is ∙ ap (λ m. table_at c.args.eight.now c.args.from.now m) (sym e)) ∙ built.filter_is in
+          (c.table_of-own.ensures.is ∙ ap (λ m. table_at c.args.tables.now c.args.from.now m) (sym e)) ∙ built.filter_is in
           let before : IsAhead filter place samples (ahead_at c.args.self.now.ahead place) =
           subst (λ m. IsAhead filter place samples (ahead_at c.args.self.now.ahead m)) e ready.ahead in
           let after = c.push.ensures.own samples (subst (λ coefs. IsAhead coefs place samples (ahead_at c.args.self.now.ahead place)) (sym here) before) in

@@ -10,7 +10,7 @@ invariant-loop-n l = record {
   many : length l.self.words ≡ 8;
   ahead : l.self.ahead ≡ l.initial.self.ahead;
   tells : (m : ℕ) → m < l.n →
-      TellsNext (l.place + 1) (table_at l.eight l.from m) (ahead_at l.initial.self.ahead m) (get_or l.self.words m 0);
+      TellsNext (l.place + 1) (table_at l.tables l.from m) (ahead_at l.initial.self.ahead m) (get_or l.self.words m 0);
   word : (m : ℕ) → m < l.n → IsWordOf (entry_in (get_or l.self.words m 0)) (get_or l.self.words m 0);
   left : (m : ℕ) → l.n ≤ m → get_or l.self.words m 0 ≡ get_or l.initial.self.words m 0;
 }

@@ -1,10 +1,9 @@
-use Rattle.std.proofs.Common.{◌≡◌, ℕ, ◌<◌, length, get_or}
-use Rattle.byte_predictor.specs.Upward.{size_sum}
-use Rattle.dst_frames.specs.declared.tables.ChannelTables.{ChannelTables}
+use Rattle.std.proofs.Common.{◌≡◌, ◌<◌, ℕ, length, get_or}
+use Rattle.dst_frames.specs.declared.eight.TableNumbers.{TableNumbers}
 use Rattle.dst_frames.proofs.eight.EightTables.new.Given as goal
 
 abbrev pub invariant-loop : goal.invariant-loop
 invariant-loop l = record {
-  many : length l.tables.items ≡ l.counter;
-  narrow : (n : ℕ) (other : ChannelTables) → n < length l.tables.items → size_sum (get_or l.tables.items n other).filter < 32768;
+  many : length l.numbers.items ≡ l.counter;
+  first : (n c : ℕ) (other : TableNumbers) → n < 8 → c < length l.numbers.items → get_or (get_or l.numbers.items c other).of n 0 ≡ 0;
 }
