@@ -61,8 +61,8 @@ record TablesStay (old new : EightTables) : Type 0 where
   pub most : new.taken ≤ old.taken + 1
   pub inside : new.taken ≤ length new.tables.items
 
-has_tables : (P : Params) (old new : EightTables) (n c number : ℕ) (was one : TableNumbers) → HasTablesBefore P n c old → IsSet n number (get_or old.numbers.items c was) one →
-    new.numbers.items ≡ set old.numbers.items c one → TablesStay old new → number < new.taken →
+has_tables : (P : Params) (old new : EightTables) (n c number : ℕ) (was one : TableNumbers) → HasTablesBefore P n c old →
+    IsSet n number (get_or old.numbers.items c was) one → new.numbers.items ≡ set old.numbers.items c one → TablesStay old new → number < new.taken →
     IsFor P c (get_or new.tables.items number no_tables) → HasTables P n c old new
 unfolding table_at
 has_tables P old new n c number was one before is numbers stay inside own =
@@ -74,7 +74,7 @@ has_tables P old new n c number was one before is numbers stay inside own =
     record {
       built = λ d other h. rw numbers (number_set all n c number n d was one other (λ k. IsFor P d (get_or new.tables.items k no_tables)) before.channel is
           (λ _ e. subst (λ k. IsFor P k (get_or new.tables.items number no_tables)) (sym e) own)
-          (λ ne x. first P old new n c d ne h x taken stay before));
+          (λ ne x. first P old new n c d ne h x stay before));
       tables = λ m h.
           let ne : m ≢ n = omega arith in
           let number_same : get_or one.of m 0 ≡ get_or (get_or all c was).of m 0 = is.others m ne in
@@ -107,11 +107,11 @@ has_tables P old new n c number was one before is numbers stay inside own =
     before_it n c d (inl ne) h = absurd (ne refl)
     before_it n c d (inr ne) h = omega arith
 
-    first : (P : Params) (old new : EightTables) (n c d : ℕ) → (n ≢ n) ⊎ (d ≢ c) → d < c + 1 → (x : TableNumbers) → AreTaken old n c → TablesStay old new →
+    first : (P : Params) (old new : EightTables) (n c d : ℕ) → (n ≢ n) ⊎ (d ≢ c) → d < c + 1 → (x : TableNumbers) → TablesStay old new →
         HasTablesBefore P n c old → IsFor P d (get_or new.tables.items (get_or (get_or old.numbers.items d x).of n 0) no_tables)
-    first P old new n c d ne h x taken stay before =
+    first P old new n c d ne h x stay before =
         let lt = before_it n c d ne h in
-        subst (IsFor P d) (sym (stay.same (get_or (get_or old.numbers.items d x).of n 0) no_tables (taken.channel d x lt))) (before.built d x lt)
+        subst (IsFor P d) (sym (stay.same (get_or (get_or old.numbers.items d x).of n 0) no_tables (before.taken.channel d x lt))) (before.built d x lt)
 
 -- the table of a channel before it that has the same parameters
 pub shared : (P : Params) (old new : EightTables) (n c alike : ℕ) (was one other : TableNumbers) → HasTablesBefore P n c old →

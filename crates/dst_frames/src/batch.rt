@@ -381,7 +381,8 @@ fn decode_lanes(
     requires rows { length rows.old ≡ channels.channels }
     requires words { AreWords rows.old (length frames.now) }
     requires begun { (n : ℕ) (frame : StoredFrame) → n < length frames.now
-        → HasBegun channels lanes.old n (stored_in (get_or frames.now n frame)) (tables_at tables.now numbers.now n) (states_at rows.old n) (get_or reserved.now n 0) }
+        → HasBegun channels lanes.old n (stored_in (get_or frames.now n frame)) (tables_at tables.now numbers.now n) (states_at rows.old n)
+        (get_or reserved.now n 0) }
     requires empty { (n : ℕ) → length frames.now ≤ n → n < 8 → Begins lanes.old n [] 0 × IsWord 1 (get_or reserved.now n 0) }
     ensures decoded { (n : ℕ) (frame : StoredFrame) (other : DecodedFrame) → n < length frames.now
         → IsDecoded channels (stored_in (get_or frames.now n frame)) (get_or heard.new n other).sound.items (get_or heard.new n other).answer }

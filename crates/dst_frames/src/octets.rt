@@ -79,7 +79,8 @@ fn decode_place(
     requires words { AreWords rows.old count }
     ensures lanes { (n : ℕ) → n < 8 → IsLaneFurther lanes.old lanes.new n (code_at frames.now n) (8 * length rows.old) }
     ensures words { AreWords rows.new count }
-    ensures rows { (n : ℕ) (f : Shape) (P : Params) (reserved : Bool) → n < count → f.channels ≡ length rows.old → AreBuilt f P (tables_at tables.now numbers.now n)
+    ensures rows { (n : ℕ) (f : Shape) (P : Params) (reserved : Bool) → n < count → f.channels ≡ length rows.old
+        → AreBuilt f P (tables_at tables.now numbers.now n)
         → RowsDecoded f P reserved (8 * byte + place) place n (code_at frames.now n) lanes.old lanes.new (states_at rows.old n) (states_at rows.new n) }
 {
     samples_before();
@@ -140,7 +141,8 @@ fn finish_sound(
     requires channels { length rows.old ≤ 6 }
     requires byte { byte < 2 ^ 20 }
     requires inside { (byte + 1) * length rows.old ≤ length sound.old }
-    ensures finishes { FinishesSound byte (length rows.old) (tables_at tables.now numbers.now n) (states_at rows.old n) (states_at rows.new n) sound.old sound.new }
+    ensures finishes { FinishesSound byte (length rows.old) (tables_at tables.now numbers.now n) (states_at rows.old n) (states_at rows.new n)
+        sound.old sound.new }
     ensures others { (m : ℕ) → m ≢ n → states_at rows.new m ≡ states_at rows.old m }
     ensures words { (c : ℕ) (row : EightStates) → (get_or rows.new c row).words ≡ (get_or rows.old c row).words }
 {
@@ -169,8 +171,8 @@ fn finish_heard(
     requires channels { length rows.old ≤ 6 }
     requires byte { byte < 2 ^ 20 }
     requires inside { (byte + 1) * length rows.old ≤ length heard.old.sound.items }
-    ensures finishes { FinishesSound byte (length rows.old) (tables_at tables.now numbers.now n) (states_at rows.old n) (states_at rows.new n) heard.old.sound.items
-        heard.new.sound.items }
+    ensures finishes { FinishesSound byte (length rows.old) (tables_at tables.now numbers.now n) (states_at rows.old n) (states_at rows.new n)
+        heard.old.sound.items heard.new.sound.items }
     ensures others { (m : ℕ) → m ≢ n → states_at rows.new m ≡ states_at rows.old m }
     ensures words { (c : ℕ) (row : EightStates) → (get_or rows.new c row).words ≡ (get_or rows.old c row).words }
 {
@@ -195,8 +197,8 @@ fn finish_all(
     requires byte { byte < 2 ^ 20 }
     requires inside { (n : ℕ) (other : DecodedFrame) → n < length heard.old → (byte + 1) * length rows.old ≤ length (get_or heard.old n other).sound.items }
     ensures finishes { (n : ℕ) (frame : DecodedFrame) → n < count
-        → FinishesSound byte (length rows.old) (tables_at tables.now numbers.now n) (states_at rows.old n) (states_at rows.new n) (get_or heard.old n frame).sound.items
-        (get_or heard.new n frame).sound.items }
+        → FinishesSound byte (length rows.old) (tables_at tables.now numbers.now n) (states_at rows.old n) (states_at rows.new n)
+        (get_or heard.old n frame).sound.items (get_or heard.new n frame).sound.items }
     ensures words { (c : ℕ) (row : EightStates) → (get_or rows.new c row).words ≡ (get_or rows.old c row).words }
 {
     for n in 0..count {
@@ -234,8 +236,8 @@ fn decode_octet(
     ensures long { (n : ℕ) (other : DecodedFrame) → n < length heard.old
         → length (get_or heard.new n other).sound.items ≡ length (get_or heard.old n other).sound.items }
     ensures sound { (n : ℕ) (frame : DecodedFrame) → n < count
-        → LaneDecoded n byte (byte + 1) (code_at frames.now n) lanes.old lanes.new (tables_at tables.now numbers.now n) (states_at rows.old n) (states_at rows.new n)
-        (get_or heard.old n frame).sound.items (get_or heard.new n frame).sound.items }
+        → LaneDecoded n byte (byte + 1) (code_at frames.now n) lanes.old lanes.new (tables_at tables.now numbers.now n)
+        (states_at rows.old n) (states_at rows.new n) (get_or heard.old n frame).sound.items (get_or heard.new n frame).sound.items }
 {
     for place in 0..8 {
         decode_place(
@@ -274,8 +276,8 @@ pub(crate) fn decode_octets(
     ensures long { (n : ℕ) (other : DecodedFrame) → n < length heard.old
         → length (get_or heard.new n other).sound.items ≡ length (get_or heard.old n other).sound.items }
     ensures sound { (n : ℕ) (frame : DecodedFrame) → n < count
-        → LaneDecoded n 0 octets (code_at frames.now n) lanes.old lanes.new (tables_at tables.now numbers.now n) (states_at rows.old n) (states_at rows.new n)
-        (get_or heard.old n frame).sound.items (get_or heard.new n frame).sound.items }
+        → LaneDecoded n 0 octets (code_at frames.now n) lanes.old lanes.new (tables_at tables.now numbers.now n)
+        (states_at rows.old n) (states_at rows.new n) (get_or heard.old n frame).sound.items (get_or heard.new n frame).sound.items }
 {
     for byte in 0..16 {
         decode_octet(

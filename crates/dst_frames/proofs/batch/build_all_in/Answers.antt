@@ -41,7 +41,8 @@ loop-c-preserved c =
     let e = c.begin.ensures in
     let new = c.share_or_build.new.eight in
     let own_is : c.table_of-own.result.now ≡ table_at new.tables.items (get_or new.numbers.items i no_numbers).of n = c.table_of-own.ensures.is
-    ∙ ap₂ (λ tables (numbers : List TableNumbers). table_at tables (get_or numbers i no_numbers).of n) c.as_slice.ensures.value c.as_slice-numbers.ensures.value in
+    ∙ ap₂ (λ tables (numbers : List TableNumbers). table_at tables (get_or numbers i no_numbers).of n) c.as_slice.ensures.value
+    c.as_slice-numbers.ensures.value in
     let built = subst (IsFor P i) (sym own_is) (shared.built i no_numbers (omega arith)) in
     let fresh = e.fresh (filter_of P i) (probs_of P i) (get_or P.half_prob i false) built in
     let lt : i < length rows = omega arith in

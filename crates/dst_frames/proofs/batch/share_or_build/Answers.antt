@@ -33,7 +33,8 @@ sharing c =
     let one = c.set.new.self in
     let new : EightTables = record { tables = old.tables; numbers = with_items old.numbers (set all i one); taken = old.taken } in
     let before : HasTablesBefore c.args.params.now n i old = record { channel = r.channel; pool = r.eight; taken = r.taken; built = r.before } in
-    let is : IsSet n (get_or (get_or all alike no_numbers).of n 0) (get_or all i no_numbers) one = record { own = c.set.ensures.own; others = c.set.ensures.others } in
+    let is : IsSet n (get_or (get_or all alike no_numbers).of n 0) (get_or all i no_numbers) one =
+    record { own = c.set.ensures.own; others = c.set.ensures.others } in
     let long : length (set all i one) ≡ old.numbers.len = simp length-set c.as_mut_slice-numbers.ensures.len in
     shared c.args.params.now old new n i alike no_numbers one no_numbers before
     (subst (λ xs. IsSet n (get_or (get_or xs alike no_numbers).of n 0) (get_or xs i no_numbers) one) value is)

@@ -65,7 +65,8 @@ returns c = λ samples long.
       | inr le ↦
           let own = inv.first 32767 (omega (arith, below, le)) in
           let same : 32767 ≡ min u 32767 = omega arith in
-          let far = far_above probs (get_or entries 32767 0) 65534 (2 * u) size (omega (arith, few, most)) (omega (arith, s.most)) (omega (arith, s.most)) own in
+          let far = far_above probs (get_or entries 32767 0) 65534 (2 * u) size (omega (arith, few, most)) (omega (arith, s.most))
+          (omega (arith, s.most)) own in
           subst (λ k. IsEntry (pos (2 * u) -ℤ pos size) probs (get_or entries k 0)) same far
     ] in
     subst (λ z. IsEntry z probs (entry_for entries u)) (sym (s.signed samples long)) (at (cases_lt u 32768))

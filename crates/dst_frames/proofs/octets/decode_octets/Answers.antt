@@ -16,8 +16,9 @@ loop-byte-preserved c =
           (d.ensures.lanes n h) (omega arith);
       words = d.ensures.words;
       long = λ n frame h. d.ensures.long n frame (omega arith) ∙ inv.long n frame h;
-      sound = λ n frame h. lane_decoded_on n m (code_at c.args.frames.now n) old c.loop-byte.lanes d.new.lanes (tables_at c.args.tables.now c.args.numbers.now n)
-          (states_at c.args.rows.now n) (states_at c.loop-byte.rows n) (states_at d.new.rows n) (get_or c.args.heard.now n frame).sound.items
+      sound = λ n frame h. lane_decoded_on n m (code_at c.args.frames.now n) old c.loop-byte.lanes d.new.lanes
+          (tables_at c.args.tables.now c.args.numbers.now n) (states_at c.args.rows.now n) (states_at c.loop-byte.rows n) (states_at d.new.rows n)
+          (get_or c.args.heard.now n frame).sound.items
           (get_or c.loop-byte.heard n frame).sound.items (get_or d.new.heard n frame).sound.items (inv.sound n frame h) (d.ensures.sound n frame h);
     }
 
@@ -32,8 +33,9 @@ loop-byte-2-preserved c =
           (d.ensures.lanes n h) (omega arith);
       words = d.ensures.words;
       long = λ n frame h. d.ensures.long n frame (omega arith) ∙ inv.long n frame h;
-      sound = λ n frame h. lane_decoded_on n m (code_at c.args.frames.now n) old c.loop-byte-2.lanes d.new.lanes (tables_at c.args.tables.now c.args.numbers.now n)
-          (states_at c.args.rows.now n) (states_at c.loop-byte-2.rows n) (states_at d.new.rows n) (get_or c.args.heard.now n frame).sound.items
+      sound = λ n frame h. lane_decoded_on n m (code_at c.args.frames.now n) old c.loop-byte-2.lanes d.new.lanes
+          (tables_at c.args.tables.now c.args.numbers.now n) (states_at c.args.rows.now n) (states_at c.loop-byte-2.rows n) (states_at d.new.rows n)
+          (get_or c.args.heard.now n frame).sound.items
           (get_or c.loop-byte-2.heard n frame).sound.items (get_or d.new.heard n frame).sound.items (inv.sound n frame h) (d.ensures.sound n frame h);
     }
 

@@ -19,7 +19,8 @@ returns-clause-entry c = λ filter probs samples half_prob built ahead.
     let up : c.upward-upward.result ≡ upward_sum filter samples = rw built.filter_is at (c.upward-upward.ensures samples before) in
     let narrow : size_sum filter < 32768 = rw built.filter_is at c.requires.narrow in
     let inside = c.narrow_entry.ensures (omega (arith, up, upward_sum-size filter samples, narrow)) in
-    let whole : c.narrow_entry.result ≡ entry_in c.word.result = sym (word_of_entry c.narrow_entry.result c.word.result c.word.ensures.prob c.word.ensures.mark) in
+    let whole : c.narrow_entry.result ≡ entry_in c.word.result =
+    sym (word_of_entry c.narrow_entry.result c.word.result c.word.ensures.prob c.word.ensures.mark) in
     subst (IsEntry (signed_sum filter samples) probs) (ap (entry_for tables.entries) (sym up) ∙ sym inside ∙ whole) (built.entries samples ahead.long)
 
 pub returns-clause-word : goal.returns-clause-word
