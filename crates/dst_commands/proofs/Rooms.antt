@@ -11,7 +11,8 @@ pub record HasRoom (longest : Shape → ℕ) (size frame sound : ℕ) (f g : Sha
   pub frame_long : frame ≡ longest g
   pub sound_long : sound ≡ sound_bytes g
 
-same_shape : (f g : Shape) → f.channels < 8 → g.channels < 8 → shape_number f ≡ shape_number g → f ≡ g
+-- one number, one shape
+pub same_shape : (f g : Shape) → f.channels < 8 → g.channels < 8 → shape_number f ≡ shape_number g → f ≡ g
 same_shape f g p q e = ap₂ {A = ℕ} {B = ℕ} {C = Shape} (λ c o. record { channels = c; octets = o }) (omega (arith, p, q, e)) (omega (arith, p, q, e))
 
 pub room_for : (longest : Shape → ℕ) (size frame sound : ℕ) (f g : Shape) → g.channels < 8 → room_number longest size frame sound f ≡ shape_number g →

@@ -1,6 +1,6 @@
 -- What the numbers of jobs and of their feed say, where they are the same.
 use Rattle.std.proofs.Common.{◌≡◌, ℕ, zero, suc, ◌+◌, ◌*◌, ◌^◌, ◌<◌, ◌≤◌, Bool, true, false, List, [], ◌∷◌, length, get_or, Option, Some, None, refl, sym, ap}
-use Rattle.std.proofs.Common.{ap₂, max, vec_capacity, ◌∙◌, arith}
+use Rattle.std.proofs.Common.{max, vec_capacity, ◌∙◌, arith}
 use Rattle.std.specs.Prelude.{◌&&◌, not, if◌then◌else◌}
 use Rattle.std.specs.List.{list_all}
 use Rattle.std.proofs.lemmas.Bool.{and_parts, and_from, eqb-true, eq-eqb, le-ltb, lt-ltb, ltb-true, ltb-false, not-true}
@@ -8,6 +8,7 @@ use Rattle.dst_spec.specs.Sample.{Shape, sound_bytes}
 use Rattle.dsdiff_spec.specs.Bytes.{◌below◌, ◌above◌}
 use Rattle.dsdiff_spec.specs.Walk.{Entry, entry}
 use Rattle.dst_commands.specs.Rooms.{shape_number}
+use Rattle.dst_commands.proofs.Rooms.{same_shape}
 use Rattle.dst_read.specs.Jobs.{longest, has_room, room_number, shape_of_job}
 use Rattle.dst_read.specs.Feeding.{lies_in, feed_shape}
 use Rattle.dst_read.specs.declared.feed.StoredFrames.{StoredFrames}
@@ -20,9 +21,6 @@ pub record HasRoom (size long room sound : ℕ) (f g : Shape) : Type 0 where
   pub most : long ≤ longest g
   pub enough : longest g ≤ room
   pub sound_long : sound ≡ sound_bytes g
-
-same_shape : (f g : Shape) → f.channels < 8 → g.channels < 8 → shape_number f ≡ shape_number g → f ≡ g
-same_shape f g p q e = ap₂ {A = ℕ} {B = ℕ} {C = Shape} (λ c o. record { channels = c; octets = o }) (omega (arith, p, q, e)) (omega (arith, p, q, e))
 
 pub room_for : (size long room sound : ℕ) (f g : Shape) → g.channels < 8 → room_number size long room sound f ≡ shape_number g →
     HasRoom size long room sound f g
