@@ -11,8 +11,6 @@
 
 mod channel;
 mod reserved;
-mod within;
 
 pub use channel::{alike_channel, channel_filter, channel_half_prob, channel_probs};
 pub use reserved::reserved_probability;
-pub use within::prob_within;

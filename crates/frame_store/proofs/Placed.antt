@@ -13,9 +13,10 @@ use Rattle.dst_spec.specs.Guess.{filter_of, probs_of, probability, as_guessed}
 use Rattle.dst_spec.specs.Symbols.{reserved_probability, symbols_at, symbols_before, symbols}
 use Rattle.dst_spec.proofs.Lists.{place-below}
 use Rattle.dst_spec.proofs.SymbolsBefore.{no_symbols, all_symbols, symbols_before-more}
-use Rattle.channel_params.specs.Probs.{prob_in}
-use Rattle.channel_params.proofs.Probs.{prob_again, prob_in_range}
+use Rattle.channel_params.proofs.Probs.{prob_in_range}
 use Rattle.frame_store.specs.Pairs.{pair_of, symbol_byte, all_pairs}
+use Rattle.frame_store.specs.Probs.{prob_in}
+use Rattle.frame_store.proofs.Probs.{prob_again}
 
 -- places of one channel and of another sample, or of one sample and another channel, are different
 pub place-other_sample : (u t c d channels : ℕ) → c < channels → d < channels → u ≢ t → u * channels + c ≢ t * channels + d

@@ -2,7 +2,7 @@
 use Rattle.std.specs.Prelude.{ℕ, ◌+◌, ◌-◌, ◌%◌, nat_lt, not, Bool, false, min, if◌then◌else◌, List, ◌∷◌, map, length, get_or}
 use Rattle.dst_spec.specs.Header.{Params}
 use Rattle.dst_spec.specs.Symbols.{reserved_probability}
-use Rattle.channel_params.specs.Probs.{prob_in}
+use Rattle.frame_store.specs.Probs.{prob_in}
 
 -- a symbol in the highest bit, and its probability in the low seven bits, where 128 is 0
 abbrev pub pair_of : ℕ → Bool × ℕ

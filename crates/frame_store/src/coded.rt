@@ -7,10 +7,9 @@ ghost use Rattle.dst_spec.specs.Symbols.{reserved_probability as reserved_from};
 ghost use Rattle.arith_encoder.specs.Lanes.{IsStep};
 ghost use Rattle.frame_store.specs.Coded.{AreCodeSteps, IsCoded, AreCoded, Stay};
 
+use crate::within::prob_within;
 use arith_encoder::step_of;
-use channel_params::{
-    channel_filter, channel_half_prob, channel_probs, prob_within, reserved_probability,
-};
+use channel_params::{channel_filter, channel_half_prob, channel_probs, reserved_probability};
 use dst_num::Params;
 use frame_predictions::Predictions;
 

@@ -22,6 +22,7 @@ mod picker;
 mod scratch;
 mod spell;
 mod store;
+mod within;
 
 pub use picker::{Candidates, OnePick, Picker};
 pub use scratch::StoreScratch;

@@ -3,14 +3,15 @@ ghost use Rattle.std.specs.Prelude.{◌≡◌, ℕ, ◌+◌, ◌*◌, ◌/◌, �
 ghost use Rattle.dst_spec.specs.Sample.{IsShape, sound_bytes};
 ghost use Rattle.dst_spec.specs.Header.{IsParams, Params as Parameters};
 ghost use Rattle.dst_spec.specs.Spell.{code_spelling, header_spelling, spell};
-ghost use Rattle.channel_params.specs.Probs.{prob_in};
 ghost use Rattle.frame_store.specs.Pairs.{pair_of, all_pairs};
+ghost use Rattle.frame_store.specs.Probs.{prob_in};
 
 use crate::coded::{ChannelSteps, code_group};
 use crate::lanes::code_lengths;
 use crate::lay_out::lay_out;
+use crate::within::prob_within;
 use arith_encoder::CodeLength;
-use channel_params::{prob_within, reserved_probability};
+use channel_params::reserved_probability;
 use dst_num::{Params, Prob};
 use frame_header::header_length;
 use frame_predictions::Predictions;

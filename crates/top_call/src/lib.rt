@@ -5,7 +5,8 @@
 //! assert!(rt; differs.is_none(), "{differs:?}");
 //! ```
 //!
-//! The tests of the commands that read stand here, those of the commands that write in `top_call_writing`.
+//! The tests of the commands that read stand here, those of the commands that write in `top_call_writing`, and those of devices that
+//! fail and of several workers in `top_call_devices`.
 #![tactic(auto)]
 
 use dst_streams::{MemorySink, MemorySource, Sink, Source};

@@ -1,17 +1,14 @@
-// What the commands that read give and refuse, and leave where a device fails, over files that are known byte for byte.
+// What the commands that read give and refuse, over files that are known byte for byte.
 use crate::{difference, split};
 use std::alloc::{AllocError, Global};
 use std::process::Abort;
 use std::thread::Threads;
 
-mod devices;
-mod gates;
 mod lines;
 mod ranges;
 mod reading;
 mod refused;
 mod sounds;
-mod workers;
 
 fn decode_words(alloc: Global) -> Result<Vec<String>, AllocError> {
     split(alloc, "decode in.dff out.dff")

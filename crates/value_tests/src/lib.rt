@@ -1,9 +1,11 @@
-//! Tests of what a frame is made of: reasons of refusals, bits, values, tables, headers and predictions. They stand here so that the
-//! gate doesn't prove those crates again for them.
+//! Tests of what a frame is made of: reasons of refusals, bits, values, tables, headers, channels and predictions. They stand here so
+//! that the gate doesn't prove those crates again for them.
 #![tactic(auto)]
 
 #[cfg(test)]
 mod bits;
+#[cfg(test)]
+mod channels;
 #[cfg(test)]
 mod headers;
 #[cfg(test)]

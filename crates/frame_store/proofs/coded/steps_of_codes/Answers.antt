@@ -2,7 +2,8 @@ use Rattle.std.proofs.Common.{◌≡◌, ◌≢◌, ◌-◌, ◌%◌, ◌≤◌,
 use Rattle.std.proofs.Common.{below_more, get_or-set_same, get_or-set_other, length-set}
 use Rattle.std.proofs.lemmas.List.{length-map}
 use Rattle.arith_encoder.specs.Lanes.{IsStep}
-use Rattle.channel_params.proofs.Probs.{prob_again, prob_in_range}
+use Rattle.channel_params.proofs.Probs.{prob_in_range}
+use Rattle.frame_store.proofs.Probs.{prob_again}
 use Rattle.frame_store.proofs.coded.steps_of_codes.Goals as goal
 
 pub loop-code-preserved : goal.loop-code-preserved

@@ -1,5 +1,4 @@
 // As many frames are worked at once as there are workers, and no more.
-use crate::split;
 use dst_streams::{HonestSource, MemorySink};
 use dst_tool::dst_run_by;
 use example_files::{coded, counting, frame};
@@ -8,6 +7,7 @@ use std::alloc::{AllocError, Global};
 use std::sync::atomic::{AtomicBool, AtomicU64, Ordering};
 use std::test::Fail;
 use std::thread::Threads;
+use top_call::split;
 
 // Holds each worker until as many have come as there are workers.
 #[derive(Drop)]

@@ -1,10 +1,10 @@
 // Devices that fail: the statuses and the lines.
 use super::decode_words;
-use crate::{run_words, split};
 use dst_streams::{HonestSource, MemorySink, MemorySource, ShortFlowSink};
 use example_files::{odd_plain, two_frames, with_bytes};
 use std::alloc::{AllocError, Global};
 use std::test::Fail;
+use top_call::{run_words, split};
 
 #[test]
 fn a_read_that_fails_leaves_the_front_of_the_output(rt: HostRuntime) -> Result<(), Fail> {

@@ -1,11 +1,11 @@
 // Several workers give what one gives.
-use crate::{run_words, split};
 use dst_streams::{HonestSource, MemorySink, MemorySource};
 use example_files::{coded, counting, frame, odd_plain, two_frames};
 use std::alloc::{AllocError, Global};
 use std::test::Fail;
 use std::thread;
 use std::thread::Threads;
+use top_call::{run_words, split};
 
 // A file of forty frames of bytes counting, of which frames 5 and 9 are empty.
 fn two_empty_of_forty(alloc: Global) -> Result<Vec<u8>, AllocError> {
