@@ -31,8 +31,8 @@ pub fn run_batch<R: Threads + Sync, W: FrameWork, G: Gate>(
 
 /// Starts a thread that does nothing, and waits for its end.
 ///
-/// As long as a process is young, Linux puts the first of some new threads on the processor of the thread that starts them.
-/// A worker would share that processor with the caller's run, while another one is idle.
+/// Linux often puts the first of several new threads on the processor of the thread that starts them. A worker would share that
+/// processor with the caller's run, while another one is idle.
 pub(crate) fn start_thread_without_work<R: Threads + Sync>(rt: &R) {
     let mut there = || {};
     let mut here = || {};

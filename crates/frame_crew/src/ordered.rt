@@ -10,9 +10,6 @@ use crate::feed::{Stop, fill_batch};
 use crate::{Drain, Feed, FrameWork, Gate, run_batch};
 use std::thread::Threads;
 
-// In so many batches at the beginning of a run, a thread without work is started before the workers'.
-const YOUNG: usize = 16;
-
 /// Who answered the fault that ended a run.
 #[derive(Debug, Drop)]
 pub enum RunFault<F, D> {
@@ -86,7 +83,7 @@ pub fn run_ordered<R: Threads + Sync, W: FrameWork, F: Feed<W::Job>, D: Drain<W:
     let mut drained = 0u32;
     loop {
         let (filled, stop) = fill_batch(feed, jobs);
-        if filled > 1 && scratches.len() > 1 && drained as usize / jobs.len() < YOUNG {
+        if filled > 1 && scratches.len() > 1 {
             start_thread_without_work(rt);
         }
         match work_and_drain(rt, work, drain, gate, scratches, &mut jobs[..filled]) {
