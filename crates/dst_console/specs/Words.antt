@@ -2,8 +2,8 @@
 use Rattle.std.specs.Prelude.{ℕ, if◌then◌else◌, List, [], ◌∷◌, get_or, Option, Some, None}
 use Rattle.dsdiff_spec.specs.Bytes.{◌is◌}
 use Rattle.dsdiff_spec.specs.Words.{Word}
-use Rattle.dst_cli.specs.declared.asking.Asked.{Asked}
-use Rattle.dst_cli.specs.declared.asking.Asked.TheVariants.{Help, Version, HelpOf}
+use Rattle.dst_console.specs.declared.asking.Asked.{Asked}
+use Rattle.dst_console.specs.declared.asking.Asked.TheVariants.{Help, Version, HelpOf}
 
 -- one word that asks for help or the version, or one behind a name that asks for its help
 abbrev pub asked_of : List Word → Option Asked

@@ -8,7 +8,7 @@ ghost use Rattle.words_spec.specs.Rows.{command_of};
 ghost use Rattle.dst_tool.specs.Runs.{DidNotRise, EndsAs};
 ghost use Rattle.pipe_tool.specs.Runs as pipes;
 ghost use Rattle.pipe_tool.specs.Words.{is_pipe};
-ghost use Rattle.dst_cli.specs.Words.{word_of};
+ghost use Rattle.dst_console.specs.Words.{word_of};
 
 use crate::asking::word_at;
 use dst_streams::{Flow, Sink, Source};
@@ -18,7 +18,7 @@ use std::alloc::Global;
 use std::thread::Threads;
 
 /// What names stand for: a program's files, or others in their place.
-pub(crate) trait Devices<'n> {
+pub trait Devices<'n> {
     type Source: Source + Drop;
 
     type Sink: Sink + Drop;
@@ -34,14 +34,17 @@ pub(crate) trait Devices<'n> {
     /// The bytes that are left of the flow, where it tells any.
     ghost flows: { Self → Option (List ℕ) };
 
+    /// The source of this name.
     fn source(&self, name: &'n str) -> Self::Source
         ensures bytes { Self.Source.bytes result ≡ reads self.now name.now }
         ensures faults { Self.Source.faults result ≡ 0 };
 
+    /// The sink of this name.
     fn sink(&self, name: &'n str) -> Self::Sink
         ensures written { Self.Sink.written result ≡ holds self.now name.now }
         ensures faults { Self.Sink.faults result ≡ 0 };
 
+    /// What a stream comes from.
     fn flow(&self) -> Self::Flow
         ensures left { Self.Flow.left result ≡ flows self.now }
         ensures faults { Self.Flow.faults result ≡ 0 };
@@ -49,14 +52,15 @@ pub(crate) trait Devices<'n> {
 
 /// How a run ended, and its devices.
 #[derive(Drop)]
-pub(crate) struct Ran<I: Drop, O: Drop> {
-    pub(crate) status: u8,
-    pub(crate) input: I,
-    pub(crate) output: O,
+pub struct Ran<I: Drop, O: Drop> {
+    /// As the program ends with it.
+    pub status: u8,
+    pub input: I,
+    pub output: O,
 }
 
 /// Runs a command: word 1 behind its name is the source's name, word 2 the sink's.
-pub(crate) fn run_named<'n, E: Threads + Sync, D: Devices<'n>, R: Sink>(
+pub fn run_named<'n, E: Threads + Sync, D: Devices<'n>, R: Sink>(
     rt: &E,
     alloc: Global,
     words: &'n [String],
@@ -90,7 +94,7 @@ pub(crate) fn run_named<'n, E: Threads + Sync, D: Devices<'n>, R: Sink>(
 }
 
 /// Decodes a stream: word 1 behind `pipe` is the sink's name.
-pub(crate) fn run_pipe<'n, D: Devices<'n>, R: Sink>(
+pub fn run_pipe<'n, D: Devices<'n>, R: Sink>(
     alloc: Global,
     words: &'n [String],
     devices: &D,
@@ -106,6 +110,7 @@ pub(crate) fn run_pipe<'n, D: Devices<'n>, R: Sink>(
     ensures read { result.status ≡ 2 → Rose 0 (D.Flow.faults result.input) }
     ensures write { result.status ≡ 3 → Rose 0 (D.Sink.faults result.output) }
     ensures reported { result.status ≡ 7 → Rose (R.faults report.old) (R.faults report.new) }
+    ensures most { result.status ≤ 7 }
 {
     let mut input = devices.flow();
     let mut output = devices.sink(word_at(words, 1));

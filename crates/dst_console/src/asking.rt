@@ -1,19 +1,21 @@
 // Words that ask the program itself.
 ghost use Rattle.std.specs.Prelude.{◌≡◌, map};
 ghost use Rattle.std.specs.String.{string_bytes};
-ghost use Rattle.dst_cli.specs.Words.{asked_of, word_of};
+ghost use Rattle.dst_console.specs.Words.{asked_of, word_of};
 
 /// What is asked of the program itself.
 #[derive(Clone, Copy, Debug, PartialEq, Eq)]
-pub(crate) enum Asked {
+pub enum Asked {
+    /// The help of all commands.
     Help,
+    /// The program's name and version.
     Version,
     /// The help of the command that the first word names.
     HelpOf,
 }
 
 /// What the words ask of the program itself, if they do.
-pub(crate) fn what_is_asked(words: &[String]) -> Option<Asked>
+pub fn what_is_asked(words: &[String]) -> Option<Asked>
     ensures { result ≡ asked_of (map string_bytes words.now) }
 {
     match words {
