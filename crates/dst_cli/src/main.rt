@@ -12,6 +12,7 @@
 #![tactic(auto)]
 
 use dst_console::run_words;
+use dst_streams::TextSink;
 use std::env;
 use std::io::{ErrorKind, IsTerminal};
 use std::process::ExitCode;
@@ -24,7 +25,8 @@ fn main(rt: HostRuntime) -> ExitCode {
     match words_of_program(&rt) {
         Ok(words) => {
             let is_watched = rt.stderr().is_terminal();
-            ExitCode::from(run_words(&rt, &words, is_watched))
+            let mut report = TextSink::new(&rt);
+            ExitCode::from(run_words(&rt, &words, is_watched, &mut report))
         }
         Err(status) => ExitCode::from(status),
     }

@@ -1,9 +1,11 @@
 // The words of the program, with the machine's files.
-ghost use Rattle.std.specs.Prelude.{◌≡◌, ◌≢◌, ◌⊎◌, ◌≤◌, false, map, Some, None};
+ghost use Rattle.std.specs.Prelude.{◌≡◌, ◌≢◌, ◌⊎◌, ◌≤◌, true, false, map, Some, None};
 ghost use Rattle.std.specs.String.{string_bytes};
 ghost use Rattle.words_spec.specs.Rows.{command_of};
 ghost use Rattle.pipe_tool.specs.Words.{is_pipe};
-ghost use Rattle.dst_console.specs.Words.{asked_of};
+ghost use Rattle.dsdiff_spec.specs.Bytes.{◌is◌};
+ghost use Rattle.dst_streams.specs.Causes.{Rose};
+ghost use Rattle.dst_console.specs.Words.{asked_of, word_of};
 ghost use Rattle.dst_console.specs.declared.asking.Asked.TheVariants.{Help, Version};
 
 use crate::asking::{Asked, what_is_asked, word_at};
@@ -11,18 +13,19 @@ use crate::files::MachineFiles;
 use crate::help;
 use crate::reasons::{Behind, command_of, explain};
 use crate::running::{run_named, run_pipe};
-use dst_streams::{Sink, TextSink};
+use dst_streams::Sink;
 use std::rt::Runtime;
 use std::thread::Threads;
 
 const REPORT: u8 = 7;
 
-/// Does what the words ask for, with the files that they name, and answers the status. On a terminal that is watched it tells how far a
+/// Does what the words ask for, with the files that they name, reports to the sink, and answers the status. On a terminal that is watched it tells how far a
 /// longer run is.
-pub fn run_words<R: Runtime + AllocGlobal + Threads + Sync>(
+pub fn run_words<R: Runtime + AllocGlobal + Threads + Sync, K: Sink>(
     rt: &R,
     words: &[String],
     is_watched: bool,
+    report: &mut K,
 ) -> u8
     // Words that are understood nowhere are told so, or the report fails.
     ensures words { asked_of (map string_bytes words.now) ≡ None → command_of (map string_bytes words.now) ≡ None → is_pipe (map string_bytes words.now) ≡ false →
@@ -30,9 +33,10 @@ pub fn run_words<R: Runtime + AllocGlobal + Threads + Sync>(
     // So do words that ask for help or the version, which are answered.
     ensures asked { (asked_of (map string_bytes words.now) ≡ Some Help) ⊎ (asked_of (map string_bytes words.now) ≡ Some Version) →
         (result ≡ 0) ⊎ (result ≡ 7) }
+    ensures only_words { result ≡ 1 → (command_of (map string_bytes words.now) ≡ None) ⊎ (word_of (map string_bytes words.now) 0 is "pipe" ≡ true) }
+    ensures reported { result ≡ 7 → Rose (K.faults report.old) (K.faults report.new) }
     ensures most { result ≤ 7 }
 {
-    let mut report = TextSink::new(rt);
     if let Some(text) = own_text(words) {
         return match report.append(text.as_bytes()) {
             Ok(()) => 0,
@@ -41,9 +45,9 @@ pub fn run_words<R: Runtime + AllocGlobal + Threads + Sync>(
     }
     let files = MachineFiles { rt, is_watched };
     if word_at(words, 0) == "pipe" {
-        return status_of_pipe(rt, words, &files, &mut report);
+        return status_of_pipe(rt, words, &files, report);
     }
-    let ran = run_named(rt, rt.alloc(), words, &files, &mut report);
+    let ran = run_named(rt, rt.alloc(), words, &files, report);
     ran.input.wipe();
     let behind = Behind {
         input: word_at(words, 1),
@@ -65,6 +69,7 @@ fn status_of_pipe<'r, R: Runtime + AllocGlobal, K: Sink>(
 ) -> u8
     ensures words { is_pipe (map string_bytes words.now) ≡ false → (result ≡ 1) ⊎ (result ≡ 7) }
     ensures only_words { result ≡ 1 → is_pipe (map string_bytes words.now) ≡ false }
+    ensures reported { result ≡ 7 → Rose (K.faults report.old) (K.faults report.new) }
     ensures most { result ≤ 7 }
 {
     let ran = run_pipe(rt.alloc(), words, files, report);

@@ -2,7 +2,7 @@
 //!
 //! ```text
 //! let is_watched = rt.stderr().is_terminal();
-//! let status = run_words(&rt, &words, is_watched);
+//! let status = run_words(&rt, &words, is_watched, &mut TextSink::new(&rt));
 //! ```
 //!
 //! [`run_words`] gives words 1 and 2 behind the command to the devices of the top call, or standard input and word 1 to those of the call on
