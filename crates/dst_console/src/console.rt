@@ -1,11 +1,10 @@
 // The words of the program, with the machine's files.
-ghost use Rattle.std.specs.Prelude.{◌≡◌, ◌≢◌, ◌⊎◌, ◌≤◌, true, false, map, Some, None};
+ghost use Rattle.std.specs.Prelude.{◌≡◌, ◌≢◌, ◌⊎◌, ◌≤◌, false, map, Some, None};
 ghost use Rattle.std.specs.String.{string_bytes};
 ghost use Rattle.words_spec.specs.Rows.{command_of};
 ghost use Rattle.pipe_tool.specs.Words.{is_pipe};
-ghost use Rattle.dsdiff_spec.specs.Bytes.{◌is◌};
 ghost use Rattle.dst_streams.specs.Causes.{Rose};
-ghost use Rattle.dst_console.specs.Words.{asked_of, word_of};
+ghost use Rattle.dst_console.specs.Words.{asked_of};
 ghost use Rattle.dst_console.specs.declared.asking.Asked.TheVariants.{Help, Version};
 
 use crate::asking::{Asked, what_is_asked, word_at};
@@ -27,13 +26,14 @@ pub fn run_words<R: Runtime + AllocGlobal + Threads + Sync, K: Sink>(
     is_watched: bool,
     report: &mut K,
 ) -> u8
-    // Words that are understood nowhere are told so, or the report fails.
+    // Words that nothing understands have the status that says so, unless the report fails.
     ensures words { asked_of (map string_bytes words.now) ≡ None → command_of (map string_bytes words.now) ≡ None → is_pipe (map string_bytes words.now) ≡ false →
         (result ≡ 1) ⊎ (result ≡ 7) }
-    // So do words that ask for help or the version, which are answered.
+    // Words that ask for help or the version are answered, unless the report fails.
     ensures asked { (asked_of (map string_bytes words.now) ≡ Some Help) ⊎ (asked_of (map string_bytes words.now) ≡ Some Version) →
         (result ≡ 0) ⊎ (result ≡ 7) }
-    ensures only_words { result ≡ 1 → (command_of (map string_bytes words.now) ≡ None) ⊎ (word_of (map string_bytes words.now) 0 is "pipe" ≡ true) }
+    ensures only_words { result ≡ 1 → command_of (map string_bytes words.now) ≡ None }
+    ensures only_no_pipe { result ≡ 1 → is_pipe (map string_bytes words.now) ≡ false }
     ensures reported { result ≡ 7 → Rose (K.faults report.old) (K.faults report.new) }
     ensures most { result ≤ 7 }
 {
