@@ -1,6 +1,6 @@
 -- Samples of DSF files, the form that stands for one, and what a coded form tells of a DSF file.
 use Rattle.std.proofs.Common.{◌≡◌, ℕ, ◌+◌, ◌++◌, List, [], ◌∷◌, map, replicate, refl, ap, ◌∙◌, Option, Some, None}
-use Rattle.std.specs.Prelude.{codes, ⊤, ◌*◌, length, take}
+use Rattle.std.specs.Prelude.{codes, ⊤, ◌*◌, ◌==◌, if◌then◌else◌, length, take, drop}
 use Rattle.std.specs.Fmt.{digits}
 use Rattle.byteorder.specs.Endian.{big_bytes}
 use Rattle.dst_spec.specs.Bits.{number_from}
@@ -9,7 +9,8 @@ use Rattle.dsdiff_spec.specs.Form.{Form, coded}
 use Rattle.dsdiff_spec.specs.Made.{plain_form}
 use Rattle.dsdiff_spec.specs.Samples.{sound_of, sample_in}
 use Rattle.dsdiff_spec.specs.Rules.{accepted}
-use Rattle.dsdiff_spec.specs.Dsf.{Dsf, dsf_of, dsf_sample, rows, bytes_of_blocks, octets, dsdiff, dsf_in, dsfk_fault, dsf_header, dsf_byte, ToDsf, DsfBefore}
+use Rattle.dsdiff_spec.specs.Dsf.{Dsf, dsf_of, dsf_sample, rows, bytes_of_blocks, octets, dsdiff, dsf_in, dsfk_fault}
+use Rattle.dsdiff_spec.specs.Dsf.{dsf_header, dsf_byte, dsf_row, ToDsf, DsfBefore}
 use Rattle.dsdiff_spec.specs.declared.faults.FileFault.{FileFault}
 use Rattle.dsdiff_spec.specs.declared.faults.FileFault.TheVariants.{DsfKeptBad}
 use Rattle.dsdiff_spec.proofs.Files.{two_coded}
@@ -24,6 +25,18 @@ dsf_samples_open = tt
 -- ---- what a head says
 pub what_the_head_says : dsf_of dsf ≡ record { channels = 1; multiple = 1; samples = 12; type = 1; bits = 1 }
 what_the_head_says = refl
+
+-- each number by all of its bytes, the least first; 202,050,057 samples a second are more than 71 multiples and less than 72
+pub numbers_of_the_head :
+    dsf_of (replicate 48 99 ++ (1 ∷ 2 ∷ 3 ∷ 4 ∷ 5 ∷ 6 ∷ 7 ∷ 8 ∷ 9 ∷ 10 ∷ 11 ∷ 12 ∷ 13 ∷ 14 ∷ 15 ∷ 16 ∷ 17 ∷ 18 ∷ 19 ∷ 20 ∷ 21 ∷ 22 ∷ 23 ∷ 24 ∷ 99 ∷ []))
+    ≡ record { channels = 134678021; multiple = 71; samples = 1735880461161533969; type = 67305985; bits = 269422093 }
+numbers_of_the_head = refl
+
+-- 2,822,400 a second are one multiple, and a sample less is none
+pub multiples_of_rates :
+    map (λ f. (dsf_of f).multiple) (but 56 255 (but 57 16 dsf) ∷ dsf ∷ but 56 255 (but 57 33 (but 58 86 dsf)) ∷ but 57 34 (but 58 86 dsf) ∷ [])
+    ≡ 0 ∷ 1 ∷ 1 ∷ 2 ∷ []
+multiples_of_rates = refl
 
 abbrev of_channels_and_samples : ℕ → ℕ → Dsf
 of_channels_and_samples channels samples = record { channels = channels; multiple = 1; samples = samples; type = 1; bits = 1 }
@@ -163,6 +176,17 @@ pub bytes_of_samples :
 unfolding number_from
 bytes_of_samples = refl
 
+-- the second row of blocks begins with byte 4,096 of each channel, here with sample 32,768 of one and sample 32,775 of the other alone
+abbrev one_sample_each : ℕ → ℕ → ℕ
+one_sample_each c t = if t == 32768 + 7 * c then 1 else 0
+
+abbrev second_row : List ℕ
+second_row = dsf_row (record { channels = 2; multiple = 1; samples = 0; type = 2; bits = 8 }) one_sample_each 1
+
+pub second_row_of_blocks : take 2 second_row ++ take 2 (drop 4095 second_row) ≡ 128 ∷ 0 ∷ 0 ∷ 1 ∷ []
+unfolding number_from
+second_row_of_blocks = refl
+
 -- In front of the second of two frames the sound of 4,704 bytes fills one row of 4,096 bytes whole, and in front of the first none.
 pub one_row_in_front_of_the_second_frame : (out : List ℕ) → DsfBefore two_coded (accepted two_coded) 1 out → length out ≡ 92 + 4096
 unfolding forms_open
@@ -176,3 +200,10 @@ no_row_in_front_of_the_first_frame out before = ap length before.written ∙ len
 pub two_rows_of_both_frames : (out : List ℕ) → ToDsf two_coded (accepted two_coded) out → length out ≡ 92 + 8192
 unfolding forms_open
 two_rows_of_both_frames out all = ap length all.written ∙ length-dsf_with _ _ 2
+
+-- At twice the lowest rate a frame has 9,408 bytes: 64 frames fill 147 rows to the last byte, and 37 frames, 64 bytes less than 85 rows, fill 84.
+pub rows_in_front_of_frame_64 : (file out : List ℕ) → DsfBefore file (of_sound 1 602112 []) 64 out → length out ≡ 92 + 147 * 4096
+rows_in_front_of_frame_64 file out before = ap length before.written ∙ length-dsf_with _ _ 147
+
+pub rows_in_front_of_frame_37 : (file out : List ℕ) → DsfBefore file (of_sound 1 602112 []) 37 out → length out ≡ 92 + 84 * 4096
+rows_in_front_of_frame_37 file out before = ap length before.written ∙ length-dsf_with _ _ 84
