@@ -1,10 +1,10 @@
 -- Walks: frames that are found, and the first fault of those that fail.
-use Rattle.std.proofs.Common.{◌≡◌, ℕ, ◌++◌, List, [], ◌∷◌, map, replicate, refl, Some, None, Ok, Err, Result}
+use Rattle.std.proofs.Common.{◌≡◌, ℕ, ◌++◌, List, [], ◌∷◌, map, take, drop, replicate, refl, true, false, Some, None, Ok, Err, Result}
 use Rattle.std.specs.Prelude.{codes}
 use Rattle.byteorder.specs.Endian.{big_bytes}
 use Rattle.dsdiff_spec.specs.Form.{Form, longest_frame}
 use Rattle.dsdiff_spec.specs.Rules.{accepted}
-use Rattle.dsdiff_spec.specs.Walk.{Entry, walk, frame_fault, compare_fault, check_index_fault, by_index_fault}
+use Rattle.dsdiff_spec.specs.Walk.{Entry, walk, frame_fault, names_frame, compare_fault, check_index_fault, by_index_fault}
 use Rattle.dsdiff_spec.specs.declared.faults.FileFault.{FileFault}
 use Rattle.dsdiff_spec.specs.declared.faults.FileFault.TheVariants.{Overrun, FrameTooLong, TooManyFrames, CountDiffers, IndexMissing, IndexBad}
 use Rattle.dsdiff_spec.proofs.Built.{piece, file_of, version, prop, dst}
@@ -77,3 +77,14 @@ index_of_other_size = refl
 pub form_without_index : check_index_fault example example_form ∷ by_index_fault example example_form 0 ∷ [] ≡ None ∷ Some IndexMissing ∷ []
 unfolding forms_open
 form_without_index = refl
+
+-- The sound chunk's body begins at 122 and ends at 158: behind `FRTE` of 18 bytes and a head of 12 the first frame stands at 152. With
+-- a byte less in front of the head it would stand at 151.
+pub no_frame_stands_before_the_first_place :
+    names_frame example example_form (at 152 6) ∷ names_frame (take 139 example ++ drop 140 example) example_form (at 151 6) ∷ [] ≡ true ∷ false ∷ []
+no_frame_stands_before_the_first_place = refl
+
+-- the frame ends where the chunk does, and may not end behind it
+pub no_frame_ends_behind_the_sound_chunk :
+    names_frame (but 151 5 example) example_form (at 152 5) ∷ names_frame (but 151 7 (example ++ 0 ∷ [])) example_form (at 152 7) ∷ [] ≡ true ∷ false ∷ []
+no_frame_ends_behind_the_sound_chunk = refl
