@@ -1,18 +1,23 @@
 -- Parts of a sound, made sound, and DSF files.
 use Rattle.std.proofs.Common.{◌≡◌, ℕ, arith, get_or, neg_ℤ, ◌++◌, List, [], ◌∷◌, map, replicate, refl, inl}
-use Rattle.std.specs.Prelude.{⊤, pos}
+use Rattle.std.specs.Prelude.{⊤, pos, codes}
 use Rattle.std.specs.Fmt.{digits}
 use Rattle.rand_core.specs.Pcg32Seed.{pcg32_seed}
 use Rattle.rand_core.specs.Steps.{u32_at, word_bytes}
 use Rattle.dst_spec.specs.Bits.{number_from}
-use Rattle.dst_spec.specs.Sample.{IsSound}
+use Rattle.dst_spec.specs.Sample.{Shape, IsSound}
+use Rattle.dst_spec.specs.Header.{Params}
 use Rattle.dst_spec.proofs.Certain.{mono}
 use Rattle.dst_spec.proofs.Frames.{plain_frame_means_its_bytes}
 use Rattle.dst_spec.proofs.Lists.{AreBytes-same}
+use Rattle.level_spec.specs.Picks.{per_channel, shared, level_picks}
+use Rattle.dsdiff_spec.specs.Form.{size_of_sound}
 use Rattle.dsdiff_spec.specs.Rules.{accepted}
+use Rattle.dsdiff_spec.specs.Lines.{made_run_line}
+use Rattle.dsdiff_spec.specs.Outcome.{run_line}
 use Rattle.dsdiff_spec.specs.Samples.{sound_of}
-use Rattle.dsdiff_spec.specs.Made.{Wave, at_time, bounded, dither, times_from, seeded, plain_form, height, made_sound, made}
-use Rattle.dsdiff_spec.specs.Ranges.{Sound, wants, range_of, range_before}
+use Rattle.dsdiff_spec.specs.Made.{Wave, at_time, bounded, dither, times_from, seeded, channel_id, prop_of, plain_form, height, made_sound, made}
+use Rattle.dsdiff_spec.specs.Ranges.{Sound, wants, range_of, range_before, place_of}
 use Rattle.dsdiff_spec.specs.Dsf.{dsf_fault, dsf_with, dsdiff, bare, ToDsf}
 use Rattle.dsdiff_spec.specs.Coded as encoding
 use Rattle.dsdiff_spec.proofs.Files.{empty, two_coded}
@@ -45,7 +50,28 @@ pub part_of_the_second_frame : range_before (accepted two_coded) ((4703, 2) ∷ 
 unfolding written_open
 part_of_the_second_frame = refl
 
+-- before the first want of a frame stand those before it, and before that of a frame that isn't wanted all
+pub places_of_frames :
+    map (λ k. place_of k (wants (accepted two_coded) ((4704, 1) ∷ (4703, 2) ∷ (0, 1) ∷ []))) (0 ∷ 1 ∷ 2 ∷ []) ∷ (place_of 0 [] ∷ []) ∷ []
+    ≡ (1 ∷ 0 ∷ 4 ∷ []) ∷ (0 ∷ []) ∷ []
+unfolding written_open
+places_of_frames = refl
+
 -- ---- made sound
+pub ids_of_six_channels :
+    map channel_id (0 ∷ 1 ∷ 2 ∷ 3 ∷ 4 ∷ 5 ∷ []) ≡ codes "C000" ∷ codes "C001" ∷ codes "C002" ∷ codes "C003" ∷ codes "C004" ∷ codes "C005" ∷ []
+unfolding digits
+ids_of_six_channels = refl
+
+-- the chunk `PROP` of two channels at twice the lowest rate
+pub prop_of_two_channels :
+    prop_of 2 2 ≡ codes "PROP" ++ (0 ∷ 0 ∷ 0 ∷ 0 ∷ 0 ∷ 0 ∷ 0 ∷ 74 ∷ []) ++ codes "SND "
+    ++ codes "FS  " ++ (0 ∷ 0 ∷ 0 ∷ 0 ∷ 0 ∷ 0 ∷ 0 ∷ 4 ∷ 0 ∷ 86 ∷ 34 ∷ 0 ∷ [])
+    ++ codes "CHNL" ++ (0 ∷ 0 ∷ 0 ∷ 0 ∷ 0 ∷ 0 ∷ 0 ∷ 10 ∷ 0 ∷ 2 ∷ []) ++ codes "C000" ++ codes "C001"
+    ++ codes "CMPR" ++ (0 ∷ 0 ∷ 0 ∷ 0 ∷ 0 ∷ 0 ∷ 0 ∷ 19 ∷ []) ++ codes "DSD " ++ (14 ∷ []) ++ codes "not compressed" ++ (0 ∷ [])
+unfolding digits
+prop_of_two_channels = refl
+
 pub file_without_sound_is_made : made 0 0 1 1 ≡ empty
 unfolding made_sound plain_form sound_of digits
 file_without_sound_is_made = refl
@@ -73,6 +99,18 @@ pub first_bytes_of_two_channels : sound_of (λ c t. get_or (get_or (times_from 6
     ≡ 132 ∷ 140 ∷ 133 ∷ 82 ∷ 5 ∷ 148 ∷ 9 ∷ 98 ∷ 9 ∷ 148 ∷ 18 ∷ 163 ∷ 17 ∷ 36 ∷ 65 ∷ 168 ∷ []
 unfolding sound_of times_from at_time pcg32_seed u32_at word_bytes number_from
 first_bytes_of_two_channels = refl
+
+-- a made file is coded with filters of four orders, for each channel and then for all together, and decoded
+abbrev all_orders : List ℕ → Shape → List Params
+all_orders sound f =
+    per_channel f sound 16 ∷ per_channel f sound 32 ∷ per_channel f sound 64 ∷ per_channel f sound 128
+    ∷ shared f sound 16 ∷ shared f sound 32 ∷ shared f sound 64 ∷ shared f sound 128 ∷ []
+
+pub made_file_is_coded_with_all_orders : (frames : ℕ) (file : List ℕ) → run_line frames file ≡
+    made_run_line frames (size_of_sound (accepted file)) (encoding.stored_bytes all_orders file (accepted file))
+    (size_of_sound (accepted (encoding.coded all_orders file (accepted file))))
+unfolding level_picks
+made_file_is_coded_with_all_orders frames file = refl
 
 -- ---- a DSF file of twelve samples
 unfoldable dsf_open : ⊤
