@@ -1,10 +1,10 @@
--- How many chunks a form and its `DST ` may have: so many are found, and one more is too many.
+-- How many chunks a form, its `PROP` and its `DST ` may have: so many are found, and one more is too many.
 use Rattle.std.proofs.Common.{◌≡◌, ℕ, ◌+◌, ◌<◌, ◌≤◌, List, ◌++◌, length, flat_map, Bool, Some, None, sym, ap, ◌∙◌, arith}
 use Rattle.std.specs.List.{AllByRecursion}
 use Rattle.dsdiff_spec.specs.declared.faults.FileFault.TheVariants.{TooManyChunks}
 use Rattle.dsdiff_spec.specs.Chunks.{Chunk, bytes_of_chunk, IsChunk, chunks_from, body_place, body_end}
 use Rattle.dsdiff_spec.specs.Form.{Form}
-use Rattle.dsdiff_spec.specs.Parts.{form_end, top_level}
+use Rattle.dsdiff_spec.specs.Parts.{form_end, top_level, in_prop}
 use Rattle.dsdiff_spec.specs.Walk.{in_dst}
 use Rattle.dsdiff_spec.proofs.Tiling.{chunks_are_found, chunk_past_the_limit}
 
@@ -36,6 +36,15 @@ chunks_1024_are_found file cs s le e = all_found _ file (form_end file) 1024 16 
 pub chunk_1025_is_too_many : (file : List ℕ) (cs : List Chunk) → StandAt file 16 cs → length cs ≡ 1024 →
     16 + length (flat_map bytes_of_chunk cs) < form_end file → (top_level file).fault ≡ Some TooManyChunks
 chunk_1025_is_too_many file cs s e l = one_too_many _ file (form_end file) 1024 16 cs s e l
+
+-- ---- chunks in the body of a `PROP`, behind `SND `
+pub chunks_65536_are_found_in_prop : (body : List ℕ) (cs : List Chunk) → StandAt body 4 cs → length cs ≤ 65536 →
+    length body ≡ 4 + length (flat_map bytes_of_chunk cs) → (in_prop body).fault ≡ None
+chunks_65536_are_found_in_prop body cs s le e = all_found _ body (length body) 65536 4 cs s le e
+
+pub chunk_65537_in_prop_is_too_many : (body : List ℕ) (cs : List Chunk) → StandAt body 4 cs → length cs ≡ 65536 →
+    4 + length (flat_map bytes_of_chunk cs) < length body → (in_prop body).fault ≡ Some TooManyChunks
+chunk_65537_in_prop_is_too_many body cs s e l = one_too_many _ body (length body) 65536 4 cs s e l
 
 -- ---- chunks in `DST `, behind its `FRTE` of 18 bytes
 pub chunks_4000000_are_found : (file : List ℕ) (form : Form) (cs : List Chunk) → StandAt file (body_place form.sound + 18) cs → length cs ≤ 4000000 →

@@ -14,7 +14,7 @@ use Rattle.dsdiff_spec.specs.declared.faults.FileFault.{FileFault}
 use Rattle.dsdiff_spec.specs.declared.faults.FileFault.TheVariants.{NotForm, Overrun, Version, PropMissing, TooManyChunks}
 use Rattle.dsdiff_spec.specs.Streams.{Stream, nothing_but, stopped, cut_off, up_to, kept, whole_end, frame_head_fault, with_frame, counted}
 use Rattle.dsdiff_spec.specs.Streams.{frames_from, Came, nothing_came, version_head_fault, form_head_fault, stream}
-use Rattle.dsdiff_spec.specs.Streams.{later_head_fault, chunk_head_fault, came_with, in_form}
+use Rattle.dsdiff_spec.specs.Streams.{later_head_fault, chunk_head_fault, came_with, in_form, in_sound, frte_fault_at, front_of, with_front}
 use Rattle.dsdiff_spec.proofs.Tiling.{head_of, head_of_chunk, length_of_chunk, regroup_first, regroup_chunks}
 use Rattle.dsdiff_spec.proofs.StreamSteps.{reaches, head_is_whole, sound_ends, sound_has_no_more, sound_has_chunk, form_ends, form_has_no_more, form_has_chunk}
 
@@ -106,6 +106,23 @@ chunk_4000001_may_not_come w f told end place cs s e l =
     ap (frames_from w f told end 4000000 0) (sym s.at_place)
     ∙ sound_leads_on w f told end 0 cs s.front s.rest 4000000 0 s.each s.none (omega (arith, e)) s.bytes (omega (arith, l, s.at_place))
     ∙ sound_has_no_more w f told end 0 _ (omega (arith, l, s.at_place))
+
+-- the same in `DST `, behind its `FRTE` of 18 bytes
+abbrev behind_frte : List ℕ → Came → Head → Stream → Stream
+behind_frte w came h frames =
+    up_to w (body_place h) (body_place h + 18) (kept (frte_fault_at w (body_place h)) (with_front (front_of w came h) frames))
+
+pub chunks_4000000_may_come_in_dst : (w : List ℕ) (came : Came) (h : Head) (cs : List Chunk) → StandInSound w (body_place h + 18) cs → length cs ≤ 4000000 →
+    body_end h ≡ body_place h + 18 + length (flat_map bytes_of_chunk cs) →
+    in_sound w came h ≡ behind_frte w came h (nothing_but (counted (front_of w came h).frames 0))
+chunks_4000000_may_come_in_dst w came h cs s le e =
+    ap (behind_frte w came h) (chunks_4000000_may_come w _ (front_of w came h).frames (body_end h) (body_place h + 18) cs s le e)
+
+pub chunk_4000001_may_not_come_in_dst : (w : List ℕ) (came : Came) (h : Head) (cs : List Chunk) → StandInSound w (body_place h + 18) cs → length cs ≡ 4000000 →
+    body_place h + 18 + length (flat_map bytes_of_chunk cs) < body_end h →
+    in_sound w came h ≡ behind_frte w came h (nothing_but (stopped TooManyChunks))
+chunk_4000001_may_not_come_in_dst w came h cs s e l =
+    ap (behind_frte w came h) (chunk_4000001_may_not_come w _ (front_of w came h).frames (body_end h) (body_place h + 18) cs s e l)
 
 -- ---- chunks of a form that are no `PROP` and no sound, behind the first
 pub record IsPassed (c : Chunk) : Type 0 where
