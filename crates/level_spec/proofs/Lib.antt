@@ -2,6 +2,7 @@
 pub mod Examples
 pub mod Frames
 pub mod RefinedExamples
+pub mod Edges
 -- the laws
 pub mod Sums
 pub mod Steps
