@@ -1,5 +1,6 @@
 -- Numbers of the definitions, each at its edge: scales, last places, sizes, steps of refining, roundings.
-use Rattle.std.proofs.Common.{◌≡◌, ℕ, ◌+◌, ◌*◌, ◌^◌, ◌==◌, pos, negsuc, neg_ℤ, true, false, ℤ, List, [], ◌∷◌, Some, None, if◌then◌else◌, map, length, replicate, refl}
+use Rattle.std.proofs.Common.{◌≡◌, ℕ, ◌+◌, ◌*◌, ◌^◌, ◌==◌, pos, negsuc, neg_ℤ, true, false, ℤ, List, [], ◌∷◌}
+use Rattle.std.proofs.Common.{Some, None, if◌then◌else◌, map, length, replicate, refl}
 use Rattle.dst_spec.specs.Table.{filter_kind, prob_kind}
 use Rattle.dst_spec.specs.Sample.{Shape}
 use Rattle.dst_spec.specs.Guess.{sum_before}
