@@ -229,6 +229,19 @@ pub number_with_a_sign : task_of (words ("frame" ∷ "a" ∷ "b" ∷ "+1" ∷ []
 unfolding task_of
 number_with_a_sign = refl
 
+-- `/` and `:` stand beside the digits
+pub byte_before_the_digits : task_of (words ("frame" ∷ "a" ∷ "b" ∷ "1/" ∷ [])) ≡ None
+unfolding task_of
+byte_before_the_digits = refl
+
+pub byte_behind_the_digits : task_of (words ("frame" ∷ "a" ∷ "b" ∷ "1:" ∷ [])) ≡ None
+unfolding task_of
+byte_behind_the_digits = refl
+
+pub first_byte_behind_the_digits : task_of (words ("frame" ∷ "a" ∷ "b" ∷ ":" ∷ [])) ≡ None
+unfolding task_of
+first_byte_behind_the_digits = refl
+
 pub empty_number : task_of (codes "show" ∷ codes "a" ∷ [] ∷ []) ≡ None
 unfolding task_of
 empty_number = refl
