@@ -5,3 +5,4 @@ pub mod Lawful
 pub mod More
 pub mod OneOutcome
 pub mod Outcomes
+pub mod Bounds
