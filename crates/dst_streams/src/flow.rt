@@ -1,5 +1,5 @@
 // What a flow of bytes tells, read from its front.
-ghost use Rattle.std.specs.Prelude.{◌≡◌, ◌<◌, ◌≤◌, ℕ, List, length, take, Option, Some, IfOk, OnOk};
+ghost use Rattle.std.specs.Prelude.{◌≡◌, ◌<◌, ◌≤◌, ℕ, List, length, take, Option, Some, IfOk, OnOk, OnErr};
 ghost use Rattle.std.specs.List.{AllByRecursion};
 ghost use Rattle.dst_streams.specs.Causes.{HasCause};
 ghost use Rattle.dst_streams.specs.Told.{IsZeroAtEnd, after_piece};
@@ -17,11 +17,14 @@ pub trait Flow {
     ghost faults: { Self → ℕ };
 
     /// Moves bytes from the front of what is left into the front of `out`, and answers how many: 0 exactly at the end.
+    ///
+    /// A call that fails moves nothing.
     fn next(&mut self, out: &mut [u8]) -> Result<usize, Failed>
         requires room { 0 < length out.old }
         ensures count { IfOk result (λ n. n ≤ length out.old) }
         ensures moved { IfOk result (λ n. left self.old ≡ after_piece (take n out.new) (left self.new)) }
         ensures end { IfOk result (λ n. IsZeroAtEnd (left self.old) n) }
+        ensures stays { OnErr result (left self.new ≡ left self.old) }
         ensures cause { HasCause (faults self.old) (faults self.new) result }
         ensures quiet { OnOk result (faults self.new ≡ faults self.old) };
 
