@@ -4,8 +4,10 @@ use Rattle.dst_spec.specs.Bits.{octets}
 use Rattle.dst_spec.specs.Sample.{Shape, IsShape, sound_bytes}
 use Rattle.bit_io.specs.Writing.{Writing}
 use Rattle.frame_predictions.specs.Predicting.{Predicting}
+use Rattle.frame_store.specs.declared.scratch.Latest.{Latest}
+use Rattle.frame_store.specs.declared.scratch.Latest.TheVariants.{Spelling, SpelledFrame, PlainFrame}
 
--- the channels that it is for, the latest spelling, and the latest stored frame
+-- the channels that it is for, and the spelling or the stored frame that the latest call left
 pub record Storing : Type 0 where
   pub channels : Shape
   pub spelled : List ℕ
@@ -15,6 +17,18 @@ pub record Storing : Type 0 where
 abbrev pub written : Option Writing → List ℕ
 written None = []
 written (Some w) = octets w.bits
+
+-- the spelling that was left, of what is written
+abbrev pub spelling_left : Latest → List ℕ → List ℕ
+spelling_left Spelling bytes = bytes
+spelling_left SpelledFrame bytes = []
+spelling_left PlainFrame bytes = []
+
+-- the stored frame that was left, of what is written and the plain form
+abbrev pub frame_left : Latest → List ℕ → List ℕ → List ℕ
+frame_left Spelling bytes plain = []
+frame_left SpelledFrame bytes plain = bytes
+frame_left PlainFrame bytes plain = plain
 
 -- The writer is there, has whole bytes, and room for the plain form with them.
 abbrev pub IsWriter : Shape → Option Writing → Type 0

@@ -10,7 +10,7 @@ ghost use Rattle.frame_store.specs.Storing.{written, IsWriter};
 
 use crate::lay_out::lay_out;
 use crate::measure::{prob_of, symbol_in};
-use crate::scratch::StoreScratch;
+use crate::scratch::{Latest, StoreScratch};
 use arith_encoder::ArithEncoder;
 use bit_io::BitWriter;
 use channel_params::reserved_probability;
@@ -18,16 +18,21 @@ use dst_num::{Channels, Params, Prob};
 use frame_header::write_header;
 use frame_predictions::Predictions;
 
-/// Spells a sound with these parameters. False where the spelling is longer than the plain form.
+/// Spells a sound with these parameters. False, with nothing spelled, where the spelling is longer than the plain form.
+///
+/// A frame that was stored is let go.
 pub fn spell_frame(params: &Params, sound: &[u8], scratch: &mut StoreScratch) -> bool
     requires channels { length params.now.half_prob ≡ scratch.old.channels.channels }
     requires sound { length sound.now ≡ sound_bytes scratch.old.channels }
     ensures fits { IsTrue result ↔ (length (spell scratch.old.channels params.now sound.now) ≤ 1 + sound_bytes scratch.old.channels) }
     ensures spelled { IsTrue result → scratch.new.spelled ≡ spell scratch.old.channels params.now sound.now }
+    ensures nothing { result ≡ false → scratch.new.spelled ≡ [] }
+    ensures no_frame { scratch.new.stored ≡ [] }
     ensures channels { scratch.new.channels ≡ scratch.old.channels }
 {
     let channels = scratch.channels;
     scratch.predictions.begin(sound);
+    scratch.latest = Latest::Spelling;
     let symbols = scratch.symbols.as_mut_slice();
     lay_out(params, &mut scratch.predictions, symbols);
     write_into(params, symbols, channels, &mut scratch.writer)
@@ -85,6 +90,7 @@ pub(crate) fn write_into(
         + length (code_spelling (all_pairs params.now symbols.now)) ≤ 8 * (1 + sound_bytes channels)) }
     ensures written { IsTrue result → written writer.new
         ≡ octets (header_spelling params.now ++ code_spelling (all_pairs params.now symbols.now)) }
+    ensures nothing { result ≡ false → written writer.new ≡ [] }
     ensures writer { IsWriter channels writer.new }
 {
     let Some(mut old) = writer.take() else {

@@ -1,5 +1,5 @@
 // A sound, stored.
-ghost use Rattle.std.specs.Prelude.{◌≡◌, ℕ, ◌+◌, ◌*◌, ◌<◌, ◌≤◌, ◌^◌, List, ◌∷◌, length, get_or, All, IfSome, IfNone};
+ghost use Rattle.std.specs.Prelude.{◌≡◌, ℕ, ◌+◌, ◌*◌, ◌<◌, ◌≤◌, ◌^◌, List, [], ◌∷◌, length, get_or, All, IfSome, IfNone};
 ghost use Rattle.dst_spec.specs.Sample.{Shape, IsShape, sound_bytes};
 ghost use Rattle.dst_spec.specs.Header.{IsParams, Params as Parameters};
 ghost use Rattle.dst_spec.specs.Spell.{spell, stored as stored_of};
@@ -8,13 +8,15 @@ ghost use Rattle.frame_store.specs.Choosing.{IsChosen};
 use crate::lay_out::lay_out;
 use crate::measure::spelling_lengths;
 use crate::picker::Picker;
-use crate::scratch::StoreScratch;
+use crate::scratch::{Latest, StoreScratch};
 use crate::spell::{spell_shorter, write_into};
 use dst_num::{Channels, Params};
 use frame_predictions::Predictions;
 
 /// Stores a sound: the first of the shortest of the plain form and the spellings by the parameters that are picked. No memory is
 /// taken.
+///
+/// A spelling of `spell_frame` is let go.
 pub fn store_frame<P: Picker>(
     picker: &P,
     sound: &[u8],
@@ -24,6 +26,7 @@ pub fn store_frame<P: Picker>(
     requires sound { length sound.now ≡ sound_bytes channels }
     requires scratch { scratch.old.channels ≡ channels }
     ensures stored { scratch.new.stored ≡ stored_of channels sound.now (P.picks picker.now sound.now channels) }
+    ensures no_spelling { scratch.new.spelled ≡ [] }
     ensures channels { scratch.new.channels ≡ scratch.old.channels }
 {
     scratch.predictions.begin(sound);
@@ -38,23 +41,25 @@ pub fn store_frame<P: Picker>(
     if found.len() == 1 {
         let predictions = &mut scratch.predictions;
         let shorter = spell_shorter(&found[0], predictions, symbols, &mut scratch.writer);
-        if !shorter {
+        if shorter {
+            scratch.latest = Latest::SpelledFrame;
+        } else {
             keep_plain(scratch.plain.as_mut_slice(), sound);
+            scratch.latest = Latest::PlainFrame;
         }
-        scratch.is_plain = !shorter;
         return;
     }
     let steps = scratch.steps.as_mut_slice();
     match shortest(found, &mut scratch.predictions, symbols, steps, sound.len()) {
         None => {
             keep_plain(scratch.plain.as_mut_slice(), sound);
-            scratch.is_plain = true;
+            scratch.latest = Latest::PlainFrame;
         }
         Some(place) => {
             let params = &found[place];
             lay_out(params, &mut scratch.predictions, symbols);
             write_into(params, symbols, channels, &mut scratch.writer);
-            scratch.is_plain = false;
+            scratch.latest = Latest::SpelledFrame;
         }
     }
 }

@@ -6,7 +6,7 @@ use Rattle.frame_store.proofs.Spelled.{spelled-bytes, spelled-length}
 use Rattle.frame_store.proofs.spell.spell_frame.Goals as goal
 
 -- what is laid out are the symbols of the sound
-laid : (c : goal.After-scratch-1) → all_pairs c.args.params.now c.lay_out.new.symbols
+laid : (c : goal.After-scratch-2-1) → all_pairs c.args.params.now c.lay_out.new.symbols
     ≡ symbols c.args.scratch.now.channels c.args.params.now c.args.sound.now false
 laid c =
     let own = c.begin.ensures.channels ∙ c.scratch.invariant.predicts ∙ ap (λ v. v.channels) c.scratch.view_is in
