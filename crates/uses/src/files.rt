@@ -1,6 +1,10 @@
 // How a reader comes at the frames of a file.
-ghost use Rattle.std.specs.Prelude.{◌≡◌, ◌+◌, ◌*◌, ◌<◌, ◌≤◌, ℕ, length, Some, Err, IfOk};
+ghost use Rattle.std.specs.Prelude.{◌≡◌, ◌+◌, ◌*◌, ◌<◌, ◌≤◌, ℕ, List, length, Some, None, Err, IfOk};
 ghost use Rattle.dst_spec.specs.Sample.{sound_bytes};
+ghost use Rattle.dsdiff_spec.specs.declared.faults.FileFault.{FileFault};
+ghost use Rattle.dsdiff_spec.specs.Refusal.{refusal};
+ghost use Rattle.dsdiff_spec.specs.Rules.{accepted};
+ghost use Rattle.dsdiff_spec.specs.Words as words;
 ghost use Rattle.dst_streams.specs.Causes.{Rose, HasCause};
 ghost use Rattle.dsdiff_chunks.specs.Forms.{coded_seen};
 ghost use Rattle.frame_index.specs.Fitting.{IsIndexOf};
@@ -23,6 +27,9 @@ pub fn frames_of_file<S: Source, L: Listener>(
     listener: &mut L,
 ) -> Result<u32, OpenFault>
     ensures bytes { S.bytes source.new ≡ S.bytes source.old }
+    ensures accepted { IfOk result (λ _. (file : List ℕ) → S.bytes source.old ≡ Some file → refusal words.index file ≡ None) }
+    ensures count { IfOk result (λ n. (file : List ℕ) → S.bytes source.old ≡ Some file → n ≡ (accepted file).frames) }
+    ensures file { (fault : FileFault) → result ≡ Err (OpenFault.File fault) → (file : List ℕ) → S.bytes source.old ≡ Some file → refusal words.index file ≡ Some fault }
     ensures read { result ≡ Err OpenFault.Read → Rose (S.faults source.old) (S.faults source.new) }
 {
     let form = match open_form(alloc, source) {

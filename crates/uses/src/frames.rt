@@ -1,6 +1,8 @@
 // How a player decodes one frame.
-ghost use Rattle.std.specs.Prelude.{◌≡◌, ◌+◌, ◌*◌, ◌≤◌, length, true, false, IfOk};
+ghost use Rattle.std.specs.Prelude.{◌≡◌, ◌+◌, ◌*◌, ◌≤◌, ℕ, List, length, take, true, false, Ok, Err, IfOk};
+ghost use Rattle.dst_spec.specs.Bits.{bits};
 ghost use Rattle.dst_spec.specs.Sample.{sound_bytes};
+ghost use Rattle.dst_spec.specs.Header.{Params, HasHeader};
 ghost use Rattle.dst_spec.specs.Means.{Means, IsPlain};
 ghost use Rattle.dst_spec.specs.Offends.{Offends};
 ghost use Rattle.dst_spec.specs.declared.faults.FrameFault.{FrameFault};
@@ -43,6 +45,8 @@ pub fn sound_of_frame(alloc: Global, frame: &[u8], channels: Channels) -> Result
 /// Whether a frame has an arithmetic code, and not its sound as it is.
 pub fn is_coded(frame: &[u8], channels: Channels) -> Result<bool, FrameFault>
     requires { length frame.now ≤ 2 * (sound_bytes channels + 1) }
+    ensures plain { result ≡ Ok false → (sound : List ℕ) × IsPlain channels frame.now sound }
+    ensures coded { result ≡ Ok true → (params : Params) × (place : ℕ) × HasHeader channels.channels params (take place (bits frame.now)) }
     ensures refused { (fault : FrameFault) → result ≡ Err fault → Offends channels frame.now fault }
 {
     match view_frame(frame, channels) {

@@ -1,5 +1,5 @@
 -- An entry of an index that fits its form lies in front of the form's end, and has room in the buffer.
-use Rattle.std.proofs.Common.{◌+◌, ◌*◌, ◌≤◌, ◌^◌, length, take, ap, subst, arith, length-take-le}
+use Rattle.std.proofs.Common.{◌+◌, ◌*◌, ◌≤◌, ap, subst, arith, length-take-le}
 use Rattle.dst_spec.specs.Sample.{sound_bytes}
 use Rattle.dsdiff_spec.specs.Walk.{Entry, entry}
 use Rattle.dsdiff_chunks.specs.Forms.{coded_seen}
