@@ -1,5 +1,5 @@
 -- Rows made and moved.
-use Rattle.std.proofs.Common.{◌≡◌, ◌⊎◌, inl, inr, ℕ, ◌+◌, ◌<◌, ◌≤◌, max, List, [], ◌∷◌, ◌++◌, length, get_or, set, take, drop, map, ap, sym, subst}
+use Rattle.std.proofs.Common.{◌≡◌, ◌⊎◌, inl, inr, ℕ, ◌+◌, ◌<◌, ◌≤◌, max, List, [], ◌∷◌, ◌++◌, length, get_or, set, take, drop, map, suc, ap, ap₂, sym, subst}
 use Rattle.std.proofs.Common.{◌∙◌, arith, get_or-set_same, get_or-set_other, length-set, length-take-le, get_or-take}
 use Rattle.std.specs.List.{SwappedAt}
 use Rattle.std.proofs.lemmas.Bool.{cases_eq, cases_lt}
@@ -82,3 +82,15 @@ held-before held most next place behind first lt = at (cases_lt held most)
     at : (held < most) ⊎ (most ≤ held) → (held < most) × (next ≡ held)
     at (inl h) = (h, behind h)
     at (inr h) = let none = first h in absurd (omega arith)
+
+-- rows behind which one more stands
+pub one-more : (old new : List Predicted) (r : Predicted) → length new ≡ length old + 1 →
+    ((k : ℕ) (other : Predicted) → k < length old → get_or new k other ≡ get_or old k other) →
+    ((other : Predicted) → get_or new (length old) other ≡ r) → new ≡ old ++ r ∷ []
+one-more [] [] r long same last = absurd (omega (arith, long))
+one-more [] (x ∷ []) r long same last = ap (λ y. y ∷ []) (last r)
+one-more [] (x ∷ y ∷ ys) r long same last = absurd (omega (arith, long))
+one-more (x ∷ xs) [] r long same last = absurd (omega (arith, long))
+one-more (x ∷ xs) (y ∷ ys) r long same last =
+    ap₂ (λ a b. a ∷ b) (same 0 x (omega arith))
+    (one-more xs ys r (omega (arith, long)) (λ k other lt. same (suc k) other (omega (arith, lt))) last)

@@ -1,5 +1,5 @@
 // What is predicted of a frame's sound.
-ghost use Rattle.std.specs.Prelude.{◌≡◌, ℕ, ◌+◌, ◌*◌, ◌<◌, ◌≤◌, [], length, get_or, replicate, All, IfOk};
+ghost use Rattle.std.specs.Prelude.{◌≡◌, ℕ, ◌+◌, ◌*◌, ◌<◌, ◌≤◌, ◌++◌, [], ◌∷◌, length, get_or, replicate, All, Contains, IfOk};
 ghost use Rattle.dst_spec.specs.Sample.{IsShape, samples, sound_bytes};
 ghost use Rattle.frame_predictions.specs.Codes.{codes};
 ghost use Rattle.frame_predictions.specs.Predicting.{Predicted, nothing};
@@ -85,8 +85,8 @@ impl Predictions {
         self.held = 0;
     }
 
-    /// The number of the row of a channel with a filter, which is made where it isn't there. The rows before it stay, as long
-    /// as there are fewer than eight for each channel; else they are let go.
+    /// The number of the row of a channel with a filter, which is made behind the others where it isn't there. The others stay, as
+    /// long as there are fewer than eight for each channel; else they are let go.
     pub fn row(&mut self, channel: usize, filter: &FilterTable) -> usize
         requires { channel < self.old.channels.channels }
         ensures inside { result < length self.new.rows }
@@ -95,6 +95,11 @@ impl Predictions {
             → get_or self.new.rows k other ≡ get_or self.old.rows k other }
         ensures more { length self.old.rows < 8 * self.old.channels.channels → length self.old.rows ≤ length self.new.rows }
         ensures one { length self.new.rows ≤ length self.old.rows + 1 }
+        ensures there { length self.old.rows < 8 * self.old.channels.channels → Contains self.old.rows (record { channel = channel; filter = filter.now })
+            → self.new.rows ≡ self.old.rows }
+        ensures made { length self.old.rows < 8 * self.old.channels.channels → (Contains self.old.rows (record { channel = channel; filter = filter.now }) → ⊥)
+            → self.new.rows ≡ self.old.rows ++ record { channel = channel; filter = filter.now } ∷ [] }
+        ensures full { 8 * self.old.channels.channels ≤ length self.old.rows → self.new.rows ≡ record { channel = channel; filter = filter.now } ∷ [] }
         ensures sound { self.new.sound ≡ self.old.sound }
         ensures channels { self.new.channels ≡ self.old.channels }
     {

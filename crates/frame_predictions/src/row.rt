@@ -1,5 +1,5 @@
 // A row of codes.
-ghost use Rattle.std.specs.Prelude.{◌≡◌, ◌≢◌, ℕ, ◌+◌, ◌*◌, ◌<◌, ◌≤◌, max, true, length, get_or};
+ghost use Rattle.std.specs.Prelude.{◌≡◌, ◌≢◌, ℕ, ◌+◌, ◌*◌, ◌<◌, ◌≤◌, max, true, false, length, get_or};
 ghost use Rattle.dst_spec.specs.Sample.{samples, sound_bytes};
 ghost use Rattle.frame_predictions.specs.Codes.{codes as codes_of};
 ghost use Rattle.frame_predictions.specs.Rows.{predicted, AreFilled};
@@ -16,12 +16,13 @@ pub(crate) struct Row {
     pub(crate) codes: Vec<u8>,
 }
 
-// The place of a channel's row with a filter among the first so many rows, and that number where it isn't there.
+// The first place of a channel's row with a filter among the first so many rows, and that number where it isn't there.
 fn find(rows: &[Row], filled: usize, channel: usize, filter: &FilterTable) -> usize
     requires { filled ≤ length rows.now }
     ensures most { result ≤ filled }
     ensures channel { (other : Row) → result < filled → (get_or rows.now result other).channel ≡ channel }
     ensures filter { (other : Row) → result < filled → (get_or rows.now result other).filter ≡ filter.now }
+    ensures first { (k : ℕ) (other : Row) → k < result → predicted (get_or rows.now k other) ≡ record { channel = channel; filter = filter.now } → ⊥ }
 {
     for place in 0..filled {
         if is_of(&rows[place], channel, filter) {
@@ -35,6 +36,7 @@ fn find(rows: &[Row], filled: usize, channel: usize, filter: &FilterTable) -> us
 fn is_of(row: &Row, channel: usize, filter: &FilterTable) -> bool
     ensures channel { result ≡ true → row.now.channel ≡ channel }
     ensures filter { result ≡ true → row.now.filter ≡ filter.now }
+    ensures another { result ≡ false → predicted row.now ≡ record { channel = channel; filter = filter.now } → ⊥ }
 {
     row.channel == channel && row.filter.coefs() == filter.coefs()
 }
@@ -56,6 +58,7 @@ pub(crate) fn provide(
     requires filled { AreFilled channels sound.now rows.old filled }
     ensures inside { result < length rows.new }
     ensures next { result ≤ filled }
+    ensures first { (k : ℕ) (other : Row) → k < result → predicted (get_or rows.old k other) ≡ record { channel = channel; filter = filter.now } → ⊥ }
     ensures behind { (k : ℕ) → k < length rows.old → k ≤ filled → result < k → rows.new ≡ rows.old }
     ensures others { (k : ℕ) (other : Row) → k ≢ result → get_or rows.new k other ≡ get_or rows.old k other }
     ensures long { length rows.new ≡ length rows.old }

@@ -1,4 +1,4 @@
-use Rattle.std.proofs.Common.{sym, ◌∙◌}
+use Rattle.std.proofs.Common.{◌≡◌, true, ap, sym, ◌∙◌}
 use Rattle.std.specs.Cmp.Rules.{signed_items}
 use Rattle.frame_predictions.proofs.row.is_of.Goals as goal
 
@@ -6,3 +6,9 @@ pub returns-then-row-channel-clause-filter : goal.returns-then-row-channel-claus
 returns-then-row-channel-clause-filter c = λ is.
     sym c.coefs.ensures.coefs ∙ (signed_items c.coefs.result.now c.coefs-then-row-channel.result.now).0 (sym c.eq.ensures ∙ is)
     ∙ c.coefs-then-row-channel.ensures.coefs
+
+pub returns-then-row-channel-clause-another : goal.returns-then-row-channel-clause-another
+returns-then-row-channel-clause-another c = λ differs is.
+    let same = c.coefs.ensures.coefs ∙ ap (λ p. p.filter) is ∙ sym c.coefs-then-row-channel.ensures.coefs in
+    let t : c.eq.result ≡ true = c.eq.ensures ∙ (signed_items c.coefs.result.now c.coefs-then-row-channel.result.now).1 same in
+    absurd cc

@@ -1,8 +1,10 @@
-use Rattle.std.proofs.Common.{◌≡◌, ◌≢◌, ◌+◌, ◌<◌, length, get_or, map, take, ap, sym, subst, subst₂, ◌∙◌, arith}
-use Rattle.std.specs.List.{SwappedAt}
+use Rattle.std.proofs.Common.{◌≡◌, ◌≢◌, ◌+◌, ◌<◌, ◌≤◌, [], length, get_or, map, take, ap, sym, subst, subst₂, ◌∙◌, arith}
+use Rattle.std.specs.List.{SwappedAt, Contains}
+use Rattle.std.proofs.lemmas.List.Elements.{Contains-get_or}
 use Rattle.std.proofs.lemmas.List.Edits.{length-swap}
+use Rattle.frame_predictions.specs.Predicting.{Predicted}
 use Rattle.frame_predictions.specs.Rows.{predicted, AreFilled}
-use Rattle.frame_predictions.proofs.Rows.{seen-length, seen-at, filled-swapped, written-back, first-of, held-before}
+use Rattle.frame_predictions.proofs.Rows.{seen-length, seen-at, filled-swapped, written-back, first-of, held-before, one-more}
 use Rattle.frame_predictions.proofs.predictions.Predictions.row.Goals as goal
 
 pub returns-then-place-held-clause-is : goal.returns-then-place-held-clause-is
@@ -103,3 +105,115 @@ returns-clause-stay c = λ room k other lt.
     seen-at new (next + 1) k row other (omega arith) (omega arith)
     ∙ ap predicted (swapped.2 k row ne nor ∙ c.provide-place.ensures.others k row ne ∙ ap (λ xs. get_or xs k row) c.as_mut_slice.ensures.value)
     ∙ sym (seen-at p.rows.items p.held k row other (omega arith) (omega arith)) ∙ ap (λ w. get_or w.rows k other) c.self.view_is
+
+pub returns-then-place-held-clause-there : goal.returns-then-place-held-clause-there
+returns-then-place-held-clause-there c = λ room there.
+    let p = c.self.inside in
+    let order = c.self.invariant.in_order in
+    let within = c.self.invariant.are_filled.within in
+    let rows = c.provide-place.new.rows in
+    let place = c.provide-place.result in
+    let all : length rows ≡ p.rows.len = c.provide-place.ensures.long ∙ c.as_mut_slice.ensures.len in
+    let same = ap length c.as_mut_slice.ensures.value in
+    let next = held-before p.held c.len.result c.next_place-held.result place c.next_place-held.ensures.behind c.next_place-held.ensures.first
+    c.if-place-held.true in
+    let is = c.provide-place.ensures.behind p.held (omega (arith, next.0)) order (omega (arith, next.1)) ∙ c.as_mut_slice.ensures.value in
+    ap (λ xs. map predicted (take p.held xs)) (written-back p.rows.items rows p.rows.len all ∙ is) ∙ ap (λ w. w.rows) c.self.view_is
+
+pub returns-then-place-held-clause-made : goal.returns-then-place-held-clause-made
+returns-then-place-held-clause-made c = λ room absent.
+    let p = c.self.inside in
+    let order = c.self.invariant.in_order in
+    let within = c.self.invariant.are_filled.within in
+    let rows = c.provide-place.new.rows in
+    let place = c.provide-place.result in
+    let all : length rows ≡ p.rows.len = c.provide-place.ensures.long ∙ c.as_mut_slice.ensures.len in
+    let same = ap length c.as_mut_slice.ensures.value in
+    let next = held-before p.held c.len.result c.next_place-held.result place c.next_place-held.ensures.behind c.next_place-held.ensures.first
+    c.if-place-held.true in
+    let is = c.provide-place.ensures.behind p.held (omega (arith, next.0)) order (omega (arith, next.1)) ∙ c.as_mut_slice.ensures.value in
+    let old = c.args.self.now.rows in
+    let asked : Predicted = record { channel = c.args.channel; filter = c.args.filter.now } in
+    let stay = ap (λ xs. map predicted (take p.held xs)) (written-back p.rows.items rows p.rows.len all ∙ is) ∙ ap (λ w. w.rows) c.self.view_is in
+    let seen : length old ≡ p.held = ap (λ w. length w.rows) (sym c.self.view_is) ∙ seen-length p.rows.items p.held (omega arith) in
+    let here : get_or old place asked ≡ asked = ap (λ xs. get_or xs place asked) (sym stay) ∙ returns-then-place-held-clause-is c asked in
+    absurd (absent (subst (Contains old) here (Contains-get_or old place asked (omega (arith, c.if-place-held.true, seen, next.1)))))
+
+pub returns-clause-there : goal.returns-clause-there
+returns-clause-there c = λ room there.
+    let p = c.self.inside in
+    let v = c.self.invariant in
+    let order = v.in_order in
+    let within = v.are_filled.within in
+    let many = v.many in
+    let rows = c.provide-place.new.rows in
+    let place = c.provide-place.result in
+    let next = c.next_place-held.result in
+    let new = c.swap.new.self.items in
+    let all : length rows ≡ p.rows.len = c.provide-place.ensures.long ∙ c.as_mut_slice.ensures.len in
+    let same = ap length c.as_mut_slice.ensures.value in
+    let back = written-back p.rows.items rows p.rows.len all in
+    let long : length new ≡ length rows = ap length c.swap.ensures.items ∙ length-swap _ place next ∙ ap length back in
+    let seen : length c.args.self.now.rows ≡ p.held = ap (λ w. length w.rows) (sym c.self.view_is) ∙ seen-length p.rows.items p.held (omega arith) in
+    let shape = ap (λ w. w.channels.channels) c.self.view_is in
+    let asked : Predicted = record { channel = c.args.channel; filter = c.args.filter.now } in
+    let row = first-of rows (omega arith) in
+    let some : p.held < c.len.result = omega arith in
+    let here : next ≡ p.held = c.next_place-held.ensures.behind some in
+    let k = there.0 in
+    let lt = there.1 in
+    let is : predicted (get_or c.as_mut_slice.result.now k row) ≡ asked =
+    ap (λ xs. predicted (get_or xs k row)) c.as_mut_slice.ensures.value
+    ∙ sym (seen-at p.rows.items p.held k row asked (omega arith) (omega (arith, lt, seen))) ∙ ap (λ w. get_or w.rows k asked) c.self.view_is ∙ there.2 in
+    absurd (c.provide-place.ensures.first k row (omega (arith, lt, seen, here)) is)
+
+pub returns-clause-made : goal.returns-clause-made
+returns-clause-made c = λ room absent.
+    let p = c.self.inside in
+    let v = c.self.invariant in
+    let order = v.in_order in
+    let within = v.are_filled.within in
+    let many = v.many in
+    let rows = c.provide-place.new.rows in
+    let place = c.provide-place.result in
+    let next = c.next_place-held.result in
+    let new = c.swap.new.self.items in
+    let all : length rows ≡ p.rows.len = c.provide-place.ensures.long ∙ c.as_mut_slice.ensures.len in
+    let same = ap length c.as_mut_slice.ensures.value in
+    let back = written-back p.rows.items rows p.rows.len all in
+    let long : length new ≡ length rows = ap length c.swap.ensures.items ∙ length-swap _ place next ∙ ap length back in
+    let seen : length c.args.self.now.rows ≡ p.held = ap (λ w. length w.rows) (sym c.self.view_is) ∙ seen-length p.rows.items p.held (omega arith) in
+    let shape = ap (λ w. w.channels.channels) c.self.view_is in
+    let old = c.args.self.now.rows in
+    let asked : Predicted = record { channel = c.args.channel; filter = c.args.filter.now } in
+    let some : p.held < c.len.result = omega arith in
+    let here : next ≡ p.held = c.next_place-held.ensures.behind some in
+    let after = map predicted (take (next + 1) new) in
+    let more = seen-length new (next + 1) (omega arith) in
+    one-more old after asked (omega (arith, more, seen, here)) (λ k other lt. returns-clause-stay c room k other lt)
+    (λ other. ap (λ n. get_or after n other) (seen ∙ sym here) ∙ returns-clause-is c other)
+
+pub returns-clause-full : goal.returns-clause-full
+returns-clause-full c = λ full.
+    let p = c.self.inside in
+    let v = c.self.invariant in
+    let order = v.in_order in
+    let within = v.are_filled.within in
+    let many = v.many in
+    let rows = c.provide-place.new.rows in
+    let place = c.provide-place.result in
+    let next = c.next_place-held.result in
+    let new = c.swap.new.self.items in
+    let all : length rows ≡ p.rows.len = c.provide-place.ensures.long ∙ c.as_mut_slice.ensures.len in
+    let same = ap length c.as_mut_slice.ensures.value in
+    let back = written-back p.rows.items rows p.rows.len all in
+    let long : length new ≡ length rows = ap length c.swap.ensures.items ∙ length-swap _ place next ∙ ap length back in
+    let seen : length c.args.self.now.rows ≡ p.held = ap (λ w. length w.rows) (sym c.self.view_is) ∙ seen-length p.rows.items p.held (omega arith) in
+    let shape = ap (λ w. w.channels.channels) c.self.view_is in
+    let asked : Predicted = record { channel = c.args.channel; filter = c.args.filter.now } in
+    let none : c.len.result ≤ p.held = omega arith in
+    let first : next ≡ 0 = c.next_place-held.ensures.first none in
+    let after = map predicted (take (next + 1) new) in
+    let more = seen-length new (next + 1) (omega arith) in
+    one-more [] after asked (omega (arith, more, first)) (λ k other lt. absurd (omega (arith, lt)))
+    (λ other. ap (λ n. get_or after n other) (sym first) ∙ returns-clause-is c other)
