@@ -7,11 +7,12 @@
 //! dst_cli --help
 //! ```
 //!
-//! It hands the words behind its name to [`run_words`], and ends with the status that this answers. Where memory for the words is refused
-//! it prints nothing and ends with status 4; where the system refuses the words for another cause, with status 8.
+//! It hands the words behind its name and the machine's files to [`run_words`], has [`explain`] say what people want to know of the end, and ends with the
+//! status that the run has. Where memory for the words is refused it prints nothing and ends with status 4; where the system refuses the words for another
+//! cause, with status 8.
 #![tactic(auto)]
 
-use dst_console::run_words;
+use dst_console::{MachineFiles, explain, run_words};
 use dst_streams::TextSink;
 use std::env;
 use std::io::{ErrorKind, IsTerminal};
@@ -24,9 +25,11 @@ const NO_WORDS: u8 = 8;
 fn main(rt: HostRuntime) -> ExitCode {
     match words_of_program(&rt) {
         Ok(words) => {
-            let is_watched = rt.stderr().is_terminal();
+            let files = MachineFiles::new(&rt, rt.stderr().is_terminal());
             let mut report = TextSink::new(&rt);
-            ExitCode::from(run_words(&rt, &words, is_watched, &mut report))
+            let ended = run_words(&rt, rt.alloc(), &words, &files, &mut report);
+            explain(&rt, &words, &ended);
+            ExitCode::from(ended.status())
         }
         Err(status) => ExitCode::from(status),
     }

@@ -1,13 +1,9 @@
 -- Words that ask for help or the version, those that don't, and the words that name files.
-use Rattle.std.proofs.Common.{◌≡◌, List, [], ◌∷◌, map, refl, Some, None}
+use Rattle.std.proofs.Common.{◌≡◌, [], ◌∷◌, refl, true, false, Some, None}
 use Rattle.std.specs.Prelude.{codes}
-use Prim.Native.String.{String}
-use Rattle.dsdiff_spec.specs.Words.{Word}
-use Rattle.dst_console.specs.Words.{asked_of, word_of}
+use Rattle.words_spec.proofs.Commands.{words}
+use Rattle.dst_console.specs.Words.{asked_of, begins_a_pipe, word_of}
 use Rattle.dst_console.specs.declared.asking.Asked.TheVariants.{Help, Version, HelpOf}
-
-abbrev pub words : List String → List Word
-words texts = map codes texts
 
 -- ---- what is asked of the program itself
 pub one_word_asks_for_help : asked_of (words ("--help" ∷ [])) ≡ Some Help
@@ -43,3 +39,16 @@ second_file_stands_at_place_2 = refl
 
 pub behind_the_last_word_is_an_empty_one : word_of (words ("decode" ∷ "a" ∷ [])) 2 ≡ []
 behind_the_last_word_is_an_empty_one = refl
+
+-- ---- words of a pipe
+pub one_word_begins_a_pipe : begins_a_pipe (words ("pipe" ∷ [])) ≡ true
+one_word_begins_a_pipe = refl
+
+pub two_files_begin_a_pipe : begins_a_pipe (words ("pipe" ∷ "a" ∷ "b" ∷ [])) ≡ true
+two_files_begin_a_pipe = refl
+
+pub decode_begins_no_pipe : begins_a_pipe (words ("decode" ∷ "pipe" ∷ "b" ∷ [])) ≡ false
+decode_begins_no_pipe = refl
+
+pub no_words_begin_no_pipe : begins_a_pipe (words []) ≡ false
+no_words_begin_no_pipe = refl

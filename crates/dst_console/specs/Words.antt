@@ -1,5 +1,5 @@
 -- The words that the program answers itself, and those that name its files.
-use Rattle.std.specs.Prelude.{ℕ, if◌then◌else◌, List, [], ◌∷◌, get_or, Option, Some, None}
+use Rattle.std.specs.Prelude.{ℕ, Bool, if◌then◌else◌, List, [], ◌∷◌, get_or, Option, Some, None}
 use Rattle.dsdiff_spec.specs.Bytes.{◌is◌}
 use Rattle.dsdiff_spec.specs.Words.{Word}
 use Rattle.dst_console.specs.declared.asking.Asked.{Asked}
@@ -14,3 +14,7 @@ asked_of words = None
 -- a word, or an empty one where there is none
 abbrev pub word_of : List Word → ℕ → Word
 word_of words k = get_or words k []
+
+-- words of a pipe, whatever stands behind the first
+abbrev pub begins_a_pipe : List Word → Bool
+begins_a_pipe words = word_of words 0 is "pipe"

@@ -14,7 +14,7 @@ pub(crate) struct CommandHelp {
 }
 
 /// All commands.
-pub(crate) const COMMANDS: [CommandHelp; 12] = [
+const COMMANDS: [CommandHelp; 12] = [
     CommandHelp {
         name: "encode",
         usage: "encode IN OUT [--level L] [--workers W]",
@@ -100,6 +100,11 @@ pub(crate) const COMMANDS: [CommandHelp; 12] = [
         text: MAKE,
     },
 ];
+
+/// The command of this name.
+pub(crate) fn help_of(name: &str) -> Option<&'static CommandHelp> {
+    COMMANDS.iter().find(|command| command.name == name)
+}
 
 /// What `--version` prints.
 pub(crate) const VERSION: &str = "dst_cli 0.1.0\n";

@@ -19,7 +19,7 @@ const FRAMES: u64 = 75;
 /// A source that tells on standard error how much of it was read, as one line that is written over. It is otherwise the source that
 /// it has.
 #[derive(Drop)]
-pub(crate) struct Watched<'r, S: Source, R: Clock + Eprint> {
+pub struct Watched<'r, S: Source, R: Clock + Eprint> {
     pub(crate) source: S,
     rt: &'r R,
     /// What the line needs, where lines are wanted.

@@ -1,29 +1,75 @@
 // What went wrong, in a line for people on standard error. Report and status say the same without it.
-use crate::help::{COMMANDS, CommandHelp};
+use crate::asking::word_at;
+use crate::ended::Ended;
+use crate::help::{CommandHelp, help_of};
+use crate::progress::Watched;
+use dst_streams::{FileSink, FileSource, PipeFlow};
 use std::io::{self, ErrorKind};
+use std::rt::Runtime;
 
-/// What is known of a run behind its end.
+/// How the words ended over the machine's files.
+pub type MachineEnd<'r, R> = Ended<
+    Watched<'r, FileSource<'r, R>, R>,
+    PipeFlow<'r, R>,
+    FileSink<'r, R>,
+>;
+
+// What is known of a run behind its end.
 #[derive(Drop)]
-pub(crate) struct Behind<'a> {
-    /// The files' names.
-    pub(crate) input: &'a str,
-    pub(crate) output: &'a str,
-    /// Why the last call on each that failed did.
-    pub(crate) read: Option<io::Error>,
-    pub(crate) write: Option<io::Error>,
-    /// How many bytes the output file has, where one was made.
-    pub(crate) held: Option<u64>,
+struct Behind<'a> {
+    status: u8,
+    // The files' names.
+    input: &'a str,
+    output: &'a str,
+    // Why the last call on each that failed did.
+    read: Option<io::Error>,
+    write: Option<io::Error>,
+    // How many bytes the output file has, where one was made.
+    held: Option<u64>,
 }
 
-/// Says why a run ended with this status, where there is more to say than the report has.
-pub(crate) fn explain<R: Eprint>(rt: &R, status: u8, words: &[String], behind: &Behind<'_>) {
-    match status {
+/// Takes the progress line away, and says why a run ended as it did, where there is more to say than the report has.
+pub fn explain<'r, R: Runtime + AllocGlobal>(rt: &R, words: &[String], ended: &MachineEnd<'r, R>) {
+    match ended {
+        Ended::Answered { .. } => {}
+        Ended::Command(ran) => {
+            ran.input.wipe();
+            explain_run(
+                rt,
+                words,
+                &Behind {
+                    status: ran.status,
+                    input: word_at(words, 1),
+                    output: word_at(words, 2),
+                    read: ran.input.source.reason(),
+                    write: ran.output.reason(),
+                    held: ran.output.held(),
+                },
+            );
+        }
+        Ended::Pipe(ran) => explain_run(
+            rt,
+            words,
+            &Behind {
+                status: ran.status,
+                input: "standard input",
+                output: word_at(words, 1),
+                read: ran.input.reason(),
+                write: ran.output.reason(),
+                held: ran.output.held(),
+            },
+        ),
+    }
+}
+
+fn explain_run<R: Eprint>(rt: &R, words: &[String], behind: &Behind<'_>) {
+    match behind.status {
         1 => explain_words(rt, words),
         2 => explain_fault(rt, behind.input, behind.read),
         3 => explain_fault(rt, behind.output, behind.write),
         _ => {}
     }
-    match (status, behind.held) {
+    match (behind.status, behind.held) {
         (2 | 3 | 5 | 6 | 7, Some(held)) if held > 0 => {
             let name = behind.output;
             let _ = eprintln!(rt; "{name}: holds the beginning alone, {held} bytes");
@@ -49,7 +95,7 @@ fn explain_words<R: Eprint>(rt: &R, words: &[String]) {
         let _ = eprintln!(rt; "a command is missing; dst_cli --help lists them");
         return;
     };
-    let Some(command) = command_of(name.as_str()) else {
+    let Some(command) = help_of(name.as_str()) else {
         let _ = eprintln!(rt; "no command is named {name}; dst_cli --help lists them");
         return;
     };
@@ -71,11 +117,6 @@ fn explain_words<R: Eprint>(rt: &R, words: &[String]) {
             )
         }
     };
-}
-
-/// The command of this name.
-pub(crate) fn command_of(name: &str) -> Option<&'static CommandHelp> {
-    COMMANDS.iter().find(|command| command.name == name)
 }
 
 // The first place that has no word.
