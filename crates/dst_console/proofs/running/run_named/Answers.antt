@@ -11,10 +11,11 @@ returns-clause-ends g c = λ file tells.
     let sink = c.dst_run-status.new.sink in
     let bytes = c.source-input.ensures.bytes ∙ ap (g.D.Devices.reads c.args.devices.now) c.word_at.ensures ∙ tells in
     let held = c.sink-output.ensures.written ∙ ap (g.D.Devices.holds c.args.devices.now) c.word_at-2.ensures in
-    let end = c.dst_run-status.ensures.ends file bytes in
-    (
-      end.0, end.1, subst (λ old. Ends words file end.0 end.1 old (g.D.Sink.Sink.written sink)) held end.2,
+    let end = c.dst_run-status.ensures.ends file bytes in (
+      end.0,
+      end.1,
+      subst (λ old. Ends words file end.0 end.1 old (g.D.Sink.Sink.written sink)) held end.2,
       subst₂ (λ reads writes. IsCaused end.0 reads (g.D.Source.Source.faults source) writes (g.D.Sink.Sink.faults sink))
-      c.source-input.ensures.faults c.sink-output.ensures.faults end.3,
-      end.4
+          c.source-input.ensures.faults c.sink-output.ensures.faults end.3,
+      end.4,
     )
