@@ -7,3 +7,4 @@ pub mod Written
 pub mod Ending
 pub mod Final
 pub mod Runs
+pub mod NoFront

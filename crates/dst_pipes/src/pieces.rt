@@ -1,7 +1,8 @@
 // A piece of a stream, decoded.
-ghost use Rattle.std.specs.Prelude.{◌≡◌, ◌≤◌, ℕ, List, Option, None, Err, IfOk};
+ghost use Rattle.std.specs.Prelude.{◌≡◌, ◌≤◌, ℕ, List, ◌++◌, Option, None, Err, IfOk};
 ghost use Rattle.std.specs.declared.alloc.AllocError.{AllocError};
 ghost use Rattle.dst_streams.specs.Causes.{Rose};
+ghost use Rattle.dsdiff_spec.specs.Streams.{stream};
 ghost use Rattle.push_decoder.specs.Decoder.{StandsFor};
 ghost use Rattle.push_decoder.specs.Events.{Answered};
 ghost use Rattle.dst_pipes.specs.States.{IsReady, Works, Wrote};
@@ -29,6 +30,9 @@ pub(crate) fn decode_piece<K: Sink>(
     ensures no_read { result ≡ Err PipeFault.Read → ⊥ }
     ensures memory { (refused : AllocError) → result ≡ Err (PipeFault.Memory refused) → (work.old ≡ None) × (sink.new ≡ sink.old) }
     ensures untouched { IfOk result (λ _. work.new ≡ None → (sink.new ≡ sink.old) × (work.old ≡ None)) }
+    ensures no_front { (taken more : List ℕ) (answered : Answered) → StandsFor decoder.old taken answered → Works answered work.old →
+        (old : Option (List ℕ)) (room : Option ℕ) → Wrote answered old (K.written sink.old) room (K.room sink.old) →
+        (stream (taken ++ (piece.now ++ more))).front ≡ None → sink.new ≡ sink.old }
     ensures ends { (taken : List ℕ) (answered : Answered) → StandsFor decoder.old taken answered → Works answered work.old →
         (old : Option (List ℕ)) (room : Option ℕ) → Wrote answered old (K.written sink.old) room (K.room sink.old) →
         PieceEnds result taken piece.now decoder.new work.new old (K.written sink.new) room (K.room sink.new) }

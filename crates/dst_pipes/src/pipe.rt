@@ -60,6 +60,8 @@ pub fn decode_pipe<F: Flow, K: Sink>(
         (room : ℕ) → K.room sink.old ≡ Some room → length o.out ≤ room → ⊥ }
     // want of memory, before anything is written
     ensures memory { (refused : AllocError) → result ≡ Err (PipeFault.Memory refused) → sink.new ≡ sink.old }
+    // a stream that ends in front of its frames: the sink isn't called
+    ensures no_front { (w : List ℕ) → F.left flow.old ≡ Some w → (stream w).front ≡ None → sink.new ≡ sink.old }
 {
     let mut decoder = match PushDecoder::new(alloc) {
         Ok(decoder) => decoder,
@@ -87,6 +89,7 @@ fn run<F: Flow, K: Sink>(
     ensures cause { IfErr result (λ fault. HasItsCause fault (F.faults flow.old) (F.faults flow.new) (K.faults sink.old) (K.faults sink.new)) }
     ensures settled { IfOk result (λ _. K.settled sink.new ≡ true) }
     ensures memory { (refused : AllocError) → result ≡ Err (PipeFault.Memory refused) → sink.new ≡ sink.old }
+    ensures no_front { (w : List ℕ) → F.left flow.old ≡ Some w → (stream w).front ≡ None → sink.new ≡ sink.old }
     ensures ends { (w : List ℕ) → F.left flow.old ≡ Some w → PipeEnds result w (K.written sink.old) (K.written sink.new) (K.room sink.old) }
 {
     let mut work = None;

@@ -1,11 +1,11 @@
 // One step of a stream: its next event, and what it asks for.
-ghost use Rattle.std.specs.Prelude.{◌≡◌, ◌+◌, ◌-◌, ◌≤◌, ◌<◌, ℕ, List, length, Option, Some, None, IfOk, IfErr, Err, Ok};
+ghost use Rattle.std.specs.Prelude.{◌≡◌, ◌+◌, ◌-◌, ◌≤◌, ◌<◌, ℕ, List, ◌++◌, length, Option, Some, None, IfOk, IfErr, Err, Ok};
 ghost use Rattle.std.specs.declared.alloc.AllocError.{AllocError};
 ghost use Rattle.dst_streams.specs.Causes.{Rose};
 ghost use Rattle.push_decoder.specs.Decoder.{StandsFor};
 ghost use Rattle.push_decoder.specs.Events.{Answered};
 ghost use Rattle.dst_pipes.specs.States.{IsReady, Works, Wrote, events_left};
-ghost use Rattle.dsdiff_spec.specs.Streams.{Front};
+ghost use Rattle.dsdiff_spec.specs.Streams.{Front, stream};
 ghost use Rattle.dst_pipes.specs.Steps.{Took, StepEnds, FrontIsTold, HasBegun, SoundEnds};
 ghost use Rattle.dst_pipes.specs.declared.work.Work.{Work};
 ghost use Rattle.dst_pipes.specs.declared.steps.Next.{Next};
@@ -95,6 +95,8 @@ pub(crate) fn decode_step<K: Sink>(
     ensures no_read { result ≡ Err PipeFault.Read → ⊥ }
     ensures memory { (refused : AllocError) → result ≡ Err (PipeFault.Memory refused) → (work.old ≡ None) × (sink.new ≡ sink.old) }
     ensures untouched { IfOk result (λ _. work.new ≡ None → (sink.new ≡ sink.old) × (work.old ≡ None)) }
+    ensures no_front { (taken more : List ℕ) (answered : Answered) → StandsFor decoder.old taken answered → Works answered work.old →
+        (stream (taken ++ (piece.now ++ more))).front ≡ None → sink.new ≡ sink.old }
     ensures ends { (taken : List ℕ) (answered : Answered) → StandsFor decoder.old taken answered → Works answered work.old →
         (old : Option (List ℕ)) (room : Option ℕ) → Wrote answered old (K.written sink.old) room (K.room sink.old) →
         StepEnds result taken piece.now decoder.new work.new old (K.written sink.new) room (K.room sink.new) }

@@ -1,7 +1,9 @@
-use Rattle.std.proofs.Common.{◌+◌, ◌++◌, take, Ok, ap, subst, ◌∙◌, arith}
+use Rattle.std.proofs.Common.{◌≡◌, ◌+◌, ◌++◌, take, None, Ok, ap, subst, ◌∙◌, arith}
+use Rattle.dsdiff_spec.specs.Streams.{stream}
 use Rattle.push_decoder.proofs.Short.{rest_of, and_more}
 use Rattle.dst_pipes.specs.Steps.{Waits, GoesOn, HasCome}
 use Rattle.dst_pipes.proofs.Moved.{stops_moved, whole_piece}
+use Rattle.dst_pipes.proofs.Runs.{split_at}
 use Rattle.dst_pipes.proofs.pieces.decode_piece.Goals as goal
 
 pub returns-in-Err-clause-ends : goal.returns-in-Err-clause-ends
@@ -32,6 +34,12 @@ loop-taken-preserved g c = record {
       subst (λ p. GoesOn p c.decode_step.new.decoder c.decode_step.new.work old (g.K.Sink.written c.decode_step.new.sink) room
       (g.K.Sink.room c.decode_step.new.sink))
       (and_more taken c.args.piece.now m c.in-Ok.taken.0) (rw (rest_of c.args.piece.now m) at ends);
+  no_front = λ taken more answered has works old room wrote none.
+      let goes = c.loop-taken.invariant.goes taken answered has works old room wrote in
+      let m = c.loop-taken.start in
+      let step = c.in-Ok.ensures.no_front (taken ++ take m c.args.piece.now) more goes.answered goes.stands goes.works in
+      (rw (rest_of c.args.piece.now m) at step) (subst (λ w. (stream w).front ≡ None) (split_at taken c.args.piece.now more m) none)
+      ∙ c.loop-taken.invariant.no_front taken more answered has works old room wrote none;
 }
 
 pub returns-in-More-clause-ends : goal.returns-in-More-clause-ends
@@ -53,3 +61,27 @@ returns-in-End-clause-ends g c taken answered has works old room wrote =
       subst (λ p. HasCome p c.decode_step.new.work old (g.K.Sink.written c.decode_step.new.sink) room (g.K.Sink.room c.decode_step.new.sink))
           (and_more taken c.args.piece.now m c.in-Ok.taken.0) (rw (rest_of c.args.piece.now m) at ends),
     )
+
+pub returns-in-Err-clause-no_front : goal.returns-in-Err-clause-no_front
+returns-in-Err-clause-no_front g c taken more answered has works old room wrote none =
+    let goes = c.loop-taken.invariant.goes taken answered has works old room wrote in
+    let m = c.loop-taken.start in
+    let step = c.in-Err.ensures.no_front (taken ++ take m c.args.piece.now) more goes.answered goes.stands goes.works in
+    (rw (rest_of c.args.piece.now m) at step) (subst (λ w. (stream w).front ≡ None) (split_at taken c.args.piece.now more m) none)
+    ∙ c.loop-taken.invariant.no_front taken more answered has works old room wrote none
+
+pub returns-in-More-clause-no_front : goal.returns-in-More-clause-no_front
+returns-in-More-clause-no_front g c taken more answered has works old room wrote none =
+    let goes = c.loop-taken.invariant.goes taken answered has works old room wrote in
+    let m = c.loop-taken.start in
+    let step = c.in-Ok.ensures.no_front (taken ++ take m c.args.piece.now) more goes.answered goes.stands goes.works in
+    (rw (rest_of c.args.piece.now m) at step) (subst (λ w. (stream w).front ≡ None) (split_at taken c.args.piece.now more m) none)
+    ∙ c.loop-taken.invariant.no_front taken more answered has works old room wrote none
+
+pub returns-in-End-clause-no_front : goal.returns-in-End-clause-no_front
+returns-in-End-clause-no_front g c taken more answered has works old room wrote none =
+    let goes = c.loop-taken.invariant.goes taken answered has works old room wrote in
+    let m = c.loop-taken.start in
+    let step = c.in-Ok.ensures.no_front (taken ++ take m c.args.piece.now) more goes.answered goes.stands goes.works in
+    (rw (rest_of c.args.piece.now m) at step) (subst (λ w. (stream w).front ≡ None) (split_at taken c.args.piece.now more m) none)
+    ∙ c.loop-taken.invariant.no_front taken more answered has works old room wrote none

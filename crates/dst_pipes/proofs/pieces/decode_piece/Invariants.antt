@@ -1,4 +1,5 @@
 use Rattle.std.proofs.Common.{◌≡◌, ℕ, ◌≤◌, List, ◌++◌, length, take, Option, None}
+use Rattle.dsdiff_spec.specs.Streams.{stream}
 use Rattle.push_decoder.specs.Decoder.{StandsFor}
 use Rattle.push_decoder.specs.Events.{Answered}
 use Rattle.dst_pipes.specs.States.{IsReady, Works, Wrote, events_left}
@@ -15,6 +16,9 @@ invariant-loop-taken g l = record {
   goes : (taken : List ℕ) (answered : Answered) → StandsFor l.fn.decoder taken answered → Works answered l.fn.work → (old : Option (List ℕ)) (room : Option ℕ) →
       Wrote answered old (g.K.Sink.written l.fn.sink) room (g.K.Sink.room l.fn.sink) →
       GoesOn (taken ++ take l.start l.piece) l.decoder l.work old (g.K.Sink.written l.sink) room (g.K.Sink.room l.sink);
+  no_front : (taken more : List ℕ) (answered : Answered) → StandsFor l.fn.decoder taken answered → Works answered l.fn.work →
+      (old : Option (List ℕ)) (room : Option ℕ) → Wrote answered old (g.K.Sink.written l.fn.sink) room (g.K.Sink.room l.fn.sink) →
+      (stream (taken ++ (l.piece ++ more))).front ≡ None → l.sink ≡ l.fn.sink;
 }
 
 abbrev pub decreases-loop-taken : goal.decreases-loop-taken

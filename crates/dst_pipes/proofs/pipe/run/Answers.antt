@@ -1,4 +1,4 @@
-use Rattle.std.proofs.Common.{◌≡◌, [], ◌++◌, take, drop, Err, refl, ap, sym, subst, ◌∙◌, arith, append-nil, append_assoc, length-append}
+use Rattle.std.proofs.Common.{◌≡◌, [], ◌++◌, take, drop, None, Err, refl, ap, sym, subst, ◌∙◌, arith, append-nil, append_assoc, length-append}
 use Rattle.std.proofs.lemmas.List.{length-take}
 use Rattle.dst_spec.specs.Bits.{AreBytes}
 use Rattle.dst_streams.specs.Told.{IsZeroAtEnd}
@@ -11,6 +11,7 @@ use Rattle.dst_pipes.specs.Endings.{IsStoppedShort, PipeEnds}
 use Rattle.dst_pipes.proofs.Waiting.{nothing_due}
 use Rattle.dst_pipes.proofs.Final.{ends_in_reading, ends_cut_off}
 use Rattle.dst_pipes.proofs.Runs.{flow_moved, split_at, piece_stops, told_most, finished, write_alone}
+use Rattle.dst_pipes.proofs.NoFront.{none_begun, no_work}
 use Rattle.dst_pipes.proofs.pipe.run.Goals as goal
 
 pub loop-read-init : goal.loop-read-init
@@ -119,3 +120,42 @@ loop-read-smaller g c =
     let long = length-take c.in-Ok.count c.next.new.out in
     let before = at.count in
     omega (arith, count, both, long, before, c.in-Ok.ensures.count, c.next.auto.out, c.if-count-eq0.false, c.taken-read.ensures.most)
+
+-- ---- no front comes
+pub returns-in_default-clause-no_front : goal.returns-in_default-clause-no_front
+returns-in_default-clause-no_front g c w told none =
+    let at = c.loop-read.invariant.waiting in
+    let flow = at.flow w told in
+    c.loop-read.invariant.untouched
+    (no_work at.waits.answered _ (at.taken ++ flow.0) (events_law c.loop-read.decoder at.taken at.waits.answered at.waits.stands flow.0) at.waits.works
+    (subst (λ v. (stream v).front ≡ None) flow.2 none))
+
+pub returns-then-count-eq0-clause-no_front : goal.returns-then-count-eq0-clause-no_front
+returns-then-count-eq0-clause-no_front g c w told none =
+    let at = c.loop-read.invariant.waiting in
+    let flow = at.flow w told in
+    c.loop-read.invariant.untouched
+    (no_work at.waits.answered _ (at.taken ++ flow.0) (events_law c.loop-read.decoder at.taken at.waits.answered at.waits.stands flow.0) at.waits.works
+    (subst (λ v. (stream v).front ≡ None) flow.2 none))
+
+pub returns-in-Ok-true-clause-no_front : goal.returns-in-Ok-true-clause-no_front
+returns-in-Ok-true-clause-no_front g c w told none =
+    let at = c.loop-read.invariant.waiting in
+    let flow = at.flow w told in
+    let piece = take c.in-Ok.count c.next.new.out in
+    let ends = rw c.in-Ok-true.field-0-test at (c.in-Ok-true.ensures.ends at.taken at.waits.answered at.waits.stands at.waits.works _ _ at.waits.wrote) in
+    let moved = flow_moved piece flow.0 _ (sym flow.1 ∙ c.in-Ok.ensures.moved) in
+    absurd (none_begun at.taken piece moved.0 ends.0 ends.1.front ends.1.frames ends.1.begins
+    (subst (λ v. (stream v).front ≡ None) (flow.2 ∙ ap (λ x. at.taken ++ x) moved.2) none))
+
+pub returns-in-Err-clause-no_front : goal.returns-in-Err-clause-no_front
+returns-in-Err-clause-no_front g c w told none =
+    let at = c.loop-read.invariant.waiting in
+    let flow = at.flow w told in
+    let piece = take c.in-Ok.count c.next.new.out in
+    let moved = flow_moved piece flow.0 _ (sym flow.1 ∙ c.in-Ok.ensures.moved) in
+    c.in-Err.ensures.no_front at.taken moved.0 at.waits.answered at.waits.stands at.waits.works _ _ at.waits.wrote
+    (subst (λ v. (stream v).front ≡ None) (flow.2 ∙ ap (λ x. at.taken ++ x) moved.2) none)
+    ∙ c.loop-read.invariant.untouched
+    (no_work at.waits.answered _ (at.taken ++ flow.0) (events_law c.loop-read.decoder at.taken at.waits.answered at.waits.stands flow.0) at.waits.works
+    (subst (λ v. (stream v).front ≡ None) flow.2 none))

@@ -4,6 +4,7 @@ use Rattle.push_decoder.proofs.Pieces.{events_law}
 use Rattle.dst_pipes.specs.States.{Works, Wrote, BeginsSo, events_left}
 use Rattle.dst_pipes.proofs.Stepping.{begins_more, told_of, begun_goes_on, begun_stops, begun_no_read, sound_works, sound_goes_on, sound_left}
 use Rattle.dst_pipes.proofs.Stepping.{sound_stops, sound_no_device, both_none, sound_some}
+use Rattle.dst_pipes.proofs.NoFront.{no_event}
 use Rattle.dst_pipes.proofs.steps.decode_step.Goals as goal
 
 pub returns-in-Err-clause-ends : goal.returns-in-Err-clause-ends
@@ -156,3 +157,23 @@ returns-in-Ok-write_sound-clause-ready g c n e =
       stands = t.stands;
       works = sound_works c.in-Frame.answer _ r.answered _ _ _ t _ _ _ _ (c.in-Ok-write_sound.ensures.sound t.work_is t.some);
     }
+
+pub returns-in-Ok-begin-clause-no_front : goal.returns-in-Ok-begin-clause-no_front
+returns-in-Ok-begin-clause-no_front g c taken more answered has works none =
+    let t = rw c.in-Head.is at (c.in-Ok.ensures.took taken answered has works) in
+    absurd (no_event c.take_step.new.decoder taken c.args.piece.now more c.in-Ok.taken.0 t.front [] t.stands none)
+
+pub returns-in-Err-begin-clause-no_front : goal.returns-in-Err-begin-clause-no_front
+returns-in-Err-begin-clause-no_front g c taken more answered has works none =
+    let t = rw c.in-Head.is at (c.in-Ok.ensures.took taken answered has works) in
+    absurd (no_event c.take_step.new.decoder taken c.args.piece.now more c.in-Ok.taken.0 t.front [] t.stands none)
+
+pub returns-in-Ok-write_sound-clause-no_front : goal.returns-in-Ok-write_sound-clause-no_front
+returns-in-Ok-write_sound-clause-no_front g c taken more answered has works none =
+    let t = rw c.in-Frame.is at (c.in-Ok.ensures.took taken answered has works) in
+    absurd (no_event c.take_step.new.decoder taken c.args.piece.now more c.in-Ok.taken.0 t.front (t.frames ++ t.frame ∷ []) t.stands none)
+
+pub returns-in-Err-write_sound-clause-no_front : goal.returns-in-Err-write_sound-clause-no_front
+returns-in-Err-write_sound-clause-no_front g c taken more answered has works none =
+    let t = rw c.in-Frame.is at (c.in-Ok.ensures.took taken answered has works) in
+    absurd (no_event c.take_step.new.decoder taken c.args.piece.now more c.in-Ok.taken.0 t.front (t.frames ++ t.frame ∷ []) t.stands none)
