@@ -7,6 +7,7 @@ ghost use Rattle.dst_streams.specs.Told.{IsCutShort, and_then};
 ghost use Rattle.dsdiff_spec.specs.declared.faults.FileFault.{FileFault};
 ghost use Rattle.dsdiff_spec.specs.Lines as reports;
 ghost use Rattle.dsdiff_spec.specs.Outcome.{Answer, frame_refused};
+ghost use Rattle.dsdiff_spec.specs.Streams.{stream};
 ghost use Rattle.stream_spec.specs.Outcome.{StreamOutcome, stream_refused};
 ghost use Rattle.dst_pipes.specs.declared.faults.PipeFault.{PipeFault};
 ghost use Rattle.pipe_tool.specs.Words as asked;
@@ -60,6 +61,8 @@ pub fn dst_pipe<F: Flow, K: Sink, R: Sink>(
         (room : ℕ) → R.room report.old ≡ Some room → 7 ≤ room → length (reports.report o.lines) ≤ room → result ≡ 7 → ⊥ }
     // Want of memory comes before the first call on the sink.
     ensures memory { result ≡ 4 → sink.new ≡ sink.old }
+    // A stream that ends in front of its frames: the sink isn't called.
+    ensures no_front { (w : List ℕ) → F.left flow.old ≡ Some w → (stream w).front ≡ None → sink.new ≡ sink.old }
     // A stream is refused by the fault that is reported, and so is a frame, behind what is written.
     ensures refused { result ≡ 5 → (w : List ℕ) → F.left flow.old ≡ Some w →
         (fault : FileFault) × (out : List ℕ) × PipeOutcome (map string_bytes words.now) w (stream_refused fault out)
