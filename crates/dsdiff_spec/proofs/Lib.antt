@@ -28,6 +28,7 @@ pub mod Wanted
 pub mod Pieces
 pub mod PassedOn
 pub mod CodedFiles
+pub mod ByRules
 pub mod Verdicts
 pub mod OneOutcome
 pub mod Stopping

@@ -1,5 +1,5 @@
 -- Rules in order: what the ones before leave, and the first that fails.
-use Rattle.std.proofs.Common.{◌≡◌, ℕ, ◌<◌, List, true, false, Option, Some, None, Result, Ok, Err, refl, ap, ◌∙◌}
+use Rattle.std.proofs.Common.{◌≡◌, ℕ, ◌<◌, List, true, false, Option, Some, None, Result, refl, ap, ◌∙◌}
 use Rattle.std.specs.Prelude.{not}
 use Rattle.std.proofs.lemmas.Bool.{ltb-true, not-false}
 use Rattle.dst_streams.specs.Causes.{Rose}
@@ -7,12 +7,12 @@ use Rattle.dsdiff_spec.specs.Bytes.{◌above◌}
 use Rattle.dsdiff_spec.specs.Faults.{◌when◌, ◌otherwise◌}
 use Rattle.dsdiff_spec.specs.Form.{Form, plain, coded, is_plain}
 use Rattle.dsdiff_spec.specs.Refusal.{command_fault, form_refusal, no_frame, not_coded, refusal}
-use Rattle.dsdiff_spec.specs.Rules.{form_fault, form, accepted}
-use Rattle.dsdiff_spec.specs.Walk.{Entry, by_index_fault, entries, walk, walk_fault}
+use Rattle.dsdiff_spec.specs.Rules.{form}
+use Rattle.dsdiff_spec.specs.Walk.{by_index_fault}
 use Rattle.dsdiff_spec.specs.Words.{Command, check, decode, frame, index, show, show_frame}
 use Rattle.dsdiff_spec.specs.declared.faults.FileFault.{FileFault}
 use Rattle.dsdiff_spec.specs.declared.faults.FileFault.TheVariants.{NotCoded, Range}
-use Rattle.dsdiff_spec.proofs.CodedFiles.{form_by, refused_by}
+use Rattle.dsdiff_spec.proofs.CodedFiles.{refused_by}
 use Rattle.dsdiff_spec.proofs.Lawful.{when_not}
 use Rattle.dsdiff_chunks.specs.declared.open.OpenFault.{OpenFault}
 use Rattle.dsdiff_chunks.specs.declared.open.OpenFault.TheVariants.{Read, Memory, File}
@@ -22,13 +22,6 @@ pub then_is : (a b : Option FileFault) → a ≡ None → (a otherwise b) ≡ b
 then_is a b e = ap (λ a. a otherwise b) e
 
 -- ---- the rules of the form in front of those of a command
-pub accepted_is : (file : List ℕ) (f : Form) → form file ≡ Ok f → accepted file ≡ f
-accepted_is file f e = go (form_fault file) e
-  where
-    go : (o : Option FileFault) → form_by o file ≡ Ok f → accepted file ≡ f
-    go (Some fault) e = absurd cc
-    go None e = cc
-
 pub refusal_of : (c : Command) (file : List ℕ) (r : Result Form FileFault) → form file ≡ r → form_refusal c file ≡ refused_by r c file
 refusal_of c file r e = ap (λ r. refused_by r c file) e
 
@@ -38,27 +31,6 @@ coded_passes f e = ap (λ k. NotCoded when is_plain k) e
 
 pub plain_fails : (f : Form) → f.kind ≡ plain → not_coded f ≡ Some NotCoded
 plain_fails f e = ap (λ k. NotCoded when is_plain k) e
-
--- ---- the walk
-abbrev pub walk_by : Option FileFault → List ℕ → Form → Result (List Entry) FileFault
-walk_by o file f = elim o [ Some fault ↦ Err fault | None ↦ Ok (entries file f) ]
-
-pub walk_passes : (file : List ℕ) (f : Form) (es : List Entry) → walk file f ≡ Ok es → (walk_fault file f ≡ None) × (entries file f ≡ es)
-walk_passes file f es e = go (walk_fault file f) refl e
-  where
-    go : (o : Option FileFault) → walk_fault file f ≡ o → walk_by o file f ≡ Ok es → (walk_fault file f ≡ None) × (entries file f ≡ es)
-    go (Some fault) is e = absurd cc
-    go None is e = (is, cc)
-
-pub walk_fails : (file : List ℕ) (f : Form) (fault : FileFault) → walk file f ≡ Err fault → walk_fault file f ≡ Some fault
-walk_fails file f fault e = go (walk_fault file f) refl e
-  where
-    go : (o : Option FileFault) → walk_fault file f ≡ o → walk_by o file f ≡ Err fault → walk_fault file f ≡ Some fault
-    go (Some other) is e = cc
-    go None is e = absurd cc
-
-pub walk_is : (file : List ℕ) (f : Form) (es : List Entry) → walk_fault file f ≡ None → entries file f ≡ es → walk file f ≡ Ok es
-walk_is file f es none is = ap (λ o. walk_by o file f) none ∙ ap Ok is
 
 -- ---- a number that names a frame
 pub names_one : (k frames : ℕ) → no_frame k frames ≡ None → k < frames

@@ -155,6 +155,7 @@ impl RangeReader {
         ensures frame { (k : ℕ) (fault : FrameFault) → result ≡ Err (RangeFault.Frame k fault) →
             IsRefusedAt self.old (wanted self.old from (length out.old)) (order self.new) (S.bytes source.old) k fault }
         ensures read { result ≡ Err RangeFault.Read → Rose (S.faults source.old) (S.faults source.new) }
+        ensures quiet { OnOk result (S.faults source.new ≡ S.faults source.old) }
         ensures part_way { OnErr result (IsPartWay self.old (wanted self.old from (length out.old)) (order self.new)) }
     {
         let bytes = self.frame_bytes();
@@ -202,6 +203,7 @@ impl RangeReader {
         ensures not_kept { OnErr result (is_kept (order self.old) frame ≡ false) }
         ensures fault { (k : ℕ) (fault : FrameFault) → result ≡ Err (RangeFault.Frame k fault) → (k ≡ frame) × ((file : List ℕ) → S.bytes source.old ≡ Some file → Offends self.old.shape (frame_in file self.old frame) fault) }
         ensures read { result ≡ Err RangeFault.Read → Rose (S.faults source.old) (S.faults source.new) }
+        ensures quiet { OnOk result (S.faults source.new ≡ S.faults source.old) }
     {
         let _frames = self.index.length();
         let number = frame as u32;
@@ -249,6 +251,7 @@ fn decode_entry<S: Source>(
     ensures means { OnOk result ((file : List ℕ) → S.bytes source.old ≡ Some file → Means channels (frame_at file (entry_seen entry)) sound.new) }
     ensures fault { (k : ℕ) (fault : FrameFault) → result ≡ Err (RangeFault.Frame k fault) → (k ≡ frame) × ((file : List ℕ) → S.bytes source.old ≡ Some file → Offends channels (frame_at file (entry_seen entry)) fault) }
     ensures read { result ≡ Err RangeFault.Read → Rose (S.faults source.old) (S.faults source.new) }
+    ensures quiet { OnOk result (S.faults source.new ≡ S.faults source.old) }
     ensures scratch { scratch.new.channels ≡ scratch.old.channels }
 {
     let _bytes = channels.sound_bytes();

@@ -3,7 +3,8 @@ use Rattle.std.proofs.Common.{Err, Ok, ap, ◌∙◌}
 use Rattle.dsdiff_spec.specs.Refusal.{form_refusal}
 use Rattle.dsdiff_chunks.specs.Forms.{form_seen}
 use Rattle.dsdiff_chunks.proofs.Stopping.{Stops-in}
-use Rattle.dst_commands.proofs.InOrder.{accepted_is, refusal_of, stops_by}
+use Rattle.dsdiff_spec.proofs.ByRules.{accepted_is}
+use Rattle.dst_commands.proofs.InOrder.{refusal_of, stops_by}
 use Rattle.dst_commands.proofs.opening.open_file.Goals as goal
 
 pub returns-in-Err-clause-stops : goal.returns-in-Err-clause-stops

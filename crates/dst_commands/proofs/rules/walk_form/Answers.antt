@@ -1,7 +1,8 @@
 use Rattle.std.proofs.Common.{Err, ap}
 use Rattle.dsdiff_spec.specs.Walk.{walk_fault}
 use Rattle.dsdiff_chunks.specs.Forms.{coded_seen}
-use Rattle.dst_commands.proofs.InOrder.{stops_by, walk_fails, walk_passes}
+use Rattle.dsdiff_spec.proofs.ByRules.{walk_fails, walk_passes}
+use Rattle.dst_commands.proofs.InOrder.{stops_by}
 use Rattle.dst_commands.proofs.rules.walk_form.Goals as goal
 
 pub returns-in-Ok-clause-passes : goal.returns-in-Ok-clause-passes

@@ -3,7 +3,8 @@ use Rattle.std.proofs.Common.{◌≡◌, ℕ, Result, refl, sym, ap, ◌∙◌, 
 use Rattle.dsdiff_spec.specs.Form.{Form}
 use Rattle.dsdiff_chunks.specs.Forms.{coded_seen, form_seen}
 use Rattle.dsdiff_chunks.specs.declared.open.OpenFault.{OpenFault}
-use Rattle.uses.proofs.Walked.{accepted_is, no_form, not_coded_form, no_walk, walked}
+use Rattle.dsdiff_spec.proofs.ByRules.{accepted_is}
+use Rattle.uses.proofs.Walked.{no_form, not_coded_form, no_walk, walked}
 use Rattle.uses.proofs.files.frames_of_file.Goals as goal
 
 same : (a b : OpenFault) → ◌≡◌ {A = Result ℕ OpenFault} (Err a) (Err b) → a ≡ b

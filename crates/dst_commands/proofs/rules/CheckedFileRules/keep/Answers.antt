@@ -7,7 +7,8 @@ use Rattle.dsdiff_spec.specs.Words.{check}
 use Rattle.dsdiff_chunks.specs.Forms.{coded_seen, form_seen}
 use Rattle.dsdiff_chunks.specs.declared.form.Form.{Form}
 use Rattle.dsdiff_chunks.specs.Opening.{Stops}
-use Rattle.dst_commands.proofs.InOrder.{stops_by, then_is, walk_is}
+use Rattle.dsdiff_spec.proofs.ByRules.{walk_is}
+use Rattle.dst_commands.proofs.InOrder.{stops_by, then_is}
 use Rattle.dst_commands.proofs.rules.CheckedFileRules.keep.Goals as goal
 
 pub returns-in-Err-check_index-clause-stops : goal.returns-in-Err-check_index-clause-stops

@@ -14,6 +14,7 @@ invariant-loop-frame g l = record {
   bytes : g.S.Source.bytes l.source ≡ g.S.Source.bytes l.initial.source;
   known : g.S.Source.known l.source ≡ g.S.Source.known l.initial.source;
   later : g.S.Source.faults l.initial.source ≤ g.S.Source.faults l.source;
+  quiet : g.S.Source.faults l.source ≡ g.S.Source.faults l.initial.source;
   long : length l.out ≡ length l.initial.out;
   wanted : HasWanted l.initial.self l.self (range_with_len (l.from / l.bytes) (l.frame - l.from / l.bytes)) l.decoded
       (g.S.Source.bytes l.initial.source) (g.S.Source.given l.initial.source) (g.S.Source.given l.source);
