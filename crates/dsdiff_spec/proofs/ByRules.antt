@@ -1,4 +1,4 @@
--- What follows from a form that opens, and from a walk that ends or fails.
+-- What follows from a form that opens, from a file that is accepted, and from a walk that ends or fails.
 use Rattle.std.proofs.Common.{◌≡◌, ℕ, List, Option, Some, None, Result, Ok, Err, refl, ap, ◌∙◌}
 use Rattle.dsdiff_spec.specs.Form.{Form}
 use Rattle.dsdiff_spec.specs.Rules.{form_fault, form, accepted}
@@ -12,6 +12,10 @@ accepted_is file f e = go (form_fault file) e
     go : (o : Option FileFault) → form_by o file ≡ Ok f → accepted file ≡ f
     go (Some fault) e = absurd cc
     go None e = cc
+
+-- a file that is accepted isn't refused
+pub not_refused : (refusal : Option FileFault) (fault : FileFault) → refusal ≡ None → refusal ≡ Some fault → ⊥
+not_refused refusal fault e h = absurd (let never : None ≡ Some fault = cc in cc)
 
 abbrev walk_by : Option FileFault → List ℕ → Form → Result (List Entry) FileFault
 walk_by o file f = elim o [ Some fault ↦ Err fault | None ↦ Ok (entries file f) ]

@@ -64,6 +64,7 @@ pub fn cut_file<S: Source, K: Sink>(
     // a refused file, before anything is written
     ensures file { (fault : FileFault) → result ≡ Err (CutFault.Source (OpenFault.File fault)) → (file : List ℕ) → S.bytes source.old ≡ Some file → refusal (words.cut first last) file ≡ Some fault }
     ensures untouched { (fault : FileFault) → result ≡ Err (CutFault.Source (OpenFault.File fault)) → sink.new ≡ sink.old }
+    ensures refused { (file : List ℕ) → S.bytes source.old ≡ Some file → (fault : FileFault) → refusal (words.cut first last) file ≡ Some fault → sink.new ≡ sink.old }
     // failed devices, each by its cause; what is written then is a prefix of the defined output
     ensures read { result ≡ Err (CutFault.Source OpenFault.Read) → Rose (S.faults source.old) (S.faults source.new) }
     ensures write { result ≡ Err CutFault.Write → Rose (K.faults sink.old) (K.faults sink.new) }

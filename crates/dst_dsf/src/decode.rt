@@ -56,6 +56,7 @@ pub fn decode_dsf<R: Threads + Sync, S: Source, K: Sink, G: Gate>(
     // a refused file, before anything is written
     ensures file { (fault : FileFault) → result ≡ Err (DecodeFault.Source (OpenFault.File fault)) → (file : List ℕ) → S.bytes source.old ≡ Some file → refusal words.decode_dsf file ≡ Some fault }
     ensures untouched { (fault : FileFault) → result ≡ Err (DecodeFault.Source (OpenFault.File fault)) → sink.new ≡ sink.old }
+    ensures refused { (file : List ℕ) → S.bytes source.old ≡ Some file → (fault : FileFault) → refusal words.decode_dsf file ≡ Some fault → sink.new ≡ sink.old }
     // a refused frame, behind the rows that the sounds of all earlier ones fill
     ensures frame { (k : ℕ) (fault : FrameFault) → result ≡ Err (DecodeFault.Frame k fault) → (file : List ℕ) → S.bytes source.old ≡ Some file →
         (out : List ℕ) × OutcomeOf words.decode_dsf file (frame_refused k fault out) × (K.written sink.new ≡ and_then (K.written sink.old) out) }

@@ -57,6 +57,7 @@ pub fn range_out<S: Source, K: Sink>(
     // a refused file, before anything is written
     ensures file { (fault : FileFault) → result ≡ Err (DecodeFault.Source (OpenFault.File fault)) → (file : List ℕ) → S.bytes source.old ≡ Some file → refusal (words.range pairs.now) file ≡ Some fault }
     ensures untouched { (fault : FileFault) → result ≡ Err (DecodeFault.Source (OpenFault.File fault)) → sink.new ≡ sink.old }
+    ensures refused { (file : List ℕ) → S.bytes source.old ≡ Some file → (fault : FileFault) → refusal (words.range pairs.now) file ≡ Some fault → sink.new ≡ sink.old }
     // a refused frame, behind all that stands before its part
     ensures frame { (k : ℕ) (fault : FrameFault) → result ≡ Err (DecodeFault.Frame k fault) → (file : List ℕ) → S.bytes source.old ≡ Some file →
         (out : List ℕ) × OutcomeOf (words.range pairs.now) file (frame_refused k fault out) × (K.written sink.new ≡ and_then (K.written sink.old) out) }

@@ -50,6 +50,7 @@ pub fn decode_file<R: Threads + Sync, S: Source, K: Sink, G: Gate>(
     // a refused file, before anything is written
     ensures file { (fault : FileFault) → result ≡ Err (DecodeFault.Source (OpenFault.File fault)) → (file : List ℕ) → S.bytes source.old ≡ Some file → refusal decode file ≡ Some fault }
     ensures untouched { (fault : FileFault) → result ≡ Err (DecodeFault.Source (OpenFault.File fault)) → sink.new ≡ sink.old }
+    ensures refused { (file : List ℕ) → S.bytes source.old ≡ Some file → (fault : FileFault) → refusal decode file ≡ Some fault → sink.new ≡ sink.old }
     // a refused frame, behind the sounds of all earlier ones
     ensures frame { (k : ℕ) (fault : FrameFault) → result ≡ Err (DecodeFault.Frame k fault) → (file : List ℕ) → S.bytes source.old ≡ Some file →
         (out : List ℕ) × OutcomeOf decode file (frame_refused k fault out) × (K.written sink.new ≡ and_then (K.written sink.old) out) }

@@ -57,6 +57,7 @@ pub fn frame_out<S: Source, K: Sink>(
         (room : ℕ) → K.room sink.old ≡ Some room → length o.out ≤ room → ⊥ }
     // every other refusal comes before the first byte
     ensures untouched { (fault : DecodeFault) → result ≡ Err fault → (fault ≢ DecodeFault.Write) → sink.new ≡ sink.old }
+    ensures refused { (file : List ℕ) → S.bytes source.old ≡ Some file → (fault : FileFault) → refusal (words.frame frame by_index) file ≡ Some fault → sink.new ≡ sink.old }
     // by the index little is read
     ensures given { by_index ≡ true → (file : List ℕ) → S.bytes source.old ≡ Some file → S.given source.new ≤ S.given source.old + 208974 + 2 * sound_bytes_of (accepted file) }
     ensures given_any { by_index ≡ true → S.given source.new ≤ S.given source.old + 208974 + 225792 }

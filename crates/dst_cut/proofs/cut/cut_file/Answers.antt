@@ -3,6 +3,7 @@ use Rattle.std.proofs.Common.{◌≡◌, Result, Err, ap, subst, ◌∙◌, arit
 use Rattle.dsdiff_spec.specs.Form.{Form}
 use Rattle.dsdiff_spec.specs.Refusal.{form_refusal}
 use Rattle.dsdiff_spec.specs.Words as words
+use Rattle.dsdiff_spec.proofs.ByRules.{not_refused}
 use Rattle.dsdiff_chunks.specs.declared.open.OpenFault.{OpenFault}
 use Rattle.dsdiff_chunks.specs.Opening as opening
 use Rattle.dst_cut.specs.Cutting.{cut_bytes}
@@ -26,6 +27,15 @@ pub returns-in-Err-clause-cut_short : goal.returns-in-Err-clause-cut_short
 returns-in-Err-clause-cut_short g c e file told = cut_nothing file c.args.first c.args.last (g.K.Sink.written c.args.sink.now)
 
 -- ---- of writing
+-- a file that is written from isn't refused
+pub returns-in-Ok-write_cut-clause-refused : goal.returns-in-Ok-write_cut-clause-refused
+returns-in-Ok-write_cut-clause-refused g c file told fault e =
+    absurd (not_refused _ fault (rules_of_cut c.args.first c.args.last file ∙ c.in-Ok.ensures.accepted file told) e)
+
+pub returns-clause-refused : goal.returns-clause-refused
+returns-clause-refused g c file told fault e =
+    absurd (not_refused _ fault (rules_of_cut c.args.first c.args.last file ∙ c.in-Ok.ensures.accepted file told) e)
+
 pub returns-in-Ok-write_cut-clause-cut : goal.returns-in-Ok-write_cut-clause-cut
 returns-in-Ok-write_cut-clause-cut g c file told =
     let cut = c.in-Ok.cut in

@@ -7,6 +7,7 @@ use Rattle.dsdiff_spec.specs.Rules.{accepted}
 use Rattle.dsdiff_spec.specs.Lines.{decoded_line}
 use Rattle.dsdiff_spec.specs.Outcome.{done}
 use Rattle.dsdiff_spec.specs.Words.{decode_dsf}
+use Rattle.dsdiff_spec.proofs.ByRules.{not_refused}
 use Rattle.dsdiff_chunks.specs.declared.open.OpenFault.{OpenFault}
 use Rattle.dsdiff_chunks.specs.Opening as opening
 use Rattle.dst_commands.specs.Commands.{OutcomeOf}
@@ -38,6 +39,10 @@ returns-in-Err-clause-cut_short g c e file told =
     nothing_written file (g.K.Sink.written c.args.sink.now) (g.met.S.Source.told_are_bytes c.args.source.now file told)
 
 -- ---- of writing
+-- a file that is written from isn't refused
+pub returns-clause-refused : goal.returns-clause-refused
+returns-clause-refused g c file told fault e = absurd (not_refused _ fault (rules_of_decode_dsf file ∙ c.in-Ok.ensures.accepted file told) e)
+
 pub write_decoded-requires-clause-walked : goal.write_decoded-requires-clause-walked
 write_decoded-requires-clause-walked g c κs within file told =
     let told_before = sym c.in-Ok.ensures.bytes ∙ told in

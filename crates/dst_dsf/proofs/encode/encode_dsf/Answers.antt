@@ -3,7 +3,7 @@ use Rattle.std.proofs.Common.{◌≡◌, ℕ, List, Option, Some, None, Result, 
 use Rattle.dsdiff_spec.specs.Dsf.{dsdiff, dsf_fault}
 use Rattle.dsdiff_spec.specs.Refusal.{refusal}
 use Rattle.dsdiff_spec.specs.Words.{encode_dsf}
-use Rattle.dsdiff_spec.specs.declared.faults.FileFault.{FileFault}
+use Rattle.dsdiff_spec.proofs.ByRules.{not_refused}
 use Rattle.dsdiff_chunks.specs.declared.open.OpenFault.{OpenFault}
 use Rattle.dsf_files.specs.Standing.{plain_of}
 use Rattle.dst_write.specs.declared.faults.EncodeFault.{EncodeFault}
@@ -28,9 +28,6 @@ if_told : (r : Result Encoded EncodeFault) (P : Encoded → List ℕ → Type 0)
     IfOk r (λ e. (file : List ℕ) → bytes ≡ Some file → P e (dsdiff file))
 if_told (Ok e) P bytes plain stands h = λ file told. h (dsdiff file) (stands file told)
 if_told (Err fault) P bytes plain stands h = tt {0}
-
-not_both : (a : Option FileFault) (fault : FileFault) → a ≡ None → a ≡ Some fault → ⊥
-not_both a fault e h = absurd (let never : None ≡ Some fault = cc in cc)
 
 pub returns-in-Err-clause-file : goal.returns-in-Err-clause-file
 returns-in-Err-clause-file g c fault e file told level =
@@ -60,7 +57,7 @@ pub returns-clause-file : goal.returns-clause-file
 returns-clause-file g c fault e file told level =
     let stands = c.new-plain.ensures.bytes ∙ ap plain_of (c.in-Ok.ensures.bytes ∙ told) in
     let bytes = g.met.S.Source.told_are_bytes c.args.source.now file told in
-    absurd (not_both _ fault (c.plain_form_is_accepted.ensures file bytes (c.in-Ok.ensures.form file told).accepted level)
+    absurd (not_refused _ fault (c.plain_form_is_accepted.ensures file bytes (c.in-Ok.ensures.form file told).accepted level)
     (c.encode_file.ensures.file fault e (dsdiff file) stands level))
 
 pub returns-clause-sure : goal.returns-clause-sure
@@ -72,4 +69,4 @@ returns-clause-write_accepted g c e file told level = rules_of_dsf level file �
 
 pub returns-clause-refused : goal.returns-clause-refused
 returns-clause-refused g c file told level fault e =
-    absurd (not_both (dsf_fault file) fault (c.in-Ok.ensures.form file told).accepted (sym (rules_of_dsf level file) ∙ e))
+    absurd (not_refused (dsf_fault file) fault (c.in-Ok.ensures.form file told).accepted (sym (rules_of_dsf level file) ∙ e))

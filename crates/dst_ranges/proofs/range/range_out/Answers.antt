@@ -6,6 +6,7 @@ use Rattle.dsdiff_spec.specs.Rules.{accepted}
 use Rattle.dsdiff_spec.specs.Lines.{range_line}
 use Rattle.dsdiff_spec.specs.Outcome.{done}
 use Rattle.dsdiff_spec.specs.Words.{range}
+use Rattle.dsdiff_spec.proofs.ByRules.{not_refused}
 use Rattle.dst_commands.specs.Commands.{OutcomeOf}
 use Rattle.dst_read.specs.declared.faults.DecodeFault.{DecodeFault}
 use Rattle.dst_ranges.specs.Asked.{bytes_read}
@@ -20,6 +21,10 @@ returns-in-Err-clause-cut_short g c e file told =
     nothing_written c.args.pairs.now file (g.K.Sink.written c.args.sink.now) (g.met.S.Source.told_are_bytes c.args.source.now file told)
 
 -- ---- of writing
+-- a file that is written from isn't refused
+pub returns-clause-refused : goal.returns-clause-refused
+returns-clause-refused g c file told fault e = absurd (not_refused _ fault (c.in-Ok.ensures.opened file told).accepts e)
+
 if_written : (r : Result RangeWritten DecodeFault) (pairs : List (ℕ × ℕ)) (bytes : Option (List ℕ)) (old new : Option (List ℕ)) (room : Option ℕ) →
     ((file : List ℕ) → bytes ≡ Some file → RangeEnds r pairs file old new room) →
     IfOk r (λ s. (file : List ℕ) → bytes ≡ Some file →

@@ -7,6 +7,7 @@ use Rattle.dsdiff_spec.specs.Rules.{accepted}
 use Rattle.dsdiff_spec.specs.Lines.{decoded_line}
 use Rattle.dsdiff_spec.specs.Outcome.{done}
 use Rattle.dsdiff_spec.specs.Words.{decode, index}
+use Rattle.dsdiff_spec.proofs.ByRules.{not_refused}
 use Rattle.dsdiff_chunks.specs.declared.open.OpenFault.{OpenFault}
 use Rattle.dsdiff_chunks.specs.Opening as opening
 use Rattle.dst_commands.specs.Commands.{OutcomeOf}
@@ -43,6 +44,10 @@ write_decoded-requires-clause-opened g c κs within file told =
     let told_before = sym c.in-Ok.ensures.bytes ∙ told in
     let is = c.in-Ok.ensures.opened file told_before in
     record { accepts = rules_of_decode file ∙ c.in-Ok.ensures.accepted file told_before; form_is = is.form_is; entries_are = is.entries_are }
+
+-- a file that is written from isn't refused
+pub returns-clause-refused : goal.returns-clause-refused
+returns-clause-refused g c file told fault e = absurd (not_refused _ fault (rules_of_decode file ∙ c.in-Ok.ensures.accepted file told) e)
 
 if_decoded : (r : Result Decoded DecodeFault) (bytes : Option (List ℕ)) (old new : Option (List ℕ)) (room : Option ℕ) →
     ((file : List ℕ) → bytes ≡ Some file → DecodingEnds r file old new room) →

@@ -5,6 +5,7 @@ use Rattle.dsdiff_spec.specs.Lines.{frame_line}
 use Rattle.dsdiff_spec.specs.Outcome.{done, frame_refused}
 use Rattle.dsdiff_spec.specs.Refusal.{refusal}
 use Rattle.dsdiff_spec.specs.Words.{frame}
+use Rattle.dsdiff_spec.proofs.ByRules.{not_refused}
 use Rattle.dsdiff_chunks.specs.declared.open.OpenFault.{OpenFault}
 use Rattle.dsdiff_chunks.specs.Opening as opening
 use Rattle.frame_index.specs.Entries.{entry_seen}
@@ -45,6 +46,13 @@ returns-in-Err-read_sound-clause-frame g c k fault e file told =
     subst (λ k. OutcomeOf (frame c.args.frame c.args.by_index) file (frame_refused k fault [])) (sym refused.0)
     (sound_is_refused file found c.args.frame c.args.by_index fault (c.in-Ok.ensures.accepted file told) (c.in-Ok.ensures.found file told)
     (refused.1 file (c.in-Ok.ensures.bytes ∙ told)))
+
+-- a file whose frame is written isn't refused
+pub returns-in-Ok-write_sound-clause-refused : goal.returns-in-Ok-write_sound-clause-refused
+returns-in-Ok-write_sound-clause-refused g c file told fault e = absurd (not_refused _ fault (c.in-Ok.ensures.accepted file told) e)
+
+pub returns-clause-refused : goal.returns-clause-refused
+returns-clause-refused g c file told fault e = absurd (not_refused _ fault (c.in-Ok.ensures.accepted file told) e)
 
 pub returns-in-Ok-write_sound-clause-written : goal.returns-in-Ok-write_sound-clause-written
 returns-in-Ok-write_sound-clause-written g c file told =

@@ -5,7 +5,7 @@ use Rattle.dsdiff_spec.specs.Coded.{Picks, coded, stored_bytes}
 use Rattle.dsdiff_spec.specs.Refusal.{form_refusal, refusal}
 use Rattle.dsdiff_spec.specs.Rules.{accepted}
 use Rattle.dsdiff_spec.specs.Words.{encode}
-use Rattle.dsdiff_spec.specs.declared.faults.FileFault.{FileFault}
+use Rattle.dsdiff_spec.proofs.ByRules.{not_refused}
 use Rattle.dsdiff_chunks.specs.Forms.{plain_seen}
 use Rattle.dsdiff_chunks.specs.declared.open.OpenFault.{OpenFault}
 use Rattle.dsdiff_chunks.specs.Opening as opening
@@ -92,10 +92,6 @@ returns-clause-sure g c e file told =
     (ends_with c.write_encoded.result _ (g.P.Picker.picks c.args.picker.now) file (plain_seen c.in-Ok.form) (accepted file)
     (g.K.Sink.written c.args.sink.now) (g.K.Sink.written c.write_encoded.new.sink) (g.K.Sink.room c.args.sink.now) e (c.in-Ok.ensures.opened file told)
     (c.write_encoded.ensures.written file (c.in-Ok.ensures.bytes ∙ told))).lacks refl
-
--- a file that is accepted isn't refused
-not_refused : (a : Option FileFault) (fault : FileFault) → a ≡ None → a ≡ Some fault → ⊥
-not_refused a fault e h = absurd (let never : None ≡ Some fault = cc in cc)
 
 pub returns-clause-refused : goal.returns-clause-refused
 returns-clause-refused g c file told level fault e =
