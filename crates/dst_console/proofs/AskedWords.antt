@@ -1,8 +1,9 @@
 -- Words that ask for help or the version, those that don't, and the words that name files.
-use Rattle.std.proofs.Common.{◌≡◌, [], ◌∷◌, refl, true, false, Some, None}
+use Rattle.std.proofs.Common.{◌≡◌, [], ◌∷◌, length, map, replicate, refl, true, false, Some, None}
 use Rattle.std.specs.Prelude.{codes}
+use Rattle.words_spec.specs.Rows.{Row, rows}
 use Rattle.words_spec.proofs.Commands.{words}
-use Rattle.dst_console.specs.Words.{asked_of, begins_a_pipe, word_of}
+use Rattle.dst_console.specs.Words.{asked_of, begins_a_pipe, has_help, word_of}
 use Rattle.dst_console.specs.declared.asking.Asked.TheVariants.{Help, Version, HelpOf}
 
 -- ---- what is asked of the program itself
@@ -14,6 +15,16 @@ one_word_asks_for_the_version = refl
 
 pub name_and_help_ask_for_its_help : asked_of (words ("decode" ∷ "--help" ∷ [])) ≡ Some HelpOf
 name_and_help_ask_for_its_help = refl
+
+pub pipe_and_help_ask_for_its_help : asked_of (words ("pipe" ∷ "--help" ∷ [])) ≡ Some HelpOf
+pipe_and_help_ask_for_its_help = refl
+
+pub no_name_and_help_ask_for_nothing : asked_of (words ("pip" ∷ "--help" ∷ [])) ≡ None
+no_name_and_help_ask_for_nothing = refl
+
+-- each command has a help of its own
+pub every_row_has_help : map (λ (r : Row). has_help (codes r.name)) rows ≡ replicate (length rows) true
+every_row_has_help = refl
 
 pub no_words_ask_for_nothing : asked_of (words []) ≡ None
 no_words_ask_for_nothing = refl

@@ -3,6 +3,8 @@ ghost use Rattle.std.specs.Prelude.{◌≡◌, map};
 ghost use Rattle.std.specs.String.{string_bytes};
 ghost use Rattle.dst_console.specs.Words.{asked_of, word_of};
 
+use crate::help::help_of;
+
 /// What is asked of the program itself.
 #[derive(Clone, Copy, Debug, PartialEq, Eq)]
 pub enum Asked {
@@ -10,7 +12,7 @@ pub enum Asked {
     Help,
     /// The program's name and version.
     Version,
-    /// The help of the command that the first word names.
+    /// The help of the command, or of the pipe, that the first word names.
     HelpOf,
 }
 
@@ -21,7 +23,10 @@ pub fn what_is_asked(words: &[String]) -> Option<Asked>
     match words {
         [word] if word.as_str() == "--help" => Some(Asked::Help),
         [word] if word.as_str() == "--version" => Some(Asked::Version),
-        [_, word] if word.as_str() == "--help" => Some(Asked::HelpOf),
+        [name, word] if word.as_str() == "--help" => {
+            help_of(name.as_str())?;
+            Some(Asked::HelpOf)
+        }
         _ => None,
     }
 }

@@ -3,15 +3,16 @@ ghost use Rattle.std.specs.Prelude.{◌≡◌, ◌≢◌, ◌⊎◌, ◌≤◌, 
 ghost use Rattle.std.specs.String.{string_bytes};
 ghost use Rattle.dst_streams.specs.Causes.{Rose};
 ghost use Rattle.dst_streams.specs.Told.{and_then};
+ghost use Rattle.dsdiff_spec.specs.declared.faults.FileFault.{FileFault};
+ghost use Rattle.dsdiff_spec.specs.Streams.{stream};
 ghost use Rattle.dsdiff_spec.specs.Words.{Command};
 ghost use Rattle.dsdiff_spec.specs.Lines as reports;
 ghost use Rattle.words_spec.specs.Rows.{command_of};
-ghost use Rattle.dst_tool.specs.Runs.{DidNotRise, NoFrameIsRefused, Ends, IsCaused, Reports, ReadsNothing, WritesFile, WritesNowhere};
+ghost use Rattle.dst_tool.specs.Runs.{DidNotRise, NoFrameIsRefused, Ends, IsCaused, IsRefused, Reports, ReadsNothing, WritesFile, WritesNowhere};
 ghost use Rattle.pipe_tool.specs.Runs as pipes;
 ghost use Rattle.pipe_tool.specs.Words.{is_pipe};
 ghost use Rattle.dst_console.specs.Words.{asked_of, begins_a_pipe, word_of};
 ghost use Rattle.dst_console.specs.Ends.{IsAnswered, IsCommand, IsPipe, IfCommand, IfPipe, status_of, MeansOutcome, MeansPipeOutcome};
-ghost use Rattle.dst_console.specs.declared.asking.Asked.TheVariants.{Help, Version};
 
 use crate::asking::{Asked, what_is_asked, word_at};
 use crate::ended::Ended;
@@ -33,7 +34,7 @@ pub fn run_words<'n, E: Threads + Sync, D: Devices<'n>, R: Sink>(
 ) -> Ended<D::Source, D::Flow, D::Sink>
     // Words that ask for help or the version are answered; of those that ask for nothing of the program itself, words that begin with `pipe` decode a
     // stream, and all others are a command's.
-    ensures asked { (asked_of (map string_bytes words.now) ≡ Some Help) ⊎ (asked_of (map string_bytes words.now) ≡ Some Version) → IsAnswered result }
+    ensures asked { asked_of (map string_bytes words.now) ≢ None → IsAnswered result }
     ensures pipe_words { asked_of (map string_bytes words.now) ≡ None → begins_a_pipe (map string_bytes words.now) ≡ true → IsPipe result }
     ensures command_words { asked_of (map string_bytes words.now) ≡ None → begins_a_pipe (map string_bytes words.now) ≡ false → IsCommand result }
     // Where no count of faults rose, a command's status is that of the one outcome of the words and the source of word 1, as are what the sink of word 2
@@ -62,8 +63,8 @@ pub fn run_words<'n, E: Threads + Sync, D: Devices<'n>, R: Sink>(
     ensures pipe_ends { IfPipe result (λ ran. (w : List ℕ) → D.flows devices.now ≡ Some w →
         (status : ℕ) × (lines : List reports.Line) × pipes.Ends (map string_bytes words.now) w status lines (D.holds devices.now (word_of (map string_bytes words.now) 1)) (D.Sink.written ran.output)
         × pipes.Reports status lines ran.status (R.written report.old) (R.written report.new)) }
-    // Words that are refused touch no device; want of memory, a refused file and a command that writes nothing leave the sink as it is made, and one
-    // that reads nothing the source.
+    // Words that are refused touch no device; want of memory, a refused file, whatever fails, and a command that writes nothing leave the sink as it is
+    // made, and one that reads nothing the source.
     ensures untouched { IfCommand result (λ ran. command_of (map string_bytes words.now) ≡ None →
         D.makes_source devices.now (word_of (map string_bytes words.now) 1) ran.input × D.makes_sink devices.now (word_of (map string_bytes words.now) 2) ran.output) }
     ensures pipe_untouched { IfPipe result (λ ran. is_pipe (map string_bytes words.now) ≡ false →
@@ -72,6 +73,10 @@ pub fn run_words<'n, E: Threads + Sync, D: Devices<'n>, R: Sink>(
     ensures pipe_memory { IfPipe result (λ ran. ran.status ≡ 4 → D.makes_sink devices.now (word_of (map string_bytes words.now) 1) ran.output) }
     ensures memory_line { IfCommand result (λ ran. ran.status ≡ 4 →
         R.written report.new ≡ and_then (R.written report.old) (reports.report (reports.memory_line ∷ []))) }
+    ensures no_output { IfCommand result (λ ran. (file : List ℕ) (fault : FileFault) → D.reads devices.now (word_of (map string_bytes words.now) 1) ≡ Some file →
+        IsRefused (map string_bytes words.now) file fault → D.makes_sink devices.now (word_of (map string_bytes words.now) 2) ran.output) }
+    ensures pipe_no_front { IfPipe result (λ ran. (w : List ℕ) → D.flows devices.now ≡ Some w → (stream w).front ≡ None →
+        D.makes_sink devices.now (word_of (map string_bytes words.now) 1) ran.output) }
     ensures file { IfCommand result (λ ran. ran.status ≡ 5 → D.makes_sink devices.now (word_of (map string_bytes words.now) 2) ran.output) }
     ensures no_call { IfCommand result (λ ran. (c : Command) → command_of (map string_bytes words.now) ≡ Some c → WritesNowhere c →
         D.makes_sink devices.now (word_of (map string_bytes words.now) 2) ran.output) }
@@ -122,7 +127,7 @@ fn report_text<R: Sink>(report: &mut R, text: &str) -> u8
 // The text that words ask for which are no command.
 fn own_text(words: &[String]) -> Option<&'static str>
     ensures others { asked_of (map string_bytes words.now) ≡ None → result ≡ None }
-    ensures asked { (asked_of (map string_bytes words.now) ≡ Some Help) ⊎ (asked_of (map string_bytes words.now) ≡ Some Version) → result ≢ None }
+    ensures asked { asked_of (map string_bytes words.now) ≢ None → result ≢ None }
 {
     match what_is_asked(words)? {
         Asked::Help => Some(help::HELP),

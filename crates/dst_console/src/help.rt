@@ -1,8 +1,9 @@
 // The commands of the program, and what `--help` and `--version` print.
+ghost use Rattle.std.specs.Prelude.{◌≡◌, ◌≢◌, true, false, None};
+ghost use Rattle.dst_console.specs.Words.{has_help};
 
 /// A command, for people: how it is called, and what it does.
 pub(crate) struct CommandHelp {
-    pub(crate) name: &'static str,
     /// The words behind the program's name.
     pub(crate) usage: &'static str,
     /// The words that must stand behind the name, in order.
@@ -13,97 +14,26 @@ pub(crate) struct CommandHelp {
     pub(crate) text: &'static str,
 }
 
-/// All commands.
-const COMMANDS: [CommandHelp; 12] = [
-    CommandHelp {
-        name: "encode",
-        usage: "encode IN OUT [--level L] [--workers W]",
-        places: &["IN", "OUT"],
-        options: &["--level", "--workers"],
-        text: ENCODE,
-    },
-    CommandHelp {
-        name: "decode",
-        usage: "decode IN OUT [--workers W]",
-        places: &["IN", "OUT"],
-        options: &["--workers"],
-        text: DECODE,
-    },
-    CommandHelp {
-        name: "cut",
-        usage: "cut IN OUT A B",
-        places: &["IN", "OUT", "A", "B"],
-        options: &[],
-        text: CUT,
-    },
-    CommandHelp {
-        name: "frame",
-        usage: "frame IN OUT K [--by-index]",
-        places: &["IN", "OUT", "K"],
-        options: &["--by-index"],
-        text: FRAME,
-    },
-    CommandHelp {
-        name: "range",
-        usage: "range IN OUT FROM COUNT ..",
-        places: &["IN", "OUT", "FROM", "COUNT"],
-        options: &[],
-        text: RANGE,
-    },
-    CommandHelp {
-        name: "check",
-        usage: "check IN [--workers W]",
-        places: &["IN"],
-        options: &["--workers"],
-        text: CHECK,
-    },
-    CommandHelp {
-        name: "show",
-        usage: "show IN [K]",
-        places: &["IN"],
-        options: &[],
-        text: SHOW,
-    },
-    CommandHelp {
-        name: "index",
-        usage: "index IN",
-        places: &["IN"],
-        options: &[],
-        text: INDEX,
-    },
-    CommandHelp {
-        name: "pipe",
-        usage: "pipe OUT",
-        places: &["OUT"],
-        options: &[],
-        text: PIPE,
-    },
-    CommandHelp {
-        name: "encode-dsf",
-        usage: "encode-dsf IN OUT [--level L] [--workers W]",
-        places: &["IN", "OUT"],
-        options: &["--level", "--workers"],
-        text: ENCODE_DSF,
-    },
-    CommandHelp {
-        name: "decode-dsf",
-        usage: "decode-dsf IN OUT [--workers W]",
-        places: &["IN", "OUT"],
-        options: &["--workers"],
-        text: DECODE_DSF,
-    },
-    CommandHelp {
-        name: "make",
-        usage: "make START OUT|--run FRAMES CHANNELS [--rate Q]",
-        places: &["START", "OUT or --run", "FRAMES", "CHANNELS"],
-        options: &["--rate", "--run"],
-        text: MAKE,
-    },
-];
-
 /// The command of this name.
-pub(crate) fn help_of(name: &str) -> Option<&'static CommandHelp> {
-    COMMANDS.iter().find(|command| command.name == name)
+pub(crate) fn help_of(name: &str) -> Option<&'static CommandHelp>
+    ensures known { has_help name.now ≡ true → result ≢ None }
+    ensures unknown { has_help name.now ≡ false → result ≡ None }
+{
+    match name {
+        "encode" => Some(&ENCODE),
+        "decode" => Some(&DECODE),
+        "cut" => Some(&CUT),
+        "frame" => Some(&FRAME),
+        "range" => Some(&RANGE),
+        "check" => Some(&CHECK),
+        "show" => Some(&SHOW),
+        "index" => Some(&INDEX),
+        "pipe" => Some(&PIPE),
+        "encode-dsf" => Some(&ENCODE_DSF),
+        "decode-dsf" => Some(&DECODE_DSF),
+        "make" => Some(&MAKE),
+        _ => None,
+    }
 }
 
 /// What `--version` prints.
@@ -156,7 +86,11 @@ The report stands on standard output, and a reason for people, where there is
 one, on standard error.
 ";
 
-const ENCODE: &str = "\
+const ENCODE: CommandHelp = CommandHelp {
+    usage: "encode IN OUT [--level L] [--workers W]",
+    places: &["IN", "OUT"],
+    options: &["--level", "--workers"],
+    text: "\
 dst_cli encode IN OUT [--level L] [--workers W]
 
 Writes the coded file of a plain one. `decode` of it gives back every bit of IN,
@@ -168,32 +102,42 @@ and no frame is longer than its plain form and a byte.
                  64 percent of its plain size at level 1, 40 to 50 at level 2 in
                  three times the time, and at level 3 a tenth to a seventh less
                  than at level 2, in several times its time
-  --workers W    so many frames at a time, 1 to 16; 1 without this option. It
-                 changes no byte
+  --workers W    so many frames at a time, 1 to 16, and no more than there are
+                 processors; 1 without this option. It changes no byte
 
 Prints: coded F frames into B bytes
 Status: 0, 1, 2, 3, 4, 5 or 7. Only behind 0 is OUT whole, and on its disk.
 
   dst_cli encode plain.dff master.dff --level 2 --workers 4
-";
+",
+};
 
-const DECODE: &str = "\
+const DECODE: CommandHelp = CommandHelp {
+    usage: "decode IN OUT [--workers W]",
+    places: &["IN", "OUT"],
+    options: &["--workers"],
+    text: "\
 dst_cli decode IN OUT [--workers W]
 
 Writes the plain file of a coded one. Of a file that `encode` made it is the
 file that was coded, byte for byte.
 
-  --workers W    so many frames at a time, 1 to 16; 1 without this option. It
-                 changes no byte
+  --workers W    so many frames at a time, 1 to 16, and no more than there are
+                 processors; 1 without this option. It changes no byte
 
 Prints: decoded F frames into B bytes
 Status: 0, 1, 2, 3, 4, 5, 6 or 7. Behind 6 OUT ends in front of the frame that
 is refused.
 
   dst_cli decode master.dff plain.dff --workers 4
-";
+",
+};
 
-const CUT: &str = "\
+const CUT: CommandHelp = CommandHelp {
+    usage: "cut IN OUT A B",
+    places: &["IN", "OUT", "A", "B"],
+    options: &[],
+    text: "\
 dst_cli cut IN OUT A B
 
 Writes frames A to B of a coded file as a coded file. No frame is coded again:
@@ -204,9 +148,14 @@ Prints: cut F frames
 Status: 0, 1, 2, 3, 4, 5 or 7
 
   dst_cli cut master.dff track.dff 4500 8999
-";
+",
+};
 
-const FRAME: &str = "\
+const FRAME: CommandHelp = CommandHelp {
+    usage: "frame IN OUT K [--by-index]",
+    places: &["IN", "OUT", "K"],
+    options: &["--by-index"],
+    text: "\
 dst_cli frame IN OUT K [--by-index]
 
 Writes the sound of frame K, counted from 0, without any chunk around it: one
@@ -219,9 +168,14 @@ Prints: frame K, B bytes
 Status: 0, 1, 2, 3, 4, 5, 6 or 7
 
   dst_cli frame master.dff sound.raw 1234 --by-index
-";
+",
+};
 
-const RANGE: &str = "\
+const RANGE: CommandHelp = CommandHelp {
+    usage: "range IN OUT FROM COUNT ..",
+    places: &["IN", "OUT", "FROM", "COUNT"],
+    options: &[],
+    text: "\
 dst_cli range IN OUT FROM COUNT ..
 
 Writes parts of the sound, one behind the other, without any chunk around them:
@@ -237,9 +191,14 @@ Status: 0, 1, 2, 3, 4, 5, 6 or 7. Behind 6 OUT ends in front of the part of the
 frame that is refused.
 
   dst_cli range master.dff parts.raw 3528000 352800 0 4704
-";
+",
+};
 
-const CHECK: &str = "\
+const CHECK: CommandHelp = CommandHelp {
+    usage: "check IN [--workers W]",
+    places: &["IN"],
+    options: &["--workers"],
+    text: "\
 dst_cli check IN [--workers W]
 
 Decodes all frames, compares the index with the frames, and writes nothing. It
@@ -248,15 +207,21 @@ whose damaged bytes still mean a sound isn't found, since the format has no
 checksum that is read here; bytes that no frame reads are told, and more than
 none are a reason to look.
 
-  --workers W    so many frames at a time, 1 to 16; 1 without this option
+  --workers W    so many frames at a time, 1 to 16, and no more than there are
+                 processors; 1 without this option
 
 Prints: sound, F frames, U unread bytes
 Status: 0, 1, 2, 4, 5, 6 or 7
 
   dst_cli check master.dff --workers 4
-";
+",
+};
 
-const SHOW: &str = "\
+const SHOW: CommandHelp = CommandHelp {
+    usage: "show IN [K]",
+    places: &["IN"],
+    options: &[],
+    text: "\
 dst_cli show IN
 dst_cli show IN K
 
@@ -269,9 +234,14 @@ Status: 0, 1, 2, 4, 5, 6 or 7
 
   dst_cli show master.dff
   dst_cli show master.dff 1234
-";
+",
+};
 
-const INDEX: &str = "\
+const INDEX: CommandHelp = CommandHelp {
+    usage: "index IN",
+    places: &["IN"],
+    options: &[],
+    text: "\
 dst_cli index IN
 
 Lists number, place and size of each frame's bytes, a line each, as the chunks
@@ -280,9 +250,14 @@ have them.
 Status: 0, 1, 2, 4, 5 or 7
 
   dst_cli index master.dff
-";
+",
+};
 
-const PIPE: &str = "\
+const PIPE: CommandHelp = CommandHelp {
+    usage: "pipe OUT",
+    places: &["OUT"],
+    options: &[],
+    text: "\
 dst_cli pipe OUT
 
 Decodes a coded file that comes on standard input, frame by frame as each one
@@ -294,9 +269,14 @@ Status: 0, 1, 2, 3, 4, 5, 6 or 7. Behind 5 and 6 OUT ends behind the last frame
 that came or isn't refused.
 
   curl -s https://example.org/master.dff | dst_cli pipe plain.dff
-";
+",
+};
 
-const ENCODE_DSF: &str = "\
+const ENCODE_DSF: CommandHelp = CommandHelp {
+    usage: "encode-dsf IN OUT [--level L] [--workers W]",
+    places: &["IN", "OUT"],
+    options: &["--level", "--workers"],
+    text: "\
 dst_cli encode-dsf IN OUT [--level L] [--workers W]
 
 Writes the coded file of a DSF file: one to six channels, 64, 128 or 256 times
@@ -306,32 +286,42 @@ sample. What stands behind the samples, as a tag does, is left out.
   --level L      0 keeps frames as they are, 1 tries one filter a channel,
                  2 tries eight sets of filters and keeps the shortest, 3 refines
                  filters beside them; 1 without this option
-  --workers W    so many frames at a time, 1 to 16; 1 without this option. It
-                 changes no byte
+  --workers W    so many frames at a time, 1 to 16, and no more than there are
+                 processors; 1 without this option. It changes no byte
 
 Prints: coded F frames into B bytes
 Status: 0, 1, 2, 3, 4, 5 or 7. Only behind 0 is OUT whole, and on its disk.
 
   dst_cli encode-dsf music.dsf music.dff --level 2 --workers 4
-";
+",
+};
 
-const DECODE_DSF: &str = "\
+const DECODE_DSF: CommandHelp = CommandHelp {
+    usage: "decode-dsf IN OUT [--workers W]",
+    places: &["IN", "OUT"],
+    options: &["--workers"],
+    text: "\
 dst_cli decode-dsf IN OUT [--workers W]
 
 Writes the DSF file of a coded one, also of one that never was a DSF file: it
 has the sound alone, without tags.
 
-  --workers W    so many frames at a time, 1 to 16; 1 without this option. It
-                 changes no byte
+  --workers W    so many frames at a time, 1 to 16, and no more than there are
+                 processors; 1 without this option. It changes no byte
 
 Prints: decoded F frames into B bytes
 Status: 0, 1, 2, 3, 4, 5, 6 or 7. Behind 6 OUT ends behind the last row of
 blocks that the frames before the refused one fill.
 
   dst_cli decode-dsf music.dff music.dsf --workers 4
-";
+",
+};
 
-const MAKE: &str = "\
+const MAKE: CommandHelp = CommandHelp {
+    usage: "make START OUT|--run FRAMES CHANNELS [--rate Q]",
+    places: &["START", "OUT or --run", "FRAMES", "CHANNELS"],
+    options: &["--rate", "--run"],
+    text: "\
 dst_cli make START OUT FRAMES CHANNELS [--rate Q]
 dst_cli make START --run FRAMES CHANNELS [--rate Q]
 
@@ -349,4 +339,5 @@ Status: 0, 1, 3, 4 or 7
 
   dst_cli make 7 made.dff 750 2
   dst_cli make 7 --run 3 6
-";
+",
+};

@@ -3,10 +3,12 @@ ghost use Rattle.std.specs.Prelude.{◌≡◌, ◌≢◌, ◌⊎◌, ◌≤◌, 
 ghost use Rattle.std.specs.String.{string_bytes};
 ghost use Rattle.dst_streams.specs.Causes.{Rose};
 ghost use Rattle.dst_streams.specs.Told.{and_then};
+ghost use Rattle.dsdiff_spec.specs.declared.faults.FileFault.{FileFault};
+ghost use Rattle.dsdiff_spec.specs.Streams.{stream};
 ghost use Rattle.dsdiff_spec.specs.Words.{Command};
 ghost use Rattle.dsdiff_spec.specs.Lines as reports;
 ghost use Rattle.words_spec.specs.Rows.{command_of};
-ghost use Rattle.dst_tool.specs.Runs.{DidNotRise, NoFrameIsRefused, Ends, IsCaused, Reports, ReadsNothing, WritesFile, WritesNowhere};
+ghost use Rattle.dst_tool.specs.Runs.{DidNotRise, NoFrameIsRefused, Ends, IsCaused, IsRefused, Reports, ReadsNothing, WritesFile, WritesNowhere};
 ghost use Rattle.pipe_tool.specs.Runs as pipes;
 ghost use Rattle.pipe_tool.specs.Words.{is_pipe};
 ghost use Rattle.dst_console.specs.Words.{word_of};
@@ -95,12 +97,14 @@ pub fn run_named<'n, E: Threads + Sync, D: Devices<'n>, R: Sink>(
         (status : ℕ) × (lines : List reports.Line) × Ends (map string_bytes words.now) file status lines (D.holds devices.now (word_of (map string_bytes words.now) 2)) (D.Sink.written result.output)
         × IsCaused status 0 (D.Source.faults result.input) 0 (D.Sink.faults result.output)
         × Reports status lines result.status (R.written report.old) (R.written report.new) (R.appended report.old) (R.appended report.new) }
-    // Words that are refused touch no device; want of memory, a refused file and a command that writes nothing leave the sink as it is made, and one
-    // that reads nothing the source.
+    // Words that are refused touch no device; want of memory, a refused file, whatever fails, and a command that writes nothing leave the sink as it is
+    // made, and one that reads nothing the source.
     ensures untouched { command_of (map string_bytes words.now) ≡ None →
         D.makes_source devices.now (word_of (map string_bytes words.now) 1) result.input × D.makes_sink devices.now (word_of (map string_bytes words.now) 2) result.output }
     ensures memory { result.status ≡ 4 → D.makes_sink devices.now (word_of (map string_bytes words.now) 2) result.output }
     ensures file { result.status ≡ 5 → D.makes_sink devices.now (word_of (map string_bytes words.now) 2) result.output }
+    ensures no_output { (file : List ℕ) (fault : FileFault) → D.reads devices.now (word_of (map string_bytes words.now) 1) ≡ Some file →
+        IsRefused (map string_bytes words.now) file fault → D.makes_sink devices.now (word_of (map string_bytes words.now) 2) result.output }
     ensures no_call { (c : Command) → command_of (map string_bytes words.now) ≡ Some c → WritesNowhere c → D.makes_sink devices.now (word_of (map string_bytes words.now) 2) result.output }
     ensures no_read { (c : Command) → command_of (map string_bytes words.now) ≡ Some c → ReadsNothing c → D.makes_source devices.now (word_of (map string_bytes words.now) 1) result.input }
     ensures no_file { (c : Command) → command_of (map string_bytes words.now) ≡ Some c → ReadsNothing c → (result.status ≢ 2) × (result.status ≢ 5) × (result.status ≢ 6) }
@@ -144,6 +148,7 @@ pub fn run_pipe<'n, D: Devices<'n>, R: Sink>(
         × pipes.Reports status lines result.status (R.written report.old) (R.written report.new) }
     ensures untouched { is_pipe (map string_bytes words.now) ≡ false → D.makes_flow devices.now result.input × D.makes_sink devices.now (word_of (map string_bytes words.now) 1) result.output }
     ensures memory { result.status ≡ 4 → D.makes_sink devices.now (word_of (map string_bytes words.now) 1) result.output }
+    ensures no_front { (w : List ℕ) → D.flows devices.now ≡ Some w → (stream w).front ≡ None → D.makes_sink devices.now (word_of (map string_bytes words.now) 1) result.output }
     ensures settled { result.status ≡ 0 → D.Sink.settled result.output ≡ true }
     ensures words { is_pipe (map string_bytes words.now) ≡ false → (result.status ≡ 1) ⊎ (result.status ≡ 7) }
     ensures only_words { result.status ≡ 1 → is_pipe (map string_bytes words.now) ≡ false }

@@ -157,4 +157,4 @@ run_of_coding {asks} {plain} {d} {r} {a} {level} {picker} {result} {bytes} {sour
     let one = command_has_one_outcome (asks level) xs kind.0 (are xs e) in
     let out = coded_out asks plain codes level picker xs o is (write_accepted h xs e level) outcome one in
     sure h xs e n room (subst (λ w. length w ≤ n) out fits))
-    memory untouched (always_writes kind.3 kind.4 settled) line
+    memory untouched (λ xs e fault q. refused xs e level fault q) (always_writes kind.3 kind.4 settled) line

@@ -71,10 +71,11 @@ pub run_of_file : {A E : Type 0} {f : A → Numbers} {h : E → Fault} {back : F
     (d ≡ Err (back Read) → Rose source.before source.now) → (d ≡ Err (back Write) → Rose sink.before sink.now) →
     (d ≡ Err (back Write) → OfTold bytes (λ file. (o : Answer) → OutcomeOf c file o → (n : ℕ) → written.room ≡ Some n → length o.out ≤ n → ⊥)) →
     ((refused : AllocError) → d ≡ Err (back (Memory refused)) → Same) → ((fault : FileFault) → d ≡ Err (back (File fault)) → Same) →
+    OfTold bytes (λ file. (fault : FileFault) → refusal c file ≡ Some fault → Same) →
     ActsInCases c d (back Write) bytes given Same Settled → TellsLine (status_of r) (line_of c r) result counts told →
     IsRun a result bytes source sink counts given written told Same Settled Unread Kept Silent
 run_of_file {A} {E} {f} {h} {back} {d} {r} {a} {c} {result} {bytes} {source} {sink} {counts} {given} {written} {told} {Same} {Settled} {Unread} {Kept}
-    {Silent} same says no_report reads one not_made are as_written whole file frame_is partly kept later read write sure memory untouched acts line =
+    {Silent} same says no_report reads one not_made are as_written whole file frame_is partly kept later read write sure memory untouched refused acts line =
     same_run same (run_of_answer c r result bytes source sink counts given written told Same Settled Unread Kept Silent reads one are
     (λ xs e. record {
       finished = subst (λ q. IfOk q (λ s. IsWhole c s xs written.old written.new)) (sym says.is)
@@ -97,6 +98,7 @@ run_of_file {A} {E} {f} {h} {back} {d} {r} {a} {c} {result} {bytes} {source} {si
       sure = λ q. sure (own_fault says Write q);
       memory = λ refused q. memory refused (own_fault says (Memory refused) q);
       untouched = λ fault q. untouched fault (own_fault says (File fault) q);
+      refused = refused;
       idle = acts.idle;
       no_write = λ w q. acts.no_write w (own_fault says Write q);
       unread = λ w. absurd (not_made w);

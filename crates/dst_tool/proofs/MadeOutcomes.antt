@@ -1,5 +1,5 @@
 -- What making answers is its outcome, whatever file the words stand beside.
-use Rattle.std.proofs.Common.{◌≡◌, inr, ℕ, ◌*◌, List, [], ◌∷◌, Option, Result, Ok, Err, IfOk, refl, ap, sym, subst, ◌∙◌}
+use Rattle.std.proofs.Common.{◌≡◌, inr, ℕ, ◌*◌, List, [], ◌∷◌, Option, None, Result, Ok, Err, IfOk, refl, ap, sym, subst, ◌∙◌}
 use Rattle.dst_spec.specs.Sample.{Shape, IsShape, sound_bytes}
 use Rattle.dst_streams.specs.Told.{and_then}
 use Rattle.dsdiff_spec.specs.Form.{shape_of}
@@ -18,6 +18,15 @@ use Rattle.dst_read.specs.declared.faults.Decoded.{Decoded}
 use Rattle.dst_tool.specs.declared.making.RunFault.{RunFault}
 use Rattle.dst_tool.specs.declared.answers.Numbers.{Numbers}
 use Rattle.dst_tool.specs.Answers.{done_line}
+
+-- making reads no file, and so refuses none
+pub making_is_accepted : (start frames channels multiple : ℕ) (file : List ℕ) → refusal (make start frames channels multiple) file ≡ None
+unfolding refusal
+making_is_accepted start frames channels multiple file = refl
+
+pub run_is_accepted : (start frames channels multiple : ℕ) (file : List ℕ) → refusal (make_run start frames channels multiple) file ≡ None
+unfolding refusal
+run_is_accepted start frames channels multiple file = refl
 
 -- making of a shape of frames
 abbrev pub asks_make : ℕ → ℕ → Shape → Command

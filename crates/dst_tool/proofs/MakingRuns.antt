@@ -1,11 +1,13 @@
 -- A command that makes its sound: from what it answers to what the run leaves.
-use Rattle.std.proofs.Common.{◌≡◌, ◌⊎◌, inl, inr, ℕ, ◌≤◌, List, [], length, Option, Some, Result, Ok, Err, IfOk, sym, subst, ◌∙◌}
+use Rattle.std.proofs.Common.{◌≡◌, ◌⊎◌, inl, inr, ℕ, ◌≤◌, List, [], length, Option, Some, None, Result, Ok, Err, IfOk, sym, subst, ◌∙◌}
 use Rattle.std.specs.Prelude.{⊤}
 use Rattle.std.specs.declared.alloc.AllocError.{AllocError}
 use Rattle.dst_spec.specs.Bits.{AreBytes}
 use Rattle.dst_streams.specs.Causes.{Rose}
 use Rattle.dsdiff_spec.specs.Words.{Command}
 use Rattle.dsdiff_spec.specs.Outcome.{Answer}
+use Rattle.dsdiff_spec.specs.Refusal.{refusal}
+use Rattle.dsdiff_spec.proofs.ByRules.{not_refused}
 use Rattle.dsdiff_spec.proofs.OneAnswer.{HasOutcome}
 use Rattle.dst_commands.specs.Commands.{OutcomeOf}
 use Rattle.dst_make.specs.declared.make.MakeFault.{MakeFault}
@@ -48,7 +50,8 @@ sink_failed none f (inr b) = f b
 -- ---- the run
 pub run_of_making : {a c : Command} {result : ℕ} {bytes : Option (List ℕ)} {source sink counts given : Counts} {written : Held} {told : Told}
     {Same Settled Unread Kept Silent : Type 0} (r : Result Numbers Fault) →
-    a ≡ c → HasOutcome c → TellsOneLine c → (TakesFrame c → ⊥) → OfTold bytes AreBytes → (Same → written.new ≡ written.old) →
+    a ≡ c → HasOutcome c → TellsOneLine c → (TakesFrame c → ⊥) → ((file : List ℕ) → refusal c file ≡ None) → OfTold bytes AreBytes →
+    (Same → written.new ≡ written.old) →
     ((fault : Fault) → IsNotOfMaking fault → r ≡ Err fault → ⊥) → ((file : List ℕ) → IfOk r (λ s. IsWhole c s file written.old written.new)) →
     (r ≡ Err Write → (file : List ℕ) → IsPartly c file written.old written.new) → Kept → Unread → source.before ≤ source.now →
     sink.before ≤ sink.now → (r ≡ Err Write → Rose sink.before sink.now) →
@@ -57,7 +60,7 @@ pub run_of_making : {a c : Command} {result : ℕ} {bytes : Option (List ℕ)} {
     (WritesFile c → (s : Numbers) → r ≡ Ok s → Settled) → TellsLine (status_of r) (line_of c r) result counts told →
     IsRun a result bytes source sink counts given written told Same Settled Unread Kept Silent
 run_of_making {a} {c} {result} {bytes} {source} {sink} {counts} {given} {written} {told} {Same} {Settled} {Unread} {Kept} {Silent} r same reads one no_frame
-    are as_written none finished partly kept unread later_source later_sink write sure memory idle no_write settled line =
+    accepts are as_written none finished partly kept unread later_source later_sink write sure memory idle no_write settled line =
     let answer : (file : List ℕ) → IsAnswer c r file written.old written.new = λ file. record {
       finished = finished file;
       file_is = λ fault q. absurd (none (File fault) tt q);
@@ -78,6 +81,7 @@ run_of_making {a} {c} {result} {bytes} {source} {sink} {counts} {given} {written
       sure = sure;
       memory = memory;
       untouched = λ fault q. absurd (none (File fault) tt q);
+      refused = λ file told fault q. absurd (not_refused _ fault (accepts file) q);
       idle = idle;
       no_write = no_write;
       unread = λ w. unread;

@@ -192,6 +192,7 @@ pub record HasCauses (c : Command) (r : Result Numbers Fault) (bytes : Option (L
   pub sure : r ≡ Err Write → (file : List ℕ) → bytes ≡ Some file → (o : Answer) → OutcomeOf c file o → (n : ℕ) → written.room ≡ Some n → length o.out ≤ n → ⊥
   pub memory : (refused : AllocError) → r ≡ Err (Memory refused) → Same
   pub untouched : (fault : FileFault) → r ≡ Err (File fault) → Same
+  pub refused : (file : List ℕ) → bytes ≡ Some file → (fault : FileFault) → refusal c file ≡ Some fault → Same
   pub idle : WritesNowhere c → Same
   pub no_write : WritesNowhere c → r ≡ Err Write → ⊥
   pub unread : ReadsNothing c → Unread
@@ -238,6 +239,7 @@ run_of_answer c r result bytes source sink counts given written told Same Settle
       subst (λ q. told.new ≡ and_then told.old (report (line_of c q ∷ []))) f.1 (t.whole (e ∙ sym four));
   silent = λ e. absurd (subst TellsOneLine e one);
   file_refused = λ e. let f = status_is_file r (status 5 (omega arith) e) in h.untouched f.0 f.1;
+  no_output = h.refused;
   idle = h.idle;
   no_write = λ w e. h.no_write w (status_is_write r (status 3 (omega arith) e));
   unread = h.unread;

@@ -261,6 +261,7 @@ run_of_listing c r result bytes source sink counts middle given written told mid
           let d = status_is_done r (status_told (status_of r) result 0 t.reported zero_status (omega arith)) in
           silent e file told_file none d.0 d.1;
       file_refused = λ e. same;
+      no_output = λ file told fault e. same;
       idle = λ w. same;
       no_write = λ w e. h.no_write (status_is_write r (status_told (status_of r) result 3 t.reported e (omega arith)));
       unread = λ w. absurd (reading w);

@@ -170,6 +170,7 @@ pub record IsRun (c : Command) (status : ℕ) (bytes : Option (List ℕ)) (sourc
   pub memory_told : status ≡ 4 → told.new ≡ and_then told.old (report (memory_line ∷ []))
   pub silent : c ≡ index → (file : List ℕ) → bytes ≡ Some file → (accepted file).frames ≡ 0 → status ≡ 0 → Silent
   pub file_refused : status ≡ 5 → Same
+  pub no_output : (file : List ℕ) → bytes ≡ Some file → (fault : FileFault) → refusal c file ≡ Some fault → Same
   pub idle : WritesNowhere c → Same
   pub no_write : WritesNowhere c → status ≢ 3
   pub unread : ReadsNothing c → Unread

@@ -18,11 +18,13 @@ use crate::run_by::dst_run_by;
 use dst_streams::{Sink, Source};
 use frame_crew::OpenGate;
 use std::alloc::Global;
-use std::thread::Threads;
+use std::thread::{Threads, available_parallelism};
 
 /// Runs the command of these words: reads `source`, writes `sink`, and reports lines of text to `report`. It answers the
 /// status: 0 done, 1 words not understood, 2 read fault, 3 write fault, 4 memory, 5 file refused, 6 frame refused, 7
 /// report fault.
+///
+/// As many workers work as the words ask for, and no more than there are processors: more would wait for one another.
 pub fn dst_run<E: Threads + Sync, S: Source, K: Sink, R: Sink>(
     rt: &E,
     alloc: Global,
@@ -85,6 +87,8 @@ pub fn dst_run<E: Threads + Sync, S: Source, K: Sink, R: Sink>(
     // Want of memory and a refused file come before the first call on the sink.
     ensures memory { result ≡ 4 → sink.new ≡ sink.old }
     ensures file { result ≡ 5 → sink.new ≡ sink.old }
+    // Of a refused file the sink isn't called, whatever fails.
+    ensures no_output { (file : List ℕ) (fault : FileFault) → S.bytes source.old ≡ Some file → IsRefused (map string_bytes words.now) file fault → sink.new ≡ sink.old }
     // Want of memory has its line, whatever the source tells.
     ensures memory_line { result ≡ 4 → R.written report.new ≡ and_then (R.written report.old) (reports.report (reports.memory_line ∷ [])) }
     // The index of a file without frames has no line: no call is made on the report.
@@ -105,5 +109,25 @@ pub fn dst_run<E: Threads + Sync, S: Source, K: Sink, R: Sink>(
         S.given source.new ≤ S.given source.old + most_given longest_sound }
     ensures status { result ≤ 7 }
 {
-    dst_run_by(rt, alloc, words, source, sink, report, &OpenGate)
+    let most_workers = processors(rt);
+    dst_run_by(
+        rt,
+        alloc,
+        words,
+        source,
+        sink,
+        report,
+        most_workers,
+        &OpenGate,
+    )
+}
+
+// How many processors this program may use, or more than any words ask for where the system doesn't tell.
+fn processors<E: Threads>(rt: &E) -> u32
+    ensures { 0 < result }
+{
+    match available_parallelism(rt) {
+        Ok(count) => u32::try_from(count.get()).unwrap_or(u32::MAX),
+        Err(_) => u32::MAX,
+    }
 }

@@ -1,5 +1,5 @@
 // The top call with a gate that its workers pass.
-ghost use Rattle.std.specs.Prelude.{◌≡◌, ◌≤◌, ℕ, true, [], ◌∷◌, length, map, Some, None};
+ghost use Rattle.std.specs.Prelude.{◌≡◌, ◌≤◌, ◌<◌, ℕ, true, [], ◌∷◌, length, map, Some, None};
 ghost use Rattle.std.specs.String.{string_bytes};
 ghost use Rattle.dst_streams.specs.Causes.{Rose};
 ghost use Rattle.dsdiff_spec.specs.Lines as reports;
@@ -15,7 +15,8 @@ use frame_crew::Gate;
 use std::alloc::Global;
 use std::thread::Threads;
 
-/// Runs the command of these words as [`dst_run`](crate::dst_run) does, with workers that pass this gate, each once for each of its jobs.
+/// Runs the command of these words as [`dst_run`](crate::dst_run) does, with no more workers than so many, which pass this gate, each once for
+/// each of its jobs.
 ///
 /// What it leaves is told by the command that the words are, and all that `dst_run` promises follows from it. A test finds by the
 /// gate which frames are worked at once.
@@ -26,8 +27,10 @@ pub fn dst_run_by<E: Threads + Sync, S: Source, K: Sink, R: Sink, G: Gate>(
     source: &mut S,
     sink: &mut K,
     report: &mut R,
+    most_workers: u32,
     gate: &G,
 ) -> u8
+    requires some { 0 < most_workers }
     // Words that are a command leave what a run of this command leaves.
     ensures run { (c : asked.Command) → command_of (map string_bytes words.now) ≡ Some c → IsRun c result (S.bytes source.old)
         (record { before = S.faults source.old; now = S.faults source.new }) (record { before = K.faults sink.old; now = K.faults sink.new })
@@ -47,6 +50,7 @@ pub fn dst_run_by<E: Threads + Sync, S: Source, K: Sink, R: Sink, G: Gate>(
     match read_words(words) {
         None => report_line(report, 1, lines::words_not_understood()),
         Some(Task { command, workers }) => {
+            let workers = workers.min(most_workers);
             run_command(rt, alloc, command, workers, source, sink, report, gate)
         }
     }

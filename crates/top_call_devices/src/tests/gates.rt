@@ -85,6 +85,7 @@ fn as_many_frames_are_decoded_at_once_as_there_are_workers(rt: HostRuntime) -> R
             &mut source,
             &mut sink,
             &mut report,
+            16,
             &gate,
         );
         assert_eq!(rt; status, 0, "{workers} workers");

@@ -15,9 +15,9 @@ use Rattle.dst_show.specs.declared.faults.ListFault.{ListFault}
 use Rattle.dst_tool.specs.Answers.{done_line, of_check, of_list, of_make, of_run, of_show}
 use Rattle.dst_tool.proofs.Inverting.{IsToldAs, if_answered, if_done, own_fault, never_told, check_again, list_again, make_again, show_again, ran_no_other}
 use Rattle.dst_tool.proofs.Inverting.{to_check, to_list, to_make, to_show}
-use Rattle.dst_make.specs.Making.{made_file}
+use Rattle.dst_make.specs.Making.{made_file, multiple_of}
 use Rattle.dst_show.specs.declared.faults.Reported.{Reported}
-use Rattle.dst_tool.proofs.MadeOutcomes.{asks_make, asks_run, of_ran, made_outcome, made_out, made_whole, run_done}
+use Rattle.dst_tool.proofs.MadeOutcomes.{asks_make, asks_run, of_ran, made_outcome, made_out, made_whole, making_is_accepted, run_done, run_is_accepted}
 use Rattle.dst_tool.proofs.MakingRuns.{made_no_other, ran_not_so, run_of_making}
 use Rattle.dst_tool.proofs.OwnLines.{report_is_no_frame, report_is_no_write, run_of_own_lines}
 use Rattle.dst_tool.proofs.OtherCommands.{reads_and_writes}
@@ -64,6 +64,7 @@ returns-in-Check g c =
       sure = λ h. absurd (no_write h);
       memory = λ refused h. refl;
       untouched = λ fault h. refl;
+      refused = λ file told fault h. refl;
       idle = λ w. refl;
       no_write = λ w. no_write;
       unread = λ w. absurd w;
@@ -88,7 +89,8 @@ returns-in-Make g c =
     let asks = asks_make start frames f in
     let written = g.K.Sink.written c.args.sink.now in
     let new = g.K.Sink.written c.make_file-answer.new.sink in
-    run_of_making r (ap command_seen c.in-Make.is) tt tt (λ w. w) (g.met.S.Source.told_are_bytes c.args.source.now) (ap g.K.Sink.written)
+    run_of_making r (ap command_seen c.in-Make.is) tt tt (λ w. w) (making_is_accepted start frames f.channels (multiple_of f))
+    (g.met.S.Source.told_are_bytes c.args.source.now) (ap g.K.Sink.written)
     (made_no_other says)
     (λ file. subst (λ r. IfOk r (λ s. IsWhole asks s file written new)) (sym says.is)
     (if_answered of_made of_make d _ (made_whole d start frames f file written new e.written e.frames)))
@@ -113,7 +115,9 @@ returns-in-MakeRun g c =
     let t = c.tell-in-MakeRun.ensures in
     let asks = asks_run c.in-MakeRun.start c.in-MakeRun.frames c.in-MakeRun.channels in
     let no_write : r ≡ Err Write → ⊥ = λ h. ran_no_other of_ran d Write (λ x q. absurd cc) (sym c.ran.ensures ∙ h) in
-    run_of_making r (ap command_seen c.in-MakeRun.is) tt tt (λ w. w) (g.met.S.Source.told_are_bytes c.args.source.now) (λ w. refl)
+    run_of_making r (ap command_seen c.in-MakeRun.is) tt tt (λ w. w)
+    (run_is_accepted c.in-MakeRun.start c.in-MakeRun.frames c.in-MakeRun.channels.channels (multiple_of c.in-MakeRun.channels))
+    (g.met.S.Source.told_are_bytes c.args.source.now) (λ w. refl)
     (ran_not_so of_ran d r c.ran.ensures)
     (λ file. finished_alone asks r _ file (subst (λ r. IfOk r (λ s. OutcomeOf asks file (done [] (done_line asks s ∷ [])))) (sym c.ran.ensures)
     (if_answered of_ran of_run d _ (run_done d c.in-MakeRun.start c.in-MakeRun.frames c.in-MakeRun.channels file e.shape e.frames e.line))))

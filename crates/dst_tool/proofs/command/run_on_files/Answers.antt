@@ -30,7 +30,7 @@ returns-in-Decode g c =
     let says : IsToldAs of_decoded of_decode to_decode c.decode_file-answer.result c.decoded.result =
     record { is = c.decoded.ensures; again = decode_again } in
     run_of_file same says write_is_no_report tt tt (λ w. w) (g.met.S.Source.told_are_bytes c.args.source.now) (ap g.K.Sink.written) e.decoded e.file
-    (λ k fault is. e.frame k fault) e.cut_short e.bytes e.later e.read e.write e.sure e.memory e.untouched
+    (λ k fault is. e.frame k fault) e.cut_short e.bytes e.later e.read e.write e.sure e.memory e.untouched e.refused
     (always_writes (λ w. w) (λ w. w) e.settled)
     (tells_line _ _ same t.reported t.whole t.cut_short t.added t.stopped t.cause t.later t.sure)
 
@@ -53,7 +53,7 @@ returns-in-DecodeDsf g c =
     let says : IsToldAs of_decoded of_decode to_decode c.decode_dsf-answer.result c.decoded-in-DecodeDsf.result =
     record { is = c.decoded-in-DecodeDsf.ensures; again = decode_again } in
     run_of_file same says write_is_no_report tt tt (λ w. w) (g.met.S.Source.told_are_bytes c.args.source.now) (ap g.K.Sink.written) e.decoded e.file
-    (λ k fault is. e.frame k fault) e.cut_short e.bytes e.later e.read e.write e.sure e.memory e.untouched
+    (λ k fault is. e.frame k fault) e.cut_short e.bytes e.later e.read e.write e.sure e.memory e.untouched e.refused
     (always_writes (λ w. w) (λ w. w) e.settled)
     (tells_line _ _ same t.reported t.whole t.cut_short t.added t.stopped t.cause t.later t.sure)
 
@@ -65,7 +65,7 @@ returns-in-Cut g c =
     let says : IsToldAs of_cut_out of_cut to_cut c.cut_file-answer.result c.cut_out.result =
     record { is = c.cut_out.ensures; again = cut_again } in
     run_of_file same says write_is_no_report tt tt (λ w. w) (g.met.S.Source.told_are_bytes c.args.source.now) (ap g.K.Sink.written) e.cut e.file
-    (λ k fault is. write_is_no_frame k fault is) e.cut_short e.bytes e.later e.read e.write e.sure e.memory e.untouched
+    (λ k fault is. write_is_no_frame k fault is) e.cut_short e.bytes e.later e.read e.write e.sure e.memory e.untouched e.refused
     (always_writes (λ w. w) (λ w. w) e.settled)
     (tells_line (asked.cut c.in-Cut.first c.in-Cut.last) _ refl t.reported t.whole t.cut_short t.added t.stopped t.cause t.later t.sure)
 
@@ -87,7 +87,7 @@ returns-in-Frame g c =
     (λ h file told. cut_or_nothing asks file written _
     (command_has_one_outcome asks file tt (g.met.S.Source.told_are_bytes c.args.source.now file told))
     (λ q. ap g.K.Sink.written (e.untouched _ q (λ w. absurd cc))) (λ q. e.cut_short q file told) h)
-    e.bytes e.later e.read e.write e.sure (λ refused h. e.untouched _ h (λ w. absurd cc)) (λ fault h. e.untouched _ h (λ w. absurd cc))
+    e.bytes e.later e.read e.write e.sure (λ refused h. e.untouched _ h (λ w. absurd cc)) (λ fault h. e.untouched _ h (λ w. absurd cc)) e.refused
     (record {
       idle = λ w. absurd w;
       no_write = λ w. absurd w;
@@ -109,7 +109,7 @@ returns-in-Range g c =
     record { is = c.range_written.ensures; again = decode_again } in
     run_of_file (ap command_seen c.in-Range.is ∙ ap asked.range (sym c.as_slice.ensures.pairs)) says write_is_no_report tt tt (λ w. w)
     (g.met.S.Source.told_are_bytes c.args.source.now) (ap g.K.Sink.written) e.written e.file (λ k fault is. e.frame k fault) e.cut_short
-    e.bytes e.later e.read e.write e.sure e.memory e.untouched
+    e.bytes e.later e.read e.write e.sure e.memory e.untouched e.refused
     (record {
       idle = λ w. e.no_call w;
       no_write = λ w h. e.no_write w h;

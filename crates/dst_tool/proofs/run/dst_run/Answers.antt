@@ -57,6 +57,7 @@ returns g c =
           (λ none. r.sure none seven room known (subst (λ lines. length (report lines) ≤ room) (only_words_line words file o none outcome) fits))
           (λ asks is. (r.run asks is).sure_report file told o (of_command words asks file o is outcome) no_read no_write room known least fits seven);
       memory = λ four. by_status words 4 c.dst_run_by.result _ _ _ _ r.words four (omega arith) (omega arith) (λ asks is. (r.run asks is).memory four);
+      no_output = λ file fault told (asks, is, refused). (r.run asks is).no_output file told fault refused;
       memory_line = λ four.
           by_status words 4 c.dst_run_by.result _ _ _ _ r.words four (omega arith) (omega arith)
           (λ asks is. (r.run asks is).memory_told four);
