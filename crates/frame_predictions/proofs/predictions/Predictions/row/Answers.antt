@@ -1,3 +1,4 @@
+-- The row is one of those that are held, or is put at the next place.
 use Rattle.std.proofs.Common.{◌≡◌, ◌+◌, ◌*◌, ◌<◌, ◌≤◌, ◌++◌, [], length, get_or, map, take, drop, ap, sym, subst, subst₂, ◌∙◌, arith}
 use Rattle.std.specs.List.{SwappedAt, Contains}
 use Rattle.std.proofs.lemmas.List.Elements.{Contains-get_or}
@@ -142,8 +143,8 @@ returns-clause-stay c = λ room k other lt.
     let here = next-behind c room in
     let row = first-of rows (omega (arith, q.0, q.5)) in
     seen-at c.swap.new.self.items (next + 1) k row other (omega (arith, q.5)) (omega (arith, lt, q.2, here))
-    ∙ ap predicted (q.1.2 k row (omega (arith, lt, q.2, here)) (omega (arith, lt, q.2, here)) ∙ c.provide-place.ensures.others k row (omega (arith, lt, q.2, here))
-    ∙ ap (λ xs. get_or xs k row) c.as_mut_slice.ensures.value)
+    ∙ ap predicted (q.1.2 k row (omega (arith, lt, q.2, here)) (omega (arith, lt, q.2, here))
+    ∙ c.provide-place.ensures.others k row (omega (arith, lt, q.2, here)) ∙ ap (λ xs. get_or xs k row) c.as_mut_slice.ensures.value)
     ∙ sym (seen-at p.rows.items p.held k row other q.4 (omega (arith, lt, q.2))) ∙ ap (λ w. get_or w.rows k other) c.self.view_is
 
 pub returns-clause-there : goal.returns-clause-there
