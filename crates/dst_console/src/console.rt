@@ -62,7 +62,8 @@ pub fn run_words<'n, E: Threads + Sync, D: Devices<'n>, R: Sink>(
         × Reports status lines ran.status (R.written report.old) (R.written report.new) (R.appended report.old) (R.appended report.new)) }
     ensures pipe_ends { IfPipe result (λ ran. (w : List ℕ) → D.flows devices.now ≡ Some w →
         (status : ℕ) × (lines : List reports.Line) × pipes.Ends (map string_bytes words.now) w status lines (D.holds devices.now (word_of (map string_bytes words.now) 1)) (D.Sink.written ran.output)
-        × pipes.Reports status lines ran.status (R.written report.old) (R.written report.new)) }
+        × (status ≡ 2 → Rose 0 (D.Flow.faults ran.input)) × (status ≡ 3 → Rose 0 (D.Sink.faults ran.output))
+        × pipes.Reports status lines ran.status (R.written report.old) (R.written report.new) (R.appended report.old) (R.appended report.new)) }
     // Words that are refused touch no device; want of memory, a refused file, whatever fails, and a command that writes nothing leave the sink as it is
     // made, and one that reads nothing the source.
     ensures untouched { IfCommand result (λ ran. command_of (map string_bytes words.now) ≡ None →
@@ -72,6 +73,8 @@ pub fn run_words<'n, E: Threads + Sync, D: Devices<'n>, R: Sink>(
     ensures memory { IfCommand result (λ ran. ran.status ≡ 4 → D.makes_sink devices.now (word_of (map string_bytes words.now) 2) ran.output) }
     ensures pipe_memory { IfPipe result (λ ran. ran.status ≡ 4 → D.makes_sink devices.now (word_of (map string_bytes words.now) 1) ran.output) }
     ensures memory_line { IfCommand result (λ ran. ran.status ≡ 4 →
+        R.written report.new ≡ and_then (R.written report.old) (reports.report (reports.memory_line ∷ []))) }
+    ensures pipe_memory_line { IfPipe result (λ ran. ran.status ≡ 4 →
         R.written report.new ≡ and_then (R.written report.old) (reports.report (reports.memory_line ∷ []))) }
     ensures no_output { IfCommand result (λ ran. (file : List ℕ) (fault : FileFault) → D.reads devices.now (word_of (map string_bytes words.now) 1) ≡ Some file →
         IsRefused (map string_bytes words.now) file fault → D.makes_sink devices.now (word_of (map string_bytes words.now) 2) ran.output) }

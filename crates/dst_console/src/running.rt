@@ -145,9 +145,11 @@ pub fn run_pipe<'n, D: Devices<'n>, R: Sink>(
         (result.status ≡ 0) ⊎ (result.status ≡ 4) }
     ensures ends { (w : List ℕ) → D.flows devices.now ≡ Some w →
         (status : ℕ) × (lines : List reports.Line) × pipes.Ends (map string_bytes words.now) w status lines (D.holds devices.now (word_of (map string_bytes words.now) 1)) (D.Sink.written result.output)
-        × pipes.Reports status lines result.status (R.written report.old) (R.written report.new) }
+        × (status ≡ 2 → Rose 0 (D.Flow.faults result.input)) × (status ≡ 3 → Rose 0 (D.Sink.faults result.output))
+        × pipes.Reports status lines result.status (R.written report.old) (R.written report.new) (R.appended report.old) (R.appended report.new) }
     ensures untouched { is_pipe (map string_bytes words.now) ≡ false → D.makes_flow devices.now result.input × D.makes_sink devices.now (word_of (map string_bytes words.now) 1) result.output }
     ensures memory { result.status ≡ 4 → D.makes_sink devices.now (word_of (map string_bytes words.now) 1) result.output }
+    ensures memory_line { result.status ≡ 4 → R.written report.new ≡ and_then (R.written report.old) (reports.report (reports.memory_line ∷ [])) }
     ensures no_front { (w : List ℕ) → D.flows devices.now ≡ Some w → (stream w).front ≡ None → D.makes_sink devices.now (word_of (map string_bytes words.now) 1) result.output }
     ensures settled { result.status ≡ 0 → D.Sink.settled result.output ≡ true }
     ensures words { is_pipe (map string_bytes words.now) ≡ false → (result.status ≡ 1) ⊎ (result.status ≡ 7) }

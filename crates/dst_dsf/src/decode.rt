@@ -1,5 +1,5 @@
 // Decoding a coded file to a DSF file.
-ghost use Rattle.std.specs.Prelude.{◌≡◌, ◌⊎◌, ◌≤◌, ◌<◌, ℕ, true, List, length, Some, IfOk, IfErr, OnOk, Err, ◌∷◌, []};
+ghost use Rattle.std.specs.Prelude.{◌≡◌, ◌⊎◌, ◌+◌, ◌^◌, ◌≤◌, ◌<◌, ℕ, true, List, length, Some, IfOk, IfErr, OnOk, Err, ◌∷◌, []};
 ghost use Rattle.std.specs.declared.alloc.AllocError.{AllocError};
 ghost use Rattle.dst_spec.specs.declared.faults.FrameFault.{FrameFault};
 ghost use Rattle.dst_streams.specs.Causes.{Rose};
@@ -69,6 +69,9 @@ pub fn decode_dsf<R: Threads + Sync, S: Source, K: Sink, G: Gate>(
         (room : ℕ) → K.room sink.old ≡ Some room → length o.out ≤ room → ⊥ }
     // want of memory, before anything is written
     ensures memory { (refused : AllocError) → result ≡ Err (DecodeFault.Source (OpenFault.Memory refused)) → sink.new ≡ sink.old }
+    // beside opening each stored byte is read once: those of the form, or of the largest form
+    ensures given { (file : List ℕ) → S.bytes source.old ≡ Some file → S.given source.new ≤ S.given source.old + 208948 + 48000014 + (accepted file).end }
+    ensures given_any { S.given source.new ≤ S.given source.old + 208948 + 48000014 + (2 ^ 50 + 12) }
 {
     let opened = match open_file(alloc, source, &DsfFrames) {
         Ok(opened) => opened,
@@ -97,6 +100,7 @@ fn write_decoded<R: Threads + Sync, S: Source, K: Sink, G: Gate>(
     requires walked { (file : List ℕ) → S.bytes source.old ≡ Some file → IsOpened file (coded_seen opened.now.walked.form) opened.now.walked.index }
     requires opened { (file : List ℕ) → S.bytes source.old ≡ Some file → IsOpenedAs file (coded_seen opened.now.walked.form) (dsf_seen opened.now.said) }
     ensures bytes { S.bytes source.new ≡ S.bytes source.old }
+    ensures given { S.given source.new ≤ S.given source.old + opened.now.walked.form.end }
     ensures source_later { S.faults source.old ≤ S.faults source.new }
     ensures sink_later { K.faults sink.old ≤ K.faults sink.new }
     ensures cause { IfErr result (λ fault. HasItsCause fault (S.faults source.old) (S.faults source.new) (K.faults sink.old) (K.faults sink.new)) }

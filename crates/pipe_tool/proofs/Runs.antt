@@ -1,5 +1,5 @@
 -- What an answer to a stream says of the run.
-use Rattle.std.proofs.Common.{◌≡◌, ◌⊎◌, inl, inr, ℕ, ◌<◌, ◌≤◌, List, [], ◌∷◌, length, Option, Some, Result, Ok, Err, Bool, true, false, refl, sym, ap}
+use Rattle.std.proofs.Common.{◌≡◌, ◌⊎◌, inl, inr, ℕ, ◌+◌, ◌<◌, ◌≤◌, List, [], ◌∷◌, length, Option, Some, Result, Ok, Err, Bool, true, false, refl, sym, ap}
 use Rattle.std.proofs.Common.{subst, ◌∙◌, arith}
 use Rattle.std.specs.Prelude.{IfOk}
 use Rattle.std.specs.declared.alloc.AllocError.{AllocError}
@@ -163,11 +163,13 @@ refused_words_fit b w o n e is fits =
     subst (λ (x : Answer). length (report x.lines) ≤ n) refused fits
 
 -- ---- what is reported
-pub reports_of : (status result : ℕ) (line bytes : List ℕ) (old new : Option (List ℕ)) → (result ≡ status) ⊎ (result ≡ 7) →
-    (result ≡ status → new ≡ and_then old bytes) →
-    (result ≡ 7 → IsCutShort old bytes new) → bytes ≡ report (line ∷ []) → Reports status (line ∷ []) result old new
-reports_of status result line bytes old new (inl e) whole cut same = inl (e, whole e ∙ ap (and_then old) same)
-reports_of status result line bytes old new (inr e) whole cut same = inr (e, subst (λ b. IsCutShort old b new) same (cut e))
+pub reports_of : (status result : ℕ) (line bytes : List ℕ) (old new : Option (List ℕ)) (before now : ℕ) → (result ≡ status) ⊎ (result ≡ 7) →
+    (result ≡ status → new ≡ and_then old bytes) → (result ≡ 7 → IsCutShort old bytes new) → (result ≡ status → now ≡ before + length bytes) →
+    (result ≡ 7 → now ≡ before) → bytes ≡ report (line ∷ []) → Reports status (line ∷ []) result old new before now
+reports_of status result line bytes old new before now (inl e) whole cut added stopped same =
+    inl (e, whole e ∙ ap (and_then old) same, added e ∙ ap (λ b. before + length b) same)
+reports_of status result line bytes old new before now (inr e) whole cut added stopped same =
+    inr (e, subst (λ b. IsCutShort old b new) same (cut e), stopped e)
 
 -- the report didn't fail
 pub not_seven : (status result before now : ℕ) → (result ≡ status) ⊎ (result ≡ 7) → (result ≡ 7 → Rose before now) → DidNotRise before now → result ≡ status

@@ -1,5 +1,5 @@
 -- What a run of words over a flow leaves, by its status.
-use Rattle.std.specs.Prelude.{◌≡◌, ◌⊎◌, ℕ, Bool, true, false, List, [], ◌∷◌, Option, Some, Result, Ok, Err}
+use Rattle.std.specs.Prelude.{◌≡◌, ◌⊎◌, ℕ, ◌+◌, Bool, true, false, List, [], ◌∷◌, length, Option, Some, Result, Ok, Err}
 use Rattle.dst_streams.specs.Causes.{Rose}
 use Rattle.dst_streams.specs.Told.{and_then, IsCutShort}
 use Rattle.dsdiff_spec.specs.Words.{Word, decode}
@@ -65,9 +65,12 @@ EndsAs words w = EndsAsOne (PipeOutcome words w)
 abbrev pub Ends : List Word → List ℕ → ℕ → List Line → (old new : Option (List ℕ)) → Type 0
 Ends words w = EndsByStream (is_pipe words) w
 
--- the lines are reported, or the report failed at them and the status is 7
-abbrev pub Reports : ℕ → List Line → ℕ → (old new : Option (List ℕ)) → Type 0
-Reports status lines result old new = ((result ≡ status) × (new ≡ and_then old (report lines))) ⊎ ((result ≡ 7) × IsCutShort old (report lines) new)
+-- The one line is reported; or the report failed at it, and the status is 7. So many bytes were appended by calls that succeeded, before and now: the
+-- line isn't appended in parts.
+abbrev pub Reports : ℕ → List Line → ℕ → (old new : Option (List ℕ)) → (before now : ℕ) → Type 0
+Reports status lines result old new before now =
+    ((result ≡ status) × (new ≡ and_then old (report lines)) × (now ≡ before + length (report lines)))
+    ⊎ ((result ≡ 7) × IsCutShort old (report lines) new × (now ≡ before))
 
 -- the words are those of a pipe, whose stream ends behind its last frame, and none of its frames is refused
 pub record NoFrameIsRefused (words : List Word) (w : List ℕ) : Type 0 where

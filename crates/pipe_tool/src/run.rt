@@ -1,5 +1,5 @@
 // The call on a pipe.
-ghost use Rattle.std.specs.Prelude.{◌≡◌, ◌≢◌, ◌⊎◌, ◌<◌, ◌≤◌, true, false, ℕ, List, [], ◌∷◌, length, map, Option, Some, None, Err};
+ghost use Rattle.std.specs.Prelude.{◌≡◌, ◌≢◌, ◌⊎◌, ◌+◌, ◌<◌, ◌≤◌, true, false, ℕ, List, [], ◌∷◌, length, map, Option, Some, None, Err};
 ghost use Rattle.std.specs.String.{string_bytes};
 ghost use Rattle.dst_spec.specs.declared.faults.FrameFault.{FrameFault};
 ghost use Rattle.dst_streams.specs.Causes.{Rose};
@@ -38,16 +38,22 @@ pub fn dst_pipe<F: Flow, K: Sink, R: Sink>(
     ensures complete { (w : List ℕ) → F.left flow.old ≡ Some w → NoFrameIsRefused (map string_bytes words.now) w →
         DidNotRise (F.faults flow.old) (F.faults flow.new) → DidNotRise (K.faults sink.old) (K.faults sink.new) → DidNotRise (R.faults report.old) (R.faults report.new) →
         (result ≡ 0) ⊎ (result ≡ 4) }
-    // What sink and report hold behind each status; 7 comes where the line of another one failed.
+    // What sink and report hold behind each status; 7 comes where the line of another one failed, and a fault of flow or sink behind it has its cause
+    // too. The line isn't appended in parts.
     ensures ends { (w : List ℕ) → F.left flow.old ≡ Some w →
         (status : ℕ) × (lines : List reports.Line) × Ends (map string_bytes words.now) w status lines (K.written sink.old) (K.written sink.new)
-        × Reports status lines result (R.written report.old) (R.written report.new) }
+        × (status ≡ 2 → Rose (F.faults flow.old) (F.faults flow.new)) × (status ≡ 3 → Rose (K.faults sink.old) (K.faults sink.new))
+        × Reports status lines result (R.written report.old) (R.written report.new) (R.appended report.old) (R.appended report.new) }
     // Words are refused by themselves, and touch nothing.
     ensures words { asked.is_pipe (map string_bytes words.now) ≡ false → (result ≡ 1) ⊎ (result ≡ 7) }
     ensures only_words { result ≡ 1 → asked.is_pipe (map string_bytes words.now) ≡ false }
     ensures untouched { asked.is_pipe (map string_bytes words.now) ≡ false → (flow.new ≡ flow.old) × (sink.new ≡ sink.old) }
     // What is written is where the sink keeps it for good: of a real file, on its disk.
     ensures settled { result ≡ 0 → K.settled sink.new ≡ true }
+    // No count of faults falls.
+    ensures later_flow { F.faults flow.old ≤ F.faults flow.new }
+    ensures later_sink { K.faults sink.old ≤ K.faults sink.new }
+    ensures later_report { R.faults report.old ≤ R.faults report.new }
     // Devices fail by their own cause.
     ensures read { result ≡ 2 → Rose (F.faults flow.old) (F.faults flow.new) }
     ensures write { result ≡ 3 → Rose (K.faults sink.old) (K.faults sink.new) }
@@ -59,8 +65,9 @@ pub fn dst_pipe<F: Flow, K: Sink, R: Sink>(
     ensures sure_report { (w : List ℕ) → F.left flow.old ≡ Some w → (o : Answer) → PipeOutcome (map string_bytes words.now) w o →
         DidNotRise (F.faults flow.old) (F.faults flow.new) → DidNotRise (K.faults sink.old) (K.faults sink.new) →
         (room : ℕ) → R.room report.old ≡ Some room → 7 ≤ room → length (reports.report o.lines) ≤ room → result ≡ 7 → ⊥ }
-    // Want of memory comes before the first call on the sink.
+    // Want of memory comes before the first call on the sink, and has its line, whatever the flow tells.
     ensures memory { result ≡ 4 → sink.new ≡ sink.old }
+    ensures memory_line { result ≡ 4 → R.written report.new ≡ and_then (R.written report.old) (reports.report (reports.memory_line ∷ [])) }
     // A stream that ends in front of its frames: the sink isn't called.
     ensures no_front { (w : List ℕ) → F.left flow.old ≡ Some w → (stream w).front ≡ None → sink.new ≡ sink.old }
     // A stream is refused by the fault that is reported, and so is a frame, behind what is written.
@@ -103,7 +110,10 @@ fn report_line<R: Sink>(report: &mut R, status: u8, line: lines::Line) -> u8
     ensures reported { (result ≡ status) ⊎ (result ≡ 7) }
     ensures whole { result ≡ status → R.written report.new ≡ and_then (R.written report.old) line.bytes }
     ensures cut_short { result ≡ 7 → IsCutShort (R.written report.old) line.bytes (R.written report.new) }
+    ensures added { result ≡ status → R.appended report.new ≡ R.appended report.old + length line.bytes }
+    ensures stopped { result ≡ 7 → R.appended report.new ≡ R.appended report.old }
     ensures cause { result ≡ 7 → Rose (R.faults report.old) (R.faults report.new) }
+    ensures later { R.faults report.old ≤ R.faults report.new }
     ensures sure { result ≡ 7 → (room : ℕ) → R.room report.old ≡ Some room → length line.bytes ≤ room → ⊥ }
 {
     match report.append(line.as_bytes()) {

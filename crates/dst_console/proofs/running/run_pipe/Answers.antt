@@ -1,6 +1,7 @@
 -- What stands behind each status is that of the call over a flow and a sink as they are made.
 use Rattle.std.proofs.Common.{map, ap, sym, subst, ◌∙◌}
 use Rattle.std.specs.String.{string_bytes}
+use Rattle.dst_streams.specs.Causes.{Rose}
 use Rattle.dst_tool.specs.Runs.{DidNotRise}
 use Rattle.pipe_tool.specs.Runs.{Ends}
 use Rattle.dst_console.proofs.running.run_pipe.Goals as goal
@@ -17,4 +18,12 @@ returns-clause-ends g c = λ w tells.
     let words = map string_bytes c.args.words.now in
     let held = c.sink-output.ensures.written ∙ ap (g.D.Devices.holds c.args.devices.now) c.word_at.ensures in
     let end = c.dst_pipe-status.ensures.ends w (c.flow-input.ensures.left ∙ tells) in
-    (end.0, end.1, subst (λ old. Ends words w end.0 end.1 old (g.D.Sink.Sink.written c.dst_pipe-status.new.sink)) held end.2, end.3)
+    let flow = c.dst_pipe-status.new.flow in
+    let sink = c.dst_pipe-status.new.sink in (
+      end.0,
+      end.1,
+      subst (λ old. Ends words w end.0 end.1 old (g.D.Sink.Sink.written sink)) held end.2,
+      λ two. subst (λ before. Rose before (g.D.Flow.Flow.faults flow)) c.flow-input.ensures.faults (end.3 two),
+      λ three. subst (λ before. Rose before (g.D.Sink.Sink.faults sink)) c.sink-output.ensures.faults (end.4 three),
+      end.5,
+    )

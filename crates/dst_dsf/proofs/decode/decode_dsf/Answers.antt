@@ -1,5 +1,5 @@
 -- Each answer is one of opening, or one of writing.
-use Rattle.std.proofs.Common.{◌≡◌, inl, inr, ℕ, List, ◌∷◌, [], Option, Some, Result, Ok, Err, IfOk, ap, sym, subst, ◌∙◌}
+use Rattle.std.proofs.Common.{◌≡◌, inl, inr, ℕ, List, ◌∷◌, [], Option, Some, Result, Ok, Err, IfOk, ap, sym, subst, ◌∙◌, arith}
 use Rattle.dst_streams.specs.Told.{and_then}
 use Rattle.dsdiff_spec.specs.Form.{Form, size_of_sound}
 use Rattle.dsdiff_spec.specs.Refusal.{form_refusal}
@@ -110,3 +110,12 @@ returns-clause-size g c =
     if_done c.write_decoded.result _ (λ s. (file : List ℕ) → g.S.Source.bytes c.args.source.now ≡ Some file →
     s.bytes ≡ size_of_sound (accepted file)) c.write_decoded.ensures.done
     (λ file told. ap size_of_sound (sym (c.in-Ok.ensures.opened file told).walk.form_is))
+
+-- what is read
+pub returns-clause-given : goal.returns-clause-given
+returns-clause-given g c file told =
+    let end = ap (λ (form : Form). form.end) (c.in-Ok.ensures.opened file told).walk.form_is in
+    omega (arith, c.in-Ok.ensures.given, c.write_decoded.ensures.given, end)
+
+pub returns-clause-given_any : goal.returns-clause-given_any
+returns-clause-given_any g c = omega (arith, c.in-Ok.ensures.given, c.write_decoded.ensures.given, c.in-Ok.opened.walked.form.lawful.end)

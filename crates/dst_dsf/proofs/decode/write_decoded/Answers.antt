@@ -3,6 +3,8 @@ use Rattle.std.proofs.Common.{◌≡◌, ℕ, ◌≤◌, List, refl, sym, ap, su
 use Rattle.dst_spec.specs.Sample.{Shape, IsShape}
 use Rattle.dsdiff_chunks.specs.Forms.{coded_seen}
 use Rattle.dsf_files.specs.Forms.{dsf_seen}
+use Rattle.dst_commands.proofs.Taken.{parts_of_form}
+use Rattle.dst_read.proofs.Once.{stored_in_sound}
 use Rattle.dst_dsf.specs.declared.opened.DsfWalked.{DsfWalked}
 use Rattle.dst_dsf.specs.Decoding.{IsFor, IsOpenedAs}
 use Rattle.dst_dsf.proofs.Ending.{head_added, head_cut, ends_at_head, ends_in_rows, ends_unsettled, ends_done}
@@ -59,3 +61,19 @@ returns-clause-written g c file told =
     ends_done file form d o bytes (record { frames = c.args.opened.now.walked.form.frames; bytes = c.sound_size.result }) frames.0 _ _ _ _ _ _ _
     frames.1 head frames.2
     c.finish.ensures.written refl c.sound_size.ensures.size
+
+-- what is read: the stored frames, which lie in the sound
+pub returns-in-Err-clause-given : goal.returns-in-Err-clause-given
+returns-in-Err-clause-given g c =
+    let walked = c.args.opened.now.walked in
+    omega (arith, c.write_rows.ensures.given, stored_in_sound walked, parts_of_form (coded_seen walked.form) walked.form.lawful)
+
+pub returns-in_default-finish-clause-given : goal.returns-in_default-finish-clause-given
+returns-in_default-finish-clause-given g c =
+    let walked = c.args.opened.now.walked in
+    omega (arith, c.write_rows.ensures.given, stored_in_sound walked, parts_of_form (coded_seen walked.form) walked.form.lawful)
+
+pub returns-clause-given : goal.returns-clause-given
+returns-clause-given g c =
+    let walked = c.args.opened.now.walked in
+    omega (arith, c.write_rows.ensures.given, stored_in_sound walked, parts_of_form (coded_seen walked.form) walked.form.lawful)

@@ -1,10 +1,11 @@
+-- Words that are no pipe, or the answer of the stream, and the line of each.
 use Rattle.std.proofs.Common.{◌≡◌, ◌⊎◌, ◌≤◌, inr, [], ◌∷◌, length, sym, ap, subst, ◌∙◌, arith}
 use Rattle.dst_streams.specs.Told.{and_then}
 use Rattle.dsdiff_spec.specs.Lines.{words_line, report}
 use Rattle.stream_spec.specs.Outcome.{stream_refused}
 use Rattle.dsdiff_spec.specs.Outcome.{frame_refused}
 use Rattle.pipe_tool.specs.Runs.{status_of, line_of, OfWords}
-use Rattle.pipe_tool.proofs.Runs.{ends_of, ends_by, file_of, frame_of, reports_of, not_seven, refused_words, refused_words_fit, line_fits}
+use Rattle.pipe_tool.proofs.Runs.{ends_of, ends_by, file_of, frame_of, memory_of, read_of, write_of, reports_of, not_seven, refused_words, refused_words_fit, line_fits}
 use Rattle.pipe_tool.proofs.Runs.{headline_of, complete_of, with_words, by_status}
 use Rattle.pipe_tool.proofs.run.dst_pipe.Goals as goal
 
@@ -26,8 +27,10 @@ returns-then-not-is_pipe-clause-ends g c w told =
       1,
       words_line ∷ [],
       inr (inr (inr (refused_words _ w (g.K.Sink.written c.args.sink.now) b))),
-      reports_of 1 c.report_line.result words_line _ _ _ c.report_line.ensures.reported c.report_line.ensures.whole c.report_line.ensures.cut_short
-          c.words_not_understood.ensures,
+      λ e. absurd cc,
+      λ e. absurd cc,
+      reports_of 1 c.report_line.result words_line _ _ _ _ _ c.report_line.ensures.reported c.report_line.ensures.whole c.report_line.ensures.cut_short
+          c.report_line.ensures.added c.report_line.ensures.stopped c.words_not_understood.ensures,
     )
 
 pub returns-then-not-is_pipe-clause-sure_report : goal.returns-then-not-is_pipe-clause-sure_report
@@ -66,9 +69,12 @@ returns-clause-ends g c w told =
       status_of a.result,
       line_of a.result ∷ [],
       with_words _ w _ _ _ _ b (ends_by a.result w _ _ _ ends),
-      reports_of _ c.report_line-2.result (line_of a.result) _ _ _
+      λ e. a.ensures.read (read_of a.result e),
+      λ e. a.ensures.write (write_of a.result e),
+      reports_of _ c.report_line-2.result (line_of a.result) _ _ _ _ _
           (subst (λ s. (c.report_line-2.result ≡ s) ⊎ (c.report_line-2.result ≡ 7)) status c.report_line-2.ensures.reported)
-          (λ e. c.report_line-2.ensures.whole (e ∙ sym status)) c.report_line-2.ensures.cut_short c.told-status.ensures.line,
+          (λ e. c.report_line-2.ensures.whole (e ∙ sym status)) c.report_line-2.ensures.cut_short
+          (λ e. c.report_line-2.ensures.added (e ∙ sym status)) c.report_line-2.ensures.stopped c.told-status.ensures.line,
     )
 
 pub returns-clause-sure_report : goal.returns-clause-sure_report
@@ -82,6 +88,13 @@ returns-clause-sure_report g c w told o outcome flow sink n room least fits seve
     (subst (λ line. length line ≤ n) (sym c.told-status.ensures.line)
     (line_fits a.result w _ _ _ o n (g.met.F.Flow.told_are_bytes c.args.flow.now w told) ends own (λ e. flow (a.ensures.read e))
     (λ e. sink (a.ensures.write e)) least fits))
+
+pub returns-clause-memory_line : goal.returns-clause-memory_line
+returns-clause-memory_line g c four =
+    let same = by_status _ c.report_line-2.result 4 c.report_line-2.ensures.reported four (omega arith) in
+    let refused = memory_of c.decode_pipe-answer.result (sym c.told-status.ensures.status ∙ sym same ∙ four) in
+    c.report_line-2.ensures.whole same ∙ ap (and_then (g.R.Sink.written c.args.report.now))
+    (c.told-status.ensures.line ∙ ap (λ r. report (line_of r ∷ [])) refused.1)
 
 pub returns-clause-refused : goal.returns-clause-refused
 returns-clause-refused g c five w told =
