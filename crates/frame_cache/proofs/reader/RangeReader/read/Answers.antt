@@ -94,6 +94,7 @@ loop-frame-preserved g c =
       bytes = c.in-Ok.ensures.bytes ∙ inv.bytes;
       known = c.in-Ok.ensures.size_stays ∙ inv.known;
       later = omega (arith, c.in-Ok.ensures.later, inv.later);
+      quiet = c.in-Ok.ensures.quiet ∙ inv.quiet;
       long = c.copy_part.auto.out ∙ inv.long;
       wanted = all;
       sound = λ file form sound told keeps of whole.
