@@ -1,5 +1,5 @@
 -- What stands behind each status is that of the call over devices as they are made.
-use Rattle.std.proofs.Common.{map, ap, subst, subst₂, ◌∙◌}
+use Rattle.std.proofs.Common.{map, ap, sym, subst, subst₂, ◌∙◌}
 use Rattle.std.specs.String.{string_bytes}
 use Rattle.dst_tool.specs.Runs.{Ends, IsCaused}
 use Rattle.dst_console.proofs.running.run_named.Goals as goal
@@ -19,3 +19,10 @@ returns-clause-ends g c = λ file tells.
           c.source-input.ensures.faults c.sink-output.ensures.faults end.3,
       end.4,
     )
+
+-- of a refused file the sink is as it is made
+pub returns-clause-no_output : goal.returns-clause-no_output
+returns-clause-no_output g c = λ file fault tells refused.
+    let bytes = c.source-input.ensures.bytes ∙ ap (g.D.Devices.reads c.args.devices.now) c.word_at.ensures ∙ tells in
+    subst₂ (λ word sink. g.D.Devices.makes_sink c.args.devices.now word sink) c.word_at-2.ensures
+    (sym (c.dst_run-status.ensures.no_output file fault bytes refused)) c.sink-output.ensures.made
