@@ -5,7 +5,8 @@ use Rattle.dsdiff_spec.specs.Lines.{words_line, report}
 use Rattle.stream_spec.specs.Outcome.{stream_refused}
 use Rattle.dsdiff_spec.specs.Outcome.{frame_refused}
 use Rattle.pipe_tool.specs.Runs.{status_of, line_of, OfWords}
-use Rattle.pipe_tool.proofs.Runs.{ends_of, ends_by, file_of, frame_of, memory_of, read_of, write_of, reports_of, not_seven, refused_words, refused_words_fit, line_fits}
+use Rattle.pipe_tool.proofs.Runs.{ends_of, ends_by, file_of, frame_of, memory_of, read_of, write_of, reports_of, not_seven, line_fits}
+use Rattle.pipe_tool.proofs.Runs.{refused_words, refused_words_fit}
 use Rattle.pipe_tool.proofs.Runs.{headline_of, complete_of, with_words, by_status}
 use Rattle.pipe_tool.proofs.run.dst_pipe.Goals as goal
 
