@@ -1,3 +1,4 @@
+-- Byte by byte the sum grows by that of the byte, which stands in the table.
 use Rattle.std.proofs.Common.{◌≡◌, ◌*◌, ◌+◌, ◌<◌, ◌≤ℤ◌, ◌≤◌, pos, neg_ℤ, ◌+ℤ◌, length, [], get_or, take, subst, ap, ◌∙◌, rules, arith}
 use Rattle.std.proofs.lemmas.Int.{ints}
 use Rattle.std.proofs.lemmas.List.{take_all}
@@ -42,21 +43,11 @@ returns-clause-plain c =
 
 pub returns-clause-before : goal.returns-clause-before
 returns-clause-before c = λ f sound ch t before.
-    let coefs = c.args.filter.now in
-    let bytes = c.bytes-bytes.result.now in
-    let table : IsTable filter_kind coefs = subst (IsTable filter_kind) c.filter.view_is c.filter.invariant.table in
-    let long : length bytes ≡ 16 = omega (arith, length-samples_of bytes, ap length c.bytes-bytes.ensures.samples, c.bytes-bytes.ensures.long) in
-    let whole : take c.loop-j.j bytes ≡ bytes = take_all c.loop-j.j bytes (omega arith) in
-    c.loop-j.invariant.0 ∙ ap (λ t. signed_sum coefs (samples_of t)) whole ∙ ap (signed_sum coefs) c.bytes-bytes.ensures.samples
-    ∙ predicted f sound ch t c.args.history.now coefs table.most before
+    let table : IsTable filter_kind c.args.filter.now = subst (IsTable filter_kind) c.filter.view_is c.filter.invariant.table in
+    returns-clause-plain c ∙ predicted f sound ch t c.args.history.now c.args.filter.now table.most before
 
 pub returns-clause-ones : goal.returns-clause-ones
 returns-clause-ones c =
-    let coefs = c.args.filter.now in
-    let bytes = c.bytes-bytes.result.now in
-    let table : IsTable filter_kind coefs = subst (IsTable filter_kind) c.filter.view_is c.filter.invariant.table in
-    let most : length coefs ≤ 128 = table.most in
-    let long : length bytes ≡ 16 = omega (arith, length-samples_of bytes, ap length c.bytes-bytes.ensures.samples, c.bytes-bytes.ensures.long) in
-    let whole : take c.loop-j.j bytes ≡ bytes = take_all c.loop-j.j bytes (omega arith) in
-    c.loop-j.invariant.0 ∙ ap (λ t. signed_sum coefs (samples_of t)) whole ∙ ap (signed_sum coefs) c.bytes-bytes.ensures.samples
-    ∙ signed_sum-ones coefs c.args.history.now (omega (arith, c.bytes-bytes.ensures.long))
+    let table : IsTable filter_kind c.args.filter.now = subst (IsTable filter_kind) c.filter.view_is c.filter.invariant.table in
+    let most : length c.args.filter.now ≤ 128 = table.most in
+    returns-clause-plain c ∙ signed_sum-ones c.args.filter.now c.args.history.now (omega (arith, c.bytes-bytes.ensures.long))

@@ -1,51 +1,45 @@
-use Rattle.std.proofs.Common.{◌≡◌, ℕ, ◌+◌, ◌*◌, ◌<◌, ◌≤◌, ◌^◌, ℤ, pos, ◌+ℤ◌, List, length, get_or, FitsSigned, ap, ◌∙◌, sym, rules, arith}
+-- The upper half of a row from its lower half, coefficient by coefficient.
+use Rattle.std.proofs.Common.{◌≡◌, ℕ, ◌+◌, ◌*◌, ◌<◌, ◌≤◌, ◌^◌, pos, ◌+ℤ◌, length, get_or, FitsSigned, ap, ◌∙◌, sym, rules, arith}
 use mir.Syntax.{w16}
 use Rattle.std.proofs.lemmas.Int.{ints}
 use Rattle.std.proofs.lemmas.List.{length-set}
-use Rattle.dst_spec.specs.Table.{filter_kind, InRange}
 use Rattle.byte_predictor.specs.Samples.{rising_bits}
 use Rattle.byte_predictor.specs.Upward.{upward_sum}
 use Rattle.byte_predictor.proofs.Sums.{half-below}
 use Rattle.byte_predictor.proofs.Lanes.{raised-lane, row-more}
 use Rattle.byte_predictor.proofs.row_filter.fill_near.Goals as goal
+use Rattle.byte_predictor.proofs.row_filter.fill_near.Goals.{In-loop-byte}
 
 from_zero : (k : ℕ) → k ≡ 0 + k
 from_zero k = omega arith
 
 -- what one coefficient more makes of the sum of a byte
-raised : (coefs : List ℤ) (i half byte low : ℕ) (coef : ℤ) → ((j : ℕ) → InRange filter_kind (get_or coefs j (pos 0))) → i < 8 → half ≡ 2 ^ i → byte < half →
-    low ≡ upward_sum coefs (rising_bits 8 byte) → coef ≡ get_or coefs i (pos 0) →
-    (pos low +ℤ coef ≡ pos (upward_sum coefs (rising_bits 8 (half + byte)))) × (upward_sum coefs (rising_bits 8 (half + byte)) ≤ 2048)
-raised coefs i half byte low coef range few power lt here is =
-    let step = raised-lane coefs 0 i half byte low range few power lt here in
-    let at : get_or coefs (0 + i) (pos 0) ≡ coef = sym (is ∙ ap (λ k. get_or coefs k (pos 0)) (from_zero i)) in
-    (ap (λ z. pos low +ℤ z) (sym at) ∙ step.0, step.1)
+raised : (c : In-loop-byte) → let sum = upward_sum c.args.coefs.now (rising_bits 8 (c.loop-i.half + c.loop-byte.byte)) in
+    (pos (get_or c.loop-byte.near c.loop-byte.byte 0) +ℤ c.coef_at-coef.result ≡ pos sum) × (sum ≤ 2048) × FitsSigned w16 c.coef_at-coef.result
+raised c =
+    let coefs = c.args.coefs.now in
+    let i = c.loop-i.i in
+    let step = raised-lane coefs 0 i c.loop-i.half c.loop-byte.byte (get_or c.loop-byte.near c.loop-byte.byte 0) c.requires (omega arith)
+    c.loop-i.invariant.0 (omega arith) (c.loop-byte.invariant.0 c.loop-byte.byte (omega arith)) in
+    let at : get_or coefs (0 + i) (pos 0) ≡ c.coef_at-coef.result = sym (c.coef_at-coef.ensures ∙ ap (λ k. get_or coefs k (pos 0)) (from_zero i)) in
+    (ap (λ z. pos (get_or c.loop-byte.near c.loop-byte.byte 0) +ℤ z) (sym at) ∙ step.0, step.1, search rules)
 
 pub moved-sum-requires-clause-least : goal.moved-sum-requires-clause-least
 moved-sum-requires-clause-least c =
-    let r = raised c.args.coefs.now c.loop-i.i c.loop-i.half c.loop-byte.byte (get_or c.loop-byte.near c.loop-byte.byte 0) c.coef_at-coef.result c.requires
-    (omega arith)
-    c.loop-i.invariant.0 (omega arith) (c.loop-byte.invariant.0 c.loop-byte.byte (omega arith)) c.coef_at-coef.ensures in
-    let fits : FitsSigned w16 c.coef_at-coef.result = search rules in
-    omega (arith, ints, r.0, r.1)
+    let r = raised c.before.before.before in
+    omega (arith, ints, r.0, r.1, r.2)
 
 pub moved-sum-requires-clause-most : goal.moved-sum-requires-clause-most
 moved-sum-requires-clause-most c =
-    let r = raised c.args.coefs.now c.loop-i.i c.loop-i.half c.loop-byte.byte (get_or c.loop-byte.near c.loop-byte.byte 0) c.coef_at-coef.result c.requires
-    (omega arith)
-    c.loop-i.invariant.0 (omega arith) (c.loop-byte.invariant.0 c.loop-byte.byte (omega arith)) c.coef_at-coef.ensures in
-    let fits : FitsSigned w16 c.coef_at-coef.result = search rules in
-    omega (arith, ints, r.0, r.1)
+    let r = raised c.before.before.before in
+    omega (arith, ints, r.0, r.1, r.2)
 
 pub loop-byte-preserved : goal.loop-byte-preserved
 loop-byte-preserved c =
-    let r = raised c.args.coefs.now c.loop-i.i c.loop-i.half c.loop-byte.byte (get_or c.loop-byte.near c.loop-byte.byte 0) c.coef_at-coef.result c.requires
-    (omega arith)
-    c.loop-i.invariant.0 (omega arith) (c.loop-byte.invariant.0 c.loop-byte.byte (omega arith)) c.coef_at-coef.ensures in
-    let fits : FitsSigned w16 c.coef_at-coef.result = search rules in
+    let r = raised c.before.before.before in
     let place = c.loop-i.half + c.loop-byte.byte in
     let stored_is : c.moved-sum.result ≡ upward_sum c.args.coefs.now (rising_bits 8 (c.loop-i.half + c.loop-byte.byte)) =
-    omega (arith, ints, r.0, r.1, c.moved-sum.ensures) in
+    omega (arith, ints, r.0, r.1, r.2, c.moved-sum.ensures) in
     let eighth : 2 * 2 ^ c.loop-i.i ≤ 256 = half-below c.loop-i.i (omega arith) in
     let power : c.loop-i.half ≡ 2 ^ c.loop-i.i = c.loop-i.invariant.0 in
     let inside : place < length c.loop-byte.near = omega arith in (
