@@ -1,4 +1,5 @@
-use Rattle.std.proofs.Common.{◌≡◌, ◌-◌, ◌≤◌, rules, pos, ◌*ℤ◌, nat_abs, get_or, length, ap, ap₂, ◌∙◌, arith}
+-- The product fits, as the weight and the value are small.
+use Rattle.std.proofs.Common.{◌≡◌, ◌-◌, ◌≤◌, rules, pos, ◌*ℤ◌, nat_abs, get_or, length, to_z, of_z, ap, ap₂, ◌∙◌, arith}
 use Rattle.std.proofs.lemmas.Int.{to_z-of_z, fits_signed_mul, unsigned_abs-mul}
 use Rattle.std.proofs.lemmas.Nat.{mul-le}
 use mir.Val.{SFits}
@@ -21,24 +22,25 @@ value_most g c =
 product_fits : (g : given.Over) (c : goal.After-from_last g) → SFits w32 (c.weight.result *ℤ c.from_last.result)
 product_fits g c = fits_signed_mul w32 c.weight.result c.from_last.result 56 256 (weight_most g c) (value_most g c) (omega arith)
 
+-- the weight and the value are kept as they are
+kept : (g : given.Over) (c : goal.After-from_last g) →
+    (to_z w32 (of_z w32 c.weight.result) ≡ c.weight.result) × (to_z w32 (of_z w32 c.from_last.result) ≡ c.from_last.result)
+kept g c = (to_z-of_z w32 c.weight.result (search rules), to_z-of_z w32 c.from_last.result (search rules))
+
 pub overflow_mul-result : goal.overflow_mul-result
 overflow_mul-result g c =
-    let fits_w : SFits w32 c.weight.result = search rules in
-    let fits_v : SFits w32 c.from_last.result = search rules in
-    rw (to_z-of_z w32 c.weight.result fits_w, to_z-of_z w32 c.from_last.result fits_v) (product_fits g c)
+    let k = kept g c in
+    rw (k.0, k.1) (product_fits g c)
 
 pub returns-clause-term : goal.returns-clause-term
 returns-clause-term g c =
-    let fits_w : SFits w32 c.weight.result = search rules in
-    let fits_v : SFits w32 c.from_last.result = search rules in
-    rw (to_z-of_z w32 c.weight.result fits_w, to_z-of_z w32 c.from_last.result fits_v, to_z-of_z w32 (c.weight.result *ℤ c.from_last.result) (product_fits g c))
-    (ap₂ (λ w v. w *ℤ v) (weight_is g c) c.from_last.ensures)
+    let k = kept g c in
+    rw (k.0, k.1, to_z-of_z w32 (c.weight.result *ℤ c.from_last.result) (product_fits g c)) (ap₂ (λ w v. w *ℤ v) (weight_is g c) c.from_last.ensures)
 
 pub returns-clause-small : goal.returns-clause-small
 returns-clause-small g c =
-    let fits_w : SFits w32 c.weight.result = search rules in
-    let fits_v : SFits w32 c.from_last.result = search rules in
-    rw (to_z-of_z w32 c.weight.result fits_w, to_z-of_z w32 c.from_last.result fits_v, to_z-of_z w32 (c.weight.result *ℤ c.from_last.result) (product_fits g c))
+    let k = kept g c in
+    rw (k.0, k.1, to_z-of_z w32 (c.weight.result *ℤ c.from_last.result) (product_fits g c))
     (omega (
       arith,
       unsigned_abs-mul c.weight.result c.from_last.result,
