@@ -1,3 +1,4 @@
+-- How many bits are used, by the zeros behind the last bit 1 of the gap.
 use Rattle.std.proofs.Common.{◌≡◌, ◌+◌, ◌-◌, ◌*◌, ◌/◌, ◌^◌, ◌≤◌, ℕ, List, refl, ap, ◌∙◌, arith}
 use Rattle.std.specs.Int.{trailing_zeros, w64}
 use Rattle.dst_spec.specs.Bits.{bits}
@@ -13,26 +14,19 @@ zeros_of_fields bytes first place range gap r within =
     zeros_alike (bits bytes) (first + (place + trailing_zeros w64 (due range (value_below range gap)) - 51 - first)) place range
     (due range (value_below range gap) / 2 ^ 52) gap r.in_range.most within r.holds
 
-pub overflow_sub-result : goal.overflow_sub-result
-overflow_sub-result c =
-    let r = c.self.invariant.registers in
+-- they are the zeros behind the last bit 1 of the value
+zeros_is : (c : goal.After-from) → c.from.result
+    ≡ trailing_zeros w64 (due c.self.inside.range (value_below c.self.inside.range c.self.inside.gap))
+zeros_is c =
     let i = c.self.inside in
-    let zeros = zeros_of_fields i.bytes.now i.first i.place i.range i.gap r c.self.invariant.within in
-    let is = c.from.ensures ∙ ap (trailing_zeros w64) c.doubled-gap.ensures.gap ∙ zeros in
-    omega (arith, r.some)
+    c.from.ensures ∙ ap (trailing_zeros w64) c.doubled-gap.ensures.gap
+    ∙ zeros_of_fields i.bytes.now i.first i.place i.range i.gap c.self.invariant.registers c.self.invariant.within
+
+pub overflow_sub-result : goal.overflow_sub-result
+overflow_sub-result c = omega (arith, zeros_is c, c.self.invariant.registers.some)
 
 pub overflow_sub-result-2 : goal.overflow_sub-result-2
-overflow_sub-result-2 c =
-    let r = c.self.invariant.registers in
-    let i = c.self.inside in
-    let zeros = zeros_of_fields i.bytes.now i.first i.place i.range i.gap r c.self.invariant.within in
-    let is = c.from.ensures ∙ ap (trailing_zeros w64) c.doubled-gap.ensures.gap ∙ zeros in
-    omega (arith, r.some)
+overflow_sub-result-2 c = omega (arith, zeros_is c, c.self.invariant.registers.some)
 
 pub returns : goal.returns
-returns c =
-    let r = c.self.invariant.registers in
-    let i = c.self.inside in
-    let zeros = zeros_of_fields i.bytes.now i.first i.place i.range i.gap r c.self.invariant.within in
-    let is = c.from.ensures ∙ ap (trailing_zeros w64) c.doubled-gap.ensures.gap ∙ zeros in
-    rw (is, ← c.self.view_is) (record { used = refl })
+returns c = rw (zeros_is c, ← c.self.view_is) (record { used = refl })
