@@ -1,3 +1,4 @@
+-- The parameters from all parts of a header, or the first field that fails.
 use Rattle.std.proofs.Common.{◌≡◌, ◌≤◌, length, map, pos, subst, sym, arith, lit<}
 use Rattle.dst_spec.specs.Header.{Params, bit_of, IsParams}
 use Rattle.dst_spec.specs.Fields.{number}
@@ -11,28 +12,17 @@ use Rattle.frame_header.proofs.header.read_params.Goals as goal
 
 pub returns-in_err-read_both_segments-clause-fault : goal.returns-in_err-read_both_segments-clause-fault
 returns-in_err-read_both_segments-clause-fault c =
-    let fault = c.in_err-read_both_segments.field-0.0 in
-    let a = c.args.reader.now in
-    handed_on c.from_residual.result fault (IsAtFault (header_fields c.args.channels) a) c.from_residual.ensures.1
-    (segments_fail c.args.channels a fault c.in_err-read_both_segments.ensures.fault)
+    handed_on _ _ _ c.from_residual.ensures.1 (segments_fail _ _ _ c.in_err-read_both_segments.ensures.fault)
 
 pub returns-in_err-filter_map-clause-fault : goal.returns-in_err-filter_map-clause-fault
 returns-in_err-filter_map-clause-fault c =
-    let fault = c.in_err-filter_map.field-0.0 in
-    let a = c.args.reader.now in
-    let b = c.read_both_segments.new.reader in
-    handed_on c.from_residual-in_err-filter_map.result fault (IsAtFault (header_fields c.args.channels) a) c.from_residual-in_err-filter_map.ensures.1
-    (maps_fail c.args.channels a b fault c.in_ok-read_both_segments.ensures.read c.in_err-filter_map.ensures.fault)
+    handed_on _ _ _ c.from_residual-in_err-filter_map.ensures.1
+    (maps_fail _ _ _ _ c.in_ok-read_both_segments.ensures.read c.in_err-filter_map.ensures.fault)
 
 pub returns-in_err-half_prob-clause-fault : goal.returns-in_err-half_prob-clause-fault
 returns-in_err-half_prob-clause-fault c =
-    let fault = c.in_err-half_prob.field-0.0 in
-    let a = c.args.reader.now in
-    let b = c.read_both_segments.new.reader in
-    let d = c.read_both_maps.new.reader in
-    let m = c.in_ok-filter_map in
-    handed_on c.from_residual-in_err-half_prob.result fault (IsAtFault (header_fields c.args.channels) a) c.from_residual-in_err-half_prob.ensures.1
-    (half_fails c.args.channels a b d (m.filter_map, m.prob_map) fault c.in_ok-read_both_segments.ensures.read m.ensures.read c.in_err-half_prob.ensures.fault)
+    handed_on _ _ _ c.from_residual-in_err-half_prob.ensures.1
+    (half_fails _ _ _ _ _ _ c.in_ok-read_both_segments.ensures.read c.in_ok-filter_map.ensures.read c.in_err-half_prob.ensures.fault)
 
 -- the bits behind the half bits are no more than there were
 few_left : (c : goal.After-count) → length (left c.read_half_bits.new.reader) ≤ 2000000
@@ -56,16 +46,10 @@ read_tables-requires c =
 
 pub returns-in_err-filters-clause-fault : goal.returns-in_err-filters-clause-fault
 returns-in_err-filters-clause-fault c =
-    let fault = c.in_err-filters.field-0.0 in
-    let a = c.args.reader.now in
-    let b = c.read_both_segments.new.reader in
-    let d = c.read_both_maps.new.reader in
-    let e = c.read_half_bits.new.reader in
-    let m = c.in_ok-filter_map in
-    let failed = subst (λ n. IsAtFault (times n (table_fields filter_kind)) e fault) c.count.ensures.count c.in_err-filters.ensures.fault in
-    handed_on c.from_residual-in_err-filters.result fault (IsAtFault (header_fields c.args.channels) a) c.from_residual-in_err-filters.ensures.1
-    (filters_fail c.args.channels a b d e (m.filter_map, m.prob_map)
-    (map bit_of c.in_ok-half_prob.half_prob.items) fault c.in_ok-read_both_segments.ensures.read m.ensures.read c.in_ok-half_prob.ensures.read failed)
+    let failed = subst (λ n. IsAtFault (times n (table_fields filter_kind)) c.read_half_bits.new.reader c.in_err-filters.field-0.0)
+    c.count.ensures.count c.in_err-filters.ensures.fault in
+    handed_on _ _ _ c.from_residual-in_err-filters.ensures.1
+    (filters_fail _ _ _ _ _ _ _ _ c.in_ok-read_both_segments.ensures.read c.in_ok-filter_map.ensures.read c.in_ok-half_prob.ensures.read failed)
 
 -- the point in front of the filters, seen from that in front of the probabilities
 abbrev at_count : goal.After-count-2 → goal.After-count
@@ -83,20 +67,12 @@ read_tables-requires-2 c =
 
 pub returns-in_err-probs-clause-fault : goal.returns-in_err-probs-clause-fault
 returns-in_err-probs-clause-fault c =
-    let fault = c.in_err-probs.field-0.0 in
-    let a = c.args.reader.now in
-    let b = c.read_both_segments.new.reader in
-    let d = c.read_both_maps.new.reader in
-    let e = c.read_half_bits.new.reader in
     let f = c.read_tables.new.reader in
-    let m = c.in_ok-filter_map in
-    let filters = map (λ t. t) c.in_ok-filters.filters.items in
-    let gave = subst (λ n. HasRead (times n (table_fields filter_kind)) e filters f) c.count.ensures.count c.in_ok-filters.ensures.read in
-    let failed = subst (λ n. IsAtFault (times n (table_fields prob_kind)) f fault) c.count-2.ensures.count c.in_err-probs.ensures.fault in
-    handed_on c.from_residual-in_err-probs.result fault (IsAtFault (header_fields c.args.channels) a) c.from_residual-in_err-probs.ensures.1
-    (probs_fail c.args.channels a b d e f (m.filter_map, m.prob_map)
-    (map bit_of c.in_ok-half_prob.half_prob.items) filters fault c.in_ok-read_both_segments.ensures.read m.ensures.read c.in_ok-half_prob.ensures.read
-    gave failed)
+    let gave = subst (λ n. HasRead (times n (table_fields filter_kind)) c.read_half_bits.new.reader (map (λ t. t) c.in_ok-filters.filters.items) f)
+    c.count.ensures.count c.in_ok-filters.ensures.read in
+    let failed = subst (λ n. IsAtFault (times n (table_fields prob_kind)) f c.in_err-probs.field-0.0) c.count-2.ensures.count c.in_err-probs.ensures.fault in
+    handed_on _ _ _ c.from_residual-in_err-probs.ensures.1
+    (probs_fail _ _ _ _ _ _ _ _ _ _ c.in_ok-read_both_segments.ensures.read c.in_ok-filter_map.ensures.read c.in_ok-half_prob.ensures.read gave failed)
 
 -- the parameters of the parts that were read, and that the fields give them
 abbrev made : goal.After-new → Params

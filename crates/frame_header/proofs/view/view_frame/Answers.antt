@@ -1,15 +1,16 @@
+-- A plain frame and a coded one, from their first bit, or the first field that fails.
 use Rattle.std.proofs.Common.{◌≡◌, ◌≤◌, ◌<◌, ◌+◌, length, drop, get_or, ap, sym, ◌∙◌, arith, length-drop, Ok}
 use Rattle.dst_spec.specs.Bits.{bits, number_from}
 use Rattle.dst_spec.specs.Reasons.{reason_number}
 use Rattle.dst_spec.specs.Fields.{number, read}
-use Rattle.dst_spec.specs.Offends.{Offends, header_fields, plain_frame_fields}
+use Rattle.dst_spec.specs.Offends.{header_fields, plain_frame_fields}
 use Rattle.dst_spec.specs.declared.faults.FrameFault.{FrameFault}
 use Rattle.dst_spec.proofs.Numbers.{length-bits}
 use Rattle.dst_spec.proofs.Meaning.{first_number}
-use Rattle.bit_io.specs.Reading.{left, HasRead, IsAtFault}
+use Rattle.bit_io.specs.Reading.{left}
 use Rattle.frame_header.proofs.Stepping.{handed_on}
 use Rattle.frame_header.proofs.Early.{early_reason, early_number, early_header, early_plain_frame}
-use Rattle.frame_header.proofs.Frames.{Starts, first_cut, plain_fails, plain_nowhere, header_fails, IsCodedFrom, coded_from}
+use Rattle.frame_header.proofs.Frames.{first_cut, plain_fails, plain_nowhere, header_fails, IsCodedFrom, coded_from}
 use Rattle.frame_header.proofs.view.view_frame.Goals as goal
 
 abbrev Is8 : FrameFault → Type 0
@@ -17,18 +18,12 @@ Is8 fault = reason_number fault.reason ≤ 8
 
 pub returns-in_err-coded-clause-fault : goal.returns-in_err-coded-clause-fault
 returns-in_err-coded-clause-fault c =
-    let fault = c.in_err-coded.field-0.0 in
-    let a = c.new-reader.result in
-    let starts : Starts c.args.frame.now a = record { bytes = c.new-reader.ensures.bytes; place = c.new-reader.ensures.place } in
-    handed_on c.from_residual.result fault (Offends c.args.channels c.args.frame.now) c.from_residual.ensures.1
-    (first_cut c.args.channels c.args.frame.now a fault starts c.in_err-coded.ensures.fault)
+    handed_on _ _ _ c.from_residual.ensures.1
+    (first_cut _ _ _ _ (record { bytes = c.new-reader.ensures.bytes; place = c.new-reader.ensures.place }) c.in_err-coded.ensures.fault)
 
 pub returns-in_err-coded-clause-reason : goal.returns-in_err-coded-clause-reason
 returns-in_err-coded-clause-reason c =
-    let fault = c.in_err-coded.field-0.0 in
-    let a = c.new-reader.result in
-    handed_on c.from_residual.result fault Is8 c.from_residual.ensures.1
-    (early_reason (number 1) (left a) a.place fault (early_number 1) c.in_err-coded.ensures.fault)
+    handed_on _ _ Is8 c.from_residual.ensures.1 (early_reason (number 1) _ _ _ (early_number 1) c.in_err-coded.ensures.fault)
 
 pub lend_sound-requires-clause-plain : goal.lend_sound-requires-clause-plain
 lend_sound-requires-clause-plain c =
@@ -39,31 +34,22 @@ lend_sound-requires-clause-plain c =
 
 pub returns-in_err-sound-clause-fault : goal.returns-in_err-sound-clause-fault
 returns-in_err-sound-clause-fault c =
-    let fault = c.in_err-sound.field-0.0 in
-    let a = c.new-reader.result in
-    let b = c.read_number.new.reader in
-    let starts : Starts c.args.frame.now a = record { bytes = c.new-reader.ensures.bytes; place = c.new-reader.ensures.place } in
-    handed_on c.from_residual-in_err-sound.result fault (Offends c.args.channels c.args.frame.now) c.from_residual-in_err-sound.ensures.1
-    (plain_fails c.args.channels c.args.frame.now a b c.in_ok-coded.coded fault starts c.in_ok-coded.ensures.read c.if-coded-eq0.true
-    c.in_err-sound.ensures.fault)
+    handed_on _ _ _ c.from_residual-in_err-sound.ensures.1
+    (plain_fails _ _ _ _ _ _ (record { bytes = c.new-reader.ensures.bytes; place = c.new-reader.ensures.place })
+    c.in_ok-coded.ensures.read c.if-coded-eq0.true c.in_err-sound.ensures.fault)
 
 pub returns-in_err-sound-clause-reason : goal.returns-in_err-sound-clause-reason
 returns-in_err-sound-clause-reason c =
-    let fault = c.in_err-sound.field-0.0 in
-    let b = c.read_number.new.reader in
-    handed_on c.from_residual-in_err-sound.result fault Is8 c.from_residual-in_err-sound.ensures.1
-    (early_reason (plain_frame_fields c.args.channels) (left b) b.place fault (early_plain_frame c.args.channels) c.in_err-sound.ensures.fault)
+    handed_on _ _ Is8 c.from_residual-in_err-sound.ensures.1
+    (early_reason (plain_frame_fields c.args.channels) _ _ _ (early_plain_frame c.args.channels) c.in_err-sound.ensures.fault)
 
 pub returns-then-coded-eq0-clause-plain_whole : goal.returns-then-coded-eq0-clause-plain_whole
 returns-then-coded-eq0-clause-plain_whole c =
-    let a = c.new-reader.result in
-    let b = c.read_number.new.reader in
-    let starts : Starts c.args.frame.now a = record { bytes = c.new-reader.ensures.bytes; place = c.new-reader.ensures.place } in
-    plain_nowhere c.args.channels c.args.frame.now a b c.in_ok-coded.coded starts c.in_ok-coded.ensures.read c.if-coded-eq0.true c.in_ok-sound.ensures.whole
+    plain_nowhere _ _ _ _ _ (record { bytes = c.new-reader.ensures.bytes; place = c.new-reader.ensures.place })
+    c.in_ok-coded.ensures.read c.if-coded-eq0.true c.in_ok-sound.ensures.whole
 
 pub read_header-requires-clause-few : goal.read_header-requires-clause-few
 read_header-requires-clause-few c =
-    let a = c.new-reader.result in
     let b = c.read_number.new.reader in
     let bytes : length b.bytes ≡ length c.args.frame.now = ap length (c.in_ok-coded.ensures.bytes ∙ c.new-reader.ensures.bytes) in
     omega (arith, length-drop b.place (bits b.bytes), length-bits b.bytes, bytes, c.requires, c.check_bits.ensures)
@@ -80,36 +66,28 @@ read_header-requires-clause-coded c =
 
 pub returns-in_err-header-clause-fault : goal.returns-in_err-header-clause-fault
 returns-in_err-header-clause-fault c =
-    let fault = c.in_err-header.field-0.0 in
-    let a = c.new-reader.result in
     let b = c.read_number.new.reader in
-    let starts : Starts c.args.frame.now a = record { bytes = c.new-reader.ensures.bytes; place = c.new-reader.ensures.place } in
     let place : b.place ≡ 1 = c.in_ok-coded.ensures.place ∙ ap (λ i. i + 1) c.new-reader.ensures.place in
-    let failed : IsAtFault (header_fields c.args.channels.channels) b fault = ap (λ i. read (header_fields c.args.channels.channels) (left b) i) place
-    ∙ c.in_err-header.ensures.fault in
-    handed_on c.from_residual-in_err-header.result fault (Offends c.args.channels c.args.frame.now) c.from_residual-in_err-header.ensures.1
-    (header_fails c.args.channels c.args.frame.now a b c.in_ok-coded.coded fault starts c.in_ok-coded.ensures.read c.if-coded-eq0.false failed)
+    let failed = ap (λ i. read (header_fields c.args.channels.channels) (left b) i) place ∙ c.in_err-header.ensures.fault in
+    handed_on _ _ _ c.from_residual-in_err-header.ensures.1
+    (header_fails _ _ _ _ _ _ (record { bytes = c.new-reader.ensures.bytes; place = c.new-reader.ensures.place })
+    c.in_ok-coded.ensures.read c.if-coded-eq0.false failed)
 
 pub returns-in_err-header-clause-reason : goal.returns-in_err-header-clause-reason
 returns-in_err-header-clause-reason c =
-    let fault = c.in_err-header.field-0.0 in
-    let b = c.read_number.new.reader in
-    handed_on c.from_residual-in_err-header.result fault Is8 c.from_residual-in_err-header.ensures.1
-    (early_reason (header_fields c.args.channels.channels) (left b) 1 fault (early_header c.args.channels.channels) c.in_err-header.ensures.fault)
+    handed_on _ _ Is8 c.from_residual-in_err-header.ensures.1
+    (early_reason (header_fields c.args.channels.channels) _ _ _ (early_header c.args.channels.channels) c.in_err-header.ensures.fault)
 
+-- what is read of a coded frame, up to its code
 coded : (c : goal.After-rest) → IsCodedFrom c.args.channels c.args.frame.now c.read_header.new.reader
 coded c =
-    let a = c.new-reader.result in
     let b = c.read_number.new.reader in
-    let d = c.read_header.new.reader in
     let h = c.in_ok-header in
-    let starts : Starts c.args.frame.now a = record { bytes = c.new-reader.ensures.bytes; place = c.new-reader.ensures.place } in
     let place : b.place ≡ 1 = c.in_ok-coded.ensures.place ∙ ap (λ i. i + 1) c.new-reader.ensures.place in
-    let gave : HasRead (header_fields c.args.channels.channels) b h.header.params d =
-    ap (λ i. read (header_fields c.args.channels.channels) (left b) i) place ∙ h.ensures.fields
-    ∙ ap (λ i. Ok (h.header.params, left d, i)) (sym h.ensures.place) in
-    let bytes : d.bytes ≡ c.args.frame.now = h.ensures.bytes ∙ c.in_ok-coded.ensures.bytes ∙ c.new-reader.ensures.bytes in
-    coded_from c.args.channels c.args.frame.now a b d c.in_ok-coded.coded h.header.params starts c.in_ok-coded.ensures.read c.if-coded-eq0.false gave bytes
+    let gave = ap (λ i. read (header_fields c.args.channels.channels) (left b) i) place ∙ h.ensures.fields
+    ∙ ap (λ i. Ok (h.header.params, left c.read_header.new.reader, i)) (sym h.ensures.place) in
+    coded_from _ _ _ _ _ _ _ (record { bytes = c.new-reader.ensures.bytes; place = c.new-reader.ensures.place })
+    c.in_ok-coded.ensures.read c.if-coded-eq0.false gave (h.ensures.bytes ∙ c.in_ok-coded.ensures.bytes ∙ c.new-reader.ensures.bytes)
 
 pub returns-clause-first_bit : goal.returns-clause-first_bit
 returns-clause-first_bit c = rw c.rest.ensures.first (coded c).first_bit

@@ -1,3 +1,4 @@
+-- Each number of a map fits its bits.
 use Rattle.std.proofs.Common.{◌≡◌, ◌+◌, ◌<◌, ◌≤◌, ◌++◌, max, get_or, ap₂, ◌∙◌, arith}
 use Rattle.dst_spec.specs.Bits.{low_bits}
 use Rattle.dst_spec.specs.Map.{map_bits}
@@ -8,11 +9,9 @@ use Rattle.dst_spec.proofs.MapNumbers.{number-fits, numbers_on}
 pub put-requires-clause-fits : goal.put-requires-clause-fits
 put-requires-clause-fits c =
     let l = c.loop-element in
-    let es = c.args.elements.now in
-    let e = get_or es l.element-index 0 in
-    let at = numbers_on es l.element-index l.count c.loop-element-test.true l.invariant.numbers in
+    let at = numbers_on c.args.elements.now l.element-index l.count c.loop-element-test.true l.invariant.numbers in
     let few : l.count < 8 = omega (arith, l.invariant.count, c.loop-element-test.true, c.requires.few) in
-    rw (c.from.ensures, c.map_bits.ensures.bits) (number-fits l.count e at.0 few)
+    rw (c.from.ensures, c.map_bits.ensures.bits) (number-fits l.count (get_or c.args.elements.now l.element-index 0) at.0 few)
 
 pub loop-element-preserved : goal.loop-element-preserved
 loop-element-preserved c =
