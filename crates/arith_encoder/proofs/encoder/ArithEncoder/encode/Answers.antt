@@ -1,3 +1,4 @@
+-- A block leaves where there are bits for it, and the part of the symbol is taken.
 use Rattle.std.proofs.Common.{◌≡◌, ℕ, ◌+◌, ◌-◌, ◌*◌, ◌/◌, ◌%◌, ◌^◌, ◌≤◌, ◌<◌, Bool, List, refl, ap, sym, ◌∙◌, arith}
 use Rattle.std.proofs.lemmas.Nat.{one_shl}
 use Rattle.dst_spec.specs.Interval.{Interval}
@@ -9,7 +10,7 @@ use Rattle.arith_encoder.specs.declared.encoder.ArithEncoder.TheInside.{Inside}
 use Rattle.arith_encoder.proofs.Moving.{IsTaken, reached_of, leaves_below, left_by, taken}
 use Rattle.arith_encoder.proofs.Narrowing.{IsNarrowed}
 use Rattle.arith_encoder.proofs.encoder.ArithEncoder.encode.Goals as goal
-use Rattle.arith_encoder.proofs.encoder.ArithEncoder.encode.Goals.{then-self-ge32, else-self-ge32}
+use Rattle.arith_encoder.proofs.encoder.ArithEncoder.encode.Goals.{After-narrow-part, then-self-ge32, else-self-ge32}
 
 abbrev RegistersOf : Inside → Type 0
 RegistersOf i = AreRegisters i.held i.low i.count i.range i.left
@@ -56,7 +57,7 @@ push-requires-clause-carry c =
 
 -- ---- at the points of the body
 -- with or without a block that leaves
-moved : (c : goal.After-struct_known-2-1) → IsSame c.self.inside c.if-self-ge32.self-inside
+moved : (c : After-narrow-part) → IsSame c.self.inside c.if-self-ge32.self-inside
 moved c =
     let i = c.self.inside in
     let j = c.if-self-ge32.self-inside in
@@ -66,17 +67,18 @@ moved c =
       | else-self-ge32 w ↦ none_left i j c.self.invariant w.if-self-ge32.false w.self-inside-is
     ]
 
-abbrev joined : goal.After-self-4-1 → goal.After-struct_known-2-1
-joined c = c.before.before.before.before
+-- the point behind the part, seen from the end
+abbrev joined : goal.After-self-4-1 → After-narrow-part
+joined c = c.before.before.before.before.before.before.before
 
 -- the symbol's part in the registers
-abbrev TakenAt : goal.After-struct_known-2-1 → Type 0
+abbrev TakenAt : After-narrow-part → Type 0
 TakenAt c =
     let j = c.if-self-ge32.self-inside in
     let part = c.narrow-part.result in
     IsTaken j.held j.low j.count j.range j.left c.args.p c.args.symbol part.start part.range part.doublings
 
-took : (c : goal.After-struct_known-2-1) → TakenAt c
+took : (c : After-narrow-part) → TakenAt c
 took c =
     let j = c.if-self-ge32.self-inside in
     let m = moved c in
@@ -91,28 +93,18 @@ took c =
     taken j.held j.low j.count j.range j.left c.args.p c.args.symbol part.start part.range part.doublings
     c.value-2.ensures.least c.value-2.ensures.most m.registers m.few n
 
-moved_in_vain : (c : goal.Then-count-self) → IsSame c.self.inside c.if-self-ge32.self-inside
-moved_in_vain c =
-    let i = c.self.inside in
-    let j = c.if-self-ge32.self-inside in
-    elim c.if-self-ge32.branch [
-      | then-self-ge32 w ↦ some_left i j w.push.new.self c.self.invariant w.if-self-ge32.true w.push.ensures.number w.push.ensures.count
-          w.push.ensures.before w.push.ensures.room w.self-inside-is
-      | else-self-ge32 w ↦ none_left i j c.self.invariant w.if-self-ge32.false w.self-inside-is
-    ]
-
 pub invariant_of-self : goal.invariant_of-self
-invariant_of-self c = (moved_in_vain c).registers
+invariant_of-self c = (moved c.before.before).registers
 
 pub returns-then-count-self-clause-unchanged : goal.returns-then-count-self-clause-unchanged
 returns-then-count-self-clause-unchanged c unchanged =
     let i = c.self.inside in
     let j = c.if-self-ge32.self-inside in
-    let m = moved_in_vain c in
+    let m = moved c.before.before in
     same_encoding j.held.before i.held.before j.held.room i.held.room (ReachedOf j) (ReachedOf i) m.before m.room m.reached ∙ c.self.view_is
 
 pub overflow_add-self : goal.overflow_add-self
-overflow_add-self c = omega (arith, (took c).sum_fits)
+overflow_add-self c = omega (arith, (took c.before.before.before).sum_fits)
 
 pub invariant_of-self-2 : goal.invariant_of-self-2
 invariant_of-self-2 c = let t = took (joined c) in rw t.low_is (t.registers (omega (arith, c.if-count-self.false)))

@@ -1,4 +1,5 @@
-use Rattle.std.proofs.Common.{◌≡◌, ℕ, suc, ◌+◌, ◌-◌, ◌*◌, ◌/◌, ◌%◌, ◌^◌, ◌≤◌, ◌<◌, ◌++◌, Bool, List, replicate, length, refl, ap, ap₂, ◌∙◌, arith}
+-- What is left is let go in one or two parts, with zeros behind it.
+use Rattle.std.proofs.Common.{◌≡◌, ℕ, suc, ◌+◌, ◌-◌, ◌*◌, ◌/◌, ◌%◌, ◌^◌, ◌≤◌, ◌<◌, ◌++◌, Bool, List, replicate, length, refl, ap, ap₂, ◌∙◌, rules, arith}
 use Rattle.std.proofs.lemmas.Nat.{one_shl, pow-add}
 use Rattle.dst_spec.specs.Bits.{low_bits}
 use Rattle.dst_spec.specs.Interval.{Interval, interval}
@@ -70,27 +71,28 @@ push-requires-clause-carry c =
     let i = c.self.inside in
     leaves_below i.held i.low i.count i.range i.left c.self.invariant (omega arith)
 
-pub finish-writer-requires-clause-carry : goal.finish-writer-requires-clause-carry
-finish-writer-requires-clause-carry c =
+-- with or without 32 bits let go before
+last : (c : goal.After-row_known-1) → IsLast c.self.inside c.if-count-ge32.held c.if-count-ge32.low c.if-count-ge32.count
+last c =
     let i = c.self.inside in
     let r = c.self.invariant in
-    let l : IsLast i c.if-count-ge32.held c.if-count-ge32.low c.if-count-ge32.count = elim c.if-count-ge32.branch [
-      | then-count-ge32 w ↦ some_left i c.if-count-ge32.held w.push.new.self c.if-count-ge32.low c.if-count-ge32.count r w.if-count-ge32.true
+    let j = c.if-count-ge32 in
+    elim j.branch [
+      | then-count-ge32 w ↦ some_left i j.held w.push.new.self j.low j.count r w.if-count-ge32.true
           w.push.ensures.number w.push.ensures.count w.push.ensures.before w.push.ensures.room w.held-is w.low-is w.count-is
-      | else-count-ge32 w ↦ none_left i c.if-count-ge32.held c.if-count-ge32.low c.if-count-ge32.count r w.held-is w.low-is w.count-is
-    ] in
-    carry_fits c.if-count-ge32.held c.if-count-ge32.low c.if-count-ge32.count i.range l.rest l.registers
+      | else-count-ge32 w ↦ none_left i j.held j.low j.count r w.held-is w.low-is w.count-is
+    ]
+
+pub finish-writer-requires-clause-carry : goal.finish-writer-requires-clause-carry
+finish-writer-requires-clause-carry c =
+    let j = c.if-count-ge32 in
+    carry_fits j.held j.low j.count c.self.inside.range (last c).rest (last c).registers
 
 pub returns-clause-bits : goal.returns-clause-bits
 returns-clause-bits c pairs stands =
     let i = c.self.inside in
-    let r = c.self.invariant in
-    let l : IsLast i c.if-count-ge32.held c.if-count-ge32.low c.if-count-ge32.count = elim c.if-count-ge32.branch [
-      | then-count-ge32 w ↦ some_left i c.if-count-ge32.held w.push.new.self c.if-count-ge32.low c.if-count-ge32.count r w.if-count-ge32.true
-          w.push.ensures.number w.push.ensures.count w.push.ensures.before w.push.ensures.room w.held-is w.low-is w.count-is
-      | else-count-ge32 w ↦ none_left i c.if-count-ge32.held c.if-count-ge32.low c.if-count-ge32.count r w.held-is w.low-is w.count-is
-    ] in
+    let j = c.if-count-ge32 in
+    let l = last (record { before = c.before.before.before; type_inv = record { count = search rules } }) in
     let now = rw (← c.self.view_is) at stands in
-    let all = c.finish-writer.ensures.bits ∙ whole i.held.before c.if-count-ge32.held c.if-count-ge32.low c.if-count-ge32.count i.range l.rest pairs
-    l.registers (l.reached ∙ now) l.before in
+    let all = c.finish-writer.ensures.bits ∙ whole i.held.before j.held j.low j.count i.range l.rest pairs l.registers (l.reached ∙ now) l.before in
     rw (← c.self.view_is) (c.finish.ensures.zeros ∙ ap (λ xs. xs ++ replicate (to_byte_end (length xs)) 0) all)
