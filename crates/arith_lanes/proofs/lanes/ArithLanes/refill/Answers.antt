@@ -1,40 +1,34 @@
-use Rattle.std.proofs.Common.{◌≡◌, ◌+◌, ◌-◌, ◌*◌, ◌/◌, ◌%◌, ◌^◌, get_or, ap, sym, ◌∙◌, arith}
+-- The bits ahead of a lane, read again behind those that are used.
+use Rattle.std.proofs.Common.{◌≡◌, ℕ, List, ◌+◌, ◌-◌, ◌*◌, ◌/◌, ◌%◌, ◌^◌, get_or, ap, sym, ◌∙◌, arith}
 use Rattle.std.specs.Int.{trailing_zeros, w64}
 use Rattle.dst_spec.specs.Bits.{bits, number_from}
-use Rattle.arith_lanes.specs.Lanes.{registers_at, value_of}
+use Rattle.arith_lanes.specs.Lanes.{IsLane, registers_at, value_of, first_at, used_at}
+use Rattle.arith_lanes.specs.declared.lanes.ArithLanes.{ArithLanes}
 use Rattle.arith_lanes.proofs.Beginning.{reaches, refills, read_ahead, read_ahead_has, read_ahead_others}
 use Rattle.arith_lanes.proofs.lanes.ArithLanes.refill.Goals as goal
 
+-- the place that they are read at
+ahead_is : (s : ArithLanes) (n : ℕ) (bytes : List ℕ) (behind value : ℕ) → IsLane s n bytes → behind ≡ trailing_zeros w64 value →
+    value ≡ value_of (registers_at s n) → get_or s.place n 0 + behind ≡ first_at s n + used_at s n + 51
+ahead_is s n bytes behind value lane zeros is = ap (λ k. get_or s.place n 0 + k) (zeros ∙ ap (trailing_zeros w64) is) ∙ reaches s n bytes lane
+
 pub overflow_sub-start : goal.overflow_sub-start
-overflow_sub-start c =
-    let r = reaches c.args.self.now c.args.n c.args.bytes.now c.requires.code in
-    let b : c.from-behind.result ≡ trailing_zeros w64 (value_of (registers_at c.args.self.now c.args.n)) =
-    c.from-behind.ensures ∙ ap (trailing_zeros w64) c.value.ensures.value in
-    omega arith
+overflow_sub-start c = omega (arith, ahead_is _ _ _ _ _ c.requires.code c.from-behind.ensures c.value.ensures.value)
 
 pub over-reader-requires-clause-early : goal.over-reader-requires-clause-early
 over-reader-requires-clause-early c =
-    let r = reaches c.args.self.now c.args.n c.args.bytes.now c.requires.code in
     let early = c.requires.code.registers.early in
-    let b : c.from-behind.result ≡ trailing_zeros w64 (value_of (registers_at c.args.self.now c.args.n)) =
-    c.from-behind.ensures ∙ ap (trailing_zeros w64) c.value.ensures.value in
-    omega arith
+    omega (arith, ahead_is _ _ _ _ _ c.requires.code c.from-behind.ensures c.value.ensures.value)
 
 pub read_or_zero-upper-requires-clause-early : goal.read_or_zero-upper-requires-clause-early
 read_or_zero-upper-requires-clause-early c =
-    let r = reaches c.args.self.now c.args.n c.args.bytes.now c.requires.code in
     let early = c.requires.code.registers.early in
-    let b : c.from-behind.result ≡ trailing_zeros w64 (value_of (registers_at c.args.self.now c.args.n)) =
-    c.from-behind.ensures ∙ ap (trailing_zeros w64) c.value.ensures.value in
-    omega (arith, c.over-reader.ensures.place)
+    omega (arith, ahead_is _ _ _ _ _ c.requires.code c.from-behind.ensures c.value.ensures.value, c.over-reader.ensures.place)
 
 pub read_or_zero-lower-requires-clause-early : goal.read_or_zero-lower-requires-clause-early
 read_or_zero-lower-requires-clause-early c =
-    let r = reaches c.args.self.now c.args.n c.args.bytes.now c.requires.code in
     let early = c.requires.code.registers.early in
-    let b : c.from-behind.result ≡ trailing_zeros w64 (value_of (registers_at c.args.self.now c.args.n)) =
-    c.from-behind.ensures ∙ ap (trailing_zeros w64) c.value.ensures.value in
-    omega (arith, c.over-reader.ensures.place, c.read_or_zero-upper.ensures.place)
+    omega (arith, ahead_is _ _ _ _ _ c.requires.code c.from-behind.ensures c.value.ensures.value, c.over-reader.ensures.place, c.read_or_zero-upper.ensures.place)
 
 pub returns-clause-filled : goal.returns-clause-filled
 returns-clause-filled c =
