@@ -1,4 +1,5 @@
-use Rattle.std.proofs.Common.{◌≡◌, ◌⊎◌, inl, inr, ◌-◌, ◌*◌, ◌<◌, ◌≤◌, min, pos, ◌-ℤ◌, length, map, get_or, sym, subst, arith}
+-- Entry by entry: those far below, one for each sum, those far above.
+use Rattle.std.proofs.Common.{◌≡◌, ℕ, List, ◌⊎◌, inl, inr, ◌-◌, ◌*◌, ◌<◌, ◌≤◌, min, pos, ◌-ℤ◌, length, map, get_or, sym, subst, arith}
 use Rattle.std.proofs.lemmas.Bool.{cases_lt}
 use Rattle.std.proofs.lemmas.List.{length-map}
 use Rattle.byte_predictor.specs.Upward.{upward_sum, size_sum}
@@ -6,6 +7,10 @@ use Rattle.dst_frames.specs.Tables.{IsEntry}
 use Rattle.dst_frames.specs.Entries.{entry_for}
 use Rattle.dst_frames.proofs.Entries.{HasFirst, far_below, far_above, one_more}
 use Rattle.dst_frames.proofs.fill.fill_entries.Goals as goal
+
+-- as many as a table holds at most
+few : (probs : List ℕ) → length (map (λ x. pos x) probs) ≤ 64 → length probs ≤ 64
+few probs most = omega (arith, length-map probs (λ x. pos x), most)
 
 pub loop-below-init : goal.loop-below-init
 loop-below-init c = record { long = omega arith; first = λ k h. absurd (omega arith) }
@@ -16,10 +21,8 @@ loop-below-preserved c =
     let probs = c.args.probs.now in
     let size = size_sum c.args.filter.now in
     let same = c.size-size.ensures.size in
-    let long = length-map probs (λ x. pos x) in
-    let most : length (map pos probs) ≤ 64 = c.requires.most in
     let x = c.entry_at-least in
-    let own = far_below probs x.result 0 (2 * u) size (omega (arith, long, most)) (omega (arith, same)) (omega (arith, same)) x.ensures in
+    let own = far_below probs x.result 0 (2 * u) size (few probs c.requires.most) (omega (arith, same)) (omega (arith, same)) x.ensures in
     one_more c.loop-below.entries probs size u x.result (omega (arith, same)) c.loop-below.invariant own
 
 pub loop-upward-init : goal.loop-upward-init
@@ -39,10 +42,8 @@ loop-above-preserved c =
     let probs = c.args.probs.now in
     let size = size_sum c.args.filter.now in
     let same = c.size-size.ensures.size in
-    let long = length-map probs (λ x. pos x) in
-    let most : length (map pos probs) ≤ 64 = c.requires.most in
     let x = c.entry_at-greatest in
-    let own = far_above probs x.result (2 * (c.min-end.result - 1)) (2 * u) size (omega (arith, long, most)) (omega (arith, same)) (omega (arith, same))
+    let own = far_above probs x.result (2 * (c.min-end.result - 1)) (2 * u) size (few probs c.requires.most) (omega (arith, same)) (omega (arith, same))
     x.ensures in
     one_more c.loop-above.entries probs size u x.result (omega arith) c.loop-above.invariant own
 
@@ -53,8 +54,6 @@ returns c = λ samples long.
     let size = size_sum c.args.filter.now in
     let u = upward_sum c.args.filter.now samples in
     let below = s.upward samples in
-    let few = length-map probs (λ x. pos x) in
-    let most : length (map pos probs) ≤ 64 = c.requires.most in
     let inv = c.loop-above.invariant in
     let entries = c.loop-above.entries in
     let at : (u < 32768) ⊎ (32768 ≤ u) → IsEntry (pos (2 * u) -ℤ pos size) probs (entry_for entries u) = λ q. elim q [
@@ -65,7 +64,7 @@ returns c = λ samples long.
       | inr le ↦
           let own = inv.first 32767 (omega (arith, below, le)) in
           let same : 32767 ≡ min u 32767 = omega arith in
-          let far = far_above probs (get_or entries 32767 0) 65534 (2 * u) size (omega (arith, few, most)) (omega (arith, s.most))
+          let far = far_above probs (get_or entries 32767 0) 65534 (2 * u) size (few probs c.requires.most) (omega (arith, s.most))
           (omega (arith, s.most)) own in
           subst (λ k. IsEntry (pos (2 * u) -ℤ pos size) probs (get_or entries k 0)) same far
     ] in

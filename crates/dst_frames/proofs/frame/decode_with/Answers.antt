@@ -1,3 +1,4 @@
+-- What a plain frame and a coded one decode to, or where they offend.
 use Rattle.std.proofs.Common.{◌≡◌, ◌-◌, length, get_or, sym, subst, ◌∙◌, refl}
 use Rattle.dst_spec.specs.Bits.{bits}
 use Rattle.dst_spec.proofs.Meaning.{meaning_is_no_fault}
@@ -39,20 +40,8 @@ returns-in-Ok-clause-sound c =
 
 pub returns-in-Ok-clause-whole : goal.returns-in-Ok-clause-whole
 returns-in-Ok-clause-whole c = λ fault o.
-    let f = c.args.channels in
-    let frame = c.args.frame.now in
-    let out = c.decode_code.new.out in
-    let P = c.in-Ok-Coded.params in
-    let place = c.in-Ok-Coded.code.first in
-    let bytes = rw c.in-Ok-Coded.field-0-is at c.in-Ok-Coded.ensures.bytes in
-    let inside = rw c.in-Ok-Coded.field-0-is at c.in-Ok-Coded.ensures.inside in
-    let header = rw c.in-Ok-Coded.field-0-is at c.in-Ok-Coded.ensures.header in
-    let s = is_sound f out (c.decode_code.auto.out ∙ c.requires.out) c.type_inv.out in
-    let code = subst (λ bs. IsCodeOfSound f P (bits bs) place out c.in-Ok.used) bytes
-    (c.in-Ok.ensures.sound f (sym c.requires.tables) c.multiple-octets.ensures.multiple) in
-    let first : get_or (bits frame) place 0 ≡ 0 = subst (λ bs. get_or (bits bs) place 0 ≡ 0) bytes c.in-Ok.ensures.first_bit in
-    let means = coded_means f P frame out place c.in-Ok.used c.unread.result inside header first s code c.unread.ensures in
-    meaning_is_no_fault f frame out fault c.multiple-octets.ensures.shape (meaning_of_tail f frame out c.unread.result means) o
+    let means = meaning_of_tail c.args.channels c.args.frame.now c.decode_code.new.out c.unread.result (returns-in-Ok-clause-sound c) in
+    meaning_is_no_fault c.args.channels c.args.frame.now c.decode_code.new.out fault c.multiple-octets.ensures.shape means o
 
 pub returns-in-Err-decode_code-clause-fault : goal.returns-in-Err-decode_code-clause-fault
 returns-in-Err-decode_code-clause-fault c =
@@ -65,10 +54,5 @@ returns-in-Err-decode_code-clause-fault c =
 
 pub returns-in-Err-decode_code-clause-no_sound : goal.returns-in-Err-decode_code-clause-no_sound
 returns-in-Err-decode_code-clause-no_sound c = λ sound means.
-    let place = c.in-Ok-Coded.code.first in
-    let bytes = rw c.in-Ok-Coded.field-0-is at c.in-Ok-Coded.ensures.bytes in
-    let first = rw c.in-Ok-Coded.field-0-is at c.in-Ok-Coded.ensures.first_bit in
-    let range = rw c.in-Ok-Coded.field-0-is at c.in-Ok-Coded.ensures.range in
-    let fault = subst (λ bs. IsCodeFault (bits bs) place c.in-Err-decode_code.fault) bytes c.in-Err-decode_code.ensures.fault in
     meaning_is_no_fault c.args.channels c.args.frame.now sound c.in-Err-decode_code.fault c.multiple-octets.ensures.shape means
-    (code_offends c.args.channels c.args.frame.now place c.in-Err-decode_code.fault first range fault)
+    (returns-in-Err-decode_code-clause-fault c)
