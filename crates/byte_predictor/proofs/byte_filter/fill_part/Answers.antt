@@ -8,7 +8,8 @@ use Rattle.byte_predictor.proofs.Sums.{Within, raised-step, within-bits, table-m
 use Rattle.byte_predictor.proofs.byte_filter.fill_part.Goals as goal
 
 -- what one coefficient more at a sample 1 makes of the sum of a byte; neither is large
-upper : (c : goal.After-part-1) → let low = get_or c.loop-byte.part c.loop-byte.byte (pos 0) in let sum = low +ℤ (c.coef_at-coef.result +ℤ c.coef_at-coef.result) in
+upper : (c : goal.After-part-1) → let low = get_or c.loop-byte.part c.loop-byte.byte (pos 0) in
+    let sum = low +ℤ (c.coef_at-coef.result +ℤ c.coef_at-coef.result) in
     (sum ≡ signed_sum (drop c.args.first c.args.coefs.now) (rising_bits 8 (c.loop-i.half + c.loop-byte.byte))) × Within 2048 sum × Within 2048 low
 upper c =
     let low = get_or c.loop-byte.part c.loop-byte.byte (pos 0) in

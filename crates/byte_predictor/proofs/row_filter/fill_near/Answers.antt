@@ -10,6 +10,7 @@ use Rattle.byte_predictor.proofs.Lanes.{raised-lane, row-more}
 use Rattle.byte_predictor.proofs.row_filter.fill_near.Goals as goal
 use Rattle.byte_predictor.proofs.row_filter.fill_near.Goals.{In-loop-byte}
 
+-- a place counted from 0
 from_zero : (k : ℕ) → k ≡ 0 + k
 from_zero k = omega arith
 

@@ -8,7 +8,7 @@ use Rattle.dst_frames.specs.Entries.{entry_for}
 use Rattle.dst_frames.proofs.Entries.{HasFirst, far_below, far_above, one_more}
 use Rattle.dst_frames.proofs.fill.fill_entries.Goals as goal
 
--- as many as a table holds at most
+-- a table has 64 probabilities at most
 few : (probs : List ℕ) → length (map (λ x. pos x) probs) ≤ 64 → length probs ≤ 64
 few probs most = omega (arith, length-map probs (λ x. pos x), most)
 

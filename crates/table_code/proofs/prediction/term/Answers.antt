@@ -8,17 +8,21 @@ use Rattle.table_code.proofs.Weighing.{weight_is_small, value_is_small}
 use Rattle.table_code.proofs.prediction.term.Given as given
 use Rattle.table_code.proofs.prediction.term.Goals as goal
 
+-- the weight is that of the method
 weight_is : (g : given.Over) (c : goal.After-from_last g) → c.weight.result ≡ get_or (g.K.TableKind.kind.weights c.args.method) c.args.k (pos 0)
 weight_is g c = c.weight.ensures.weight ∙ ap (λ i. get_or (g.K.TableKind.kind.weights c.args.method) i (pos 0)) (omega arith)
 
+-- it is small
 weight_most : (g : given.Over) (c : goal.After-from_last g) → nat_abs c.weight.result ≤ 56
 weight_most g c = rw (weight_is g c) (weight_is_small g.K.TableKind.kind c.args.method c.args.k g.met.K.TableKind.weights c.requires.method)
 
+-- so is the value
 value_most : (g : given.Over) (c : goal.After-from_last g) → nat_abs c.from_last.result ≤ 256
 value_most g c =
     rw c.from_last.ensures (value_is_small g.K.TableKind.kind c.args.values.now (length c.args.values.now - 1 - c.args.k)
     (pos 0) g.met.K.TableKind.small c.requires.each (omega arith))
 
+-- so that their product fits
 product_fits : (g : given.Over) (c : goal.After-from_last g) → SFits w32 (c.weight.result *ℤ c.from_last.result)
 product_fits g c = fits_signed_mul w32 c.weight.result c.from_last.result 56 256 (weight_most g c) (value_most g c) (omega arith)
 

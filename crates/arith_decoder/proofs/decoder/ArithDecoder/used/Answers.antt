@@ -6,6 +6,7 @@ use Rattle.arith_decoder.specs.Registers.{AreRegisters, due, value_below}
 use Rattle.arith_decoder.proofs.Gaps.{zeros_alike}
 use Rattle.arith_decoder.proofs.decoder.ArithDecoder.used.Goals as goal
 
+-- the gap ends in as many zeros as the value
 zeros_of_fields : (bytes : List ℕ) (first place range gap : ℕ) →
     AreRegisters bytes first (place + trailing_zeros w64 (due range (value_below range gap)) - 51 - first) place (due range (value_below range gap))
     (due range range) →

@@ -27,6 +27,7 @@ record IsSame (i j : Inside) : Type 0 where
   registers : RegistersOf j
   few : j.count < 32
 
+-- where a block has left
 some_left : (i j : Inside) (g : Leaving) → RegistersOf i → 32 ≤ i.count → g.number ≡ i.held.number * 2 ^ 32 + i.low / 2 ^ (i.count - 20) →
     g.count ≡ i.held.count + 32 →
     g.before ≡ i.held.before → g.room ≡ i.held.room →
@@ -37,6 +38,7 @@ some_left i j g r many number count before room is =
     let l = left_by i.held g i.low i.count i.range i.left r many number count room in
     rw (is, one) (record { before = before; room = room; reached = l.reached; range = refl; registers = l.registers; few = omega arith })
 
+-- where none has
 none_left : (i j : Inside) → RegistersOf i → i.count < 32 → j ≡ i → IsSame i j
 none_left i j r few is = rw is (record { before = refl; room = refl; reached = refl; range = refl; registers = r; few = few })
 
@@ -47,6 +49,7 @@ with_prob range p q symbol start after d is n = rw (← is) n
 abbrev made : List ℕ → ℕ → Interval → Encoding
 made before room reached = record { before = before; room = room; reached = reached }
 
+-- equal parts make equal encodings
 same_encoding : (a b : List ℕ) (r s : ℕ) (i j : Interval) → a ≡ b → r ≡ s → i ≡ j → made a r i ≡ made b s j
 same_encoding a b r s i j e f g = ap (λ x. made x r i) e ∙ ap (λ x. made b x i) f ∙ ap (λ x. made b s x) g
 
@@ -78,6 +81,7 @@ TakenAt c =
     let part = c.narrow-part.result in
     IsTaken j.held j.low j.count j.range j.left c.args.p c.args.symbol part.start part.range part.doublings
 
+-- the narrowed interval has that part
 took : (c : After-narrow-part) → TakenAt c
 took c =
     let j = c.if-self-ge32.self-inside in

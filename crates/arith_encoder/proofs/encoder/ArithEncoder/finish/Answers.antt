@@ -23,6 +23,7 @@ record IsLast (i : Inside) (h : Leaving) (low count : ℕ) : Type 0 where
   rest : ℕ
   registers : AreRegisters h low count i.range rest
 
+-- where 32 bits were let go
 some_left : (i : Inside) (h g : Leaving) (low count : ℕ) → RegistersOf i → 32 ≤ i.count → g.number ≡ i.held.number * 2 ^ 32 + i.low / 2 ^ (i.count - 20) →
     g.count ≡ i.held.count + 32 →
     g.before ≡ i.held.before → g.room ≡ i.held.room → h ≡ g → low ≡ i.low % (1 * 2 ^ (i.count - 20) % 18446744073709551616) → count ≡ i.count - 32 →
@@ -33,10 +34,12 @@ some_left i h g low count r many number more before room h_is low_is count_is =
     let l = left_by i.held g i.low i.count i.range i.left r many number more room in
     rw (h_is, low_is, count_is, one) (record { before = before; reached = l.reached; rest = i.left - 32; registers = l.registers })
 
+-- where none were
 none_left : (i : Inside) (h : Leaving) (low count : ℕ) → RegistersOf i → h ≡ i.held → low ≡ i.low → count ≡ i.count → IsLast i h low count
 none_left i h low count r h_is low_is count_is =
     rw (h_is, low_is, count_is) (record { before = refl; reached = refl; rest = i.left; registers = r })
 
+-- the low end is below a carry and all bits behind it
 carry_fits : (h : Leaving) (low count range left : ℕ) → AreRegisters h low count range left → low < 2 * 2 ^ (12 + count)
 carry_fits h low count range left r =
     let power = pow-add 2 12 count in

@@ -17,18 +17,18 @@ overflow_sub-start c = omega (arith, ahead_is _ _ _ _ _ c.requires.code c.from-b
 
 pub over-reader-requires-clause-early : goal.over-reader-requires-clause-early
 over-reader-requires-clause-early c =
-    let early = c.requires.code.registers.early in
-    omega (arith, ahead_is _ _ _ _ _ c.requires.code c.from-behind.ensures c.value.ensures.value)
+    let start = ahead_is _ _ _ _ _ c.requires.code c.from-behind.ensures c.value.ensures.value in
+    omega (arith, start, c.requires.code.registers.early)
 
 pub read_or_zero-upper-requires-clause-early : goal.read_or_zero-upper-requires-clause-early
 read_or_zero-upper-requires-clause-early c =
-    let early = c.requires.code.registers.early in
-    omega (arith, ahead_is _ _ _ _ _ c.requires.code c.from-behind.ensures c.value.ensures.value, c.over-reader.ensures.place)
+    let start = ahead_is _ _ _ _ _ c.requires.code c.from-behind.ensures c.value.ensures.value in
+    omega (arith, start, c.requires.code.registers.early, c.over-reader.ensures.place)
 
 pub read_or_zero-lower-requires-clause-early : goal.read_or_zero-lower-requires-clause-early
 read_or_zero-lower-requires-clause-early c =
-    let early = c.requires.code.registers.early in
-    omega (arith, ahead_is _ _ _ _ _ c.requires.code c.from-behind.ensures c.value.ensures.value, c.over-reader.ensures.place, c.read_or_zero-upper.ensures.place)
+    let start = ahead_is _ _ _ _ _ c.requires.code c.from-behind.ensures c.value.ensures.value in
+    omega (arith, start, c.requires.code.registers.early, c.over-reader.ensures.place, c.read_or_zero-upper.ensures.place)
 
 pub returns-clause-filled : goal.returns-clause-filled
 returns-clause-filled c =
