@@ -26,25 +26,21 @@ value_most g c =
 product_fits : (g : given.Over) (c : goal.After-from_last g) → SFits w32 (c.weight.result *ℤ c.from_last.result)
 product_fits g c = fits_signed_mul w32 c.weight.result c.from_last.result 56 256 (weight_most g c) (value_most g c) (omega arith)
 
--- the weight and the value are kept as they are
-kept : (g : given.Over) (c : goal.After-from_last g) →
-    (to_z w32 (of_z w32 c.weight.result) ≡ c.weight.result) × (to_z w32 (of_z w32 c.from_last.result) ≡ c.from_last.result)
-kept g c = (to_z-of_z w32 c.weight.result (search rules), to_z-of_z w32 c.from_last.result (search rules))
+-- the product is that of the weight and the value as they are kept
+product_is : (g : given.Over) (c : goal.After-from_last g) →
+    to_z w32 (of_z w32 c.weight.result) *ℤ to_z w32 (of_z w32 c.from_last.result) ≡ c.weight.result *ℤ c.from_last.result
+product_is g c = ap₂ (λ w v. w *ℤ v) (to_z-of_z w32 c.weight.result (search rules)) (to_z-of_z w32 c.from_last.result (search rules))
 
 pub overflow_mul-result : goal.overflow_mul-result
-overflow_mul-result g c =
-    let k = kept g c in
-    rw (k.0, k.1) (product_fits g c)
+overflow_mul-result g c = rw (product_is g c) (product_fits g c)
 
 pub returns-clause-term : goal.returns-clause-term
 returns-clause-term g c =
-    let k = kept g c in
-    rw (k.0, k.1, to_z-of_z w32 (c.weight.result *ℤ c.from_last.result) (product_fits g c)) (ap₂ (λ w v. w *ℤ v) (weight_is g c) c.from_last.ensures)
+    rw (product_is g c, to_z-of_z w32 (c.weight.result *ℤ c.from_last.result) (product_fits g c)) (ap₂ (λ w v. w *ℤ v) (weight_is g c) c.from_last.ensures)
 
 pub returns-clause-small : goal.returns-clause-small
 returns-clause-small g c =
-    let k = kept g c in
-    rw (k.0, k.1, to_z-of_z w32 (c.weight.result *ℤ c.from_last.result) (product_fits g c))
+    rw (product_is g c, to_z-of_z w32 (c.weight.result *ℤ c.from_last.result) (product_fits g c))
     (omega (
       arith,
       unsigned_abs-mul c.weight.result c.from_last.result,
