@@ -36,13 +36,13 @@ take-numbered zero n frames = refl
 take-numbered (suc k) n [] = refl
 take-numbered (suc k) n (x ∷ xs) = ap {A = List (ℕ × List ℕ)} (λ rest. (n, x) ∷ rest) (take-numbered k (n + 1) xs)
 
--- the first frame that is refused, by its number
-pub record IsStoppedAt (file : List ℕ) (form : Form) (o : Answer) : Type 0 where
+-- the first frame that is refused, by its number, and what is written in front of it
+pub record IsStoppedAt (WrittenAt : ℕ → List ℕ → Type 0) (file : List ℕ) (form : Form) (o : Answer) : Type 0 where
   pub k : ℕ
   pub fault : FrameFault
   pub stops : StopsAt decode (shape form) (frames_of file form) k fault
   pub out : List ℕ
-  pub written : Before file form k out
+  pub written : WrittenAt k out
   pub answer : o ≡ frame_refused k fault out
 
 pub number_of_stop : (n : ℕ) (frames : List (List ℕ)) (before : List (ℕ × List ℕ)) (stop : ℕ × List ℕ) (behind : List (ℕ × List ℕ)) →
@@ -64,42 +64,63 @@ front_of_stop frames before stop behind e =
     let k = length before in
     sym (take_at before (stop ∷ behind) k refl) ∙ ap (take k) (sym e) ∙ take-numbered k 0 frames
 
-pub to_number : (file : List ℕ) (form : Form) (o : Answer) → IsStopped decode file form o → IsStoppedAt file form o
-to_number file form o s =
+-- a run of all frames that stops at one of them stops at its number
+pub stopped_at : (WrittenAt : ℕ → List ℕ → Type 0) (file : List ℕ) (form : Form) (o : Answer) (before : List (ℕ × List ℕ)) (stop : ℕ × List ℕ)
+    (behind : List (ℕ × List ℕ)) (fault : FrameFault) (out : List ℕ) → enumerate_from 0 (frames_of file form) ≡ before ++ stop ∷ behind →
+    Refuses decode (shape form) stop.1 fault → NoneRefused decode form before → WrittenAt stop.0 out → o ≡ frame_refused stop.0 fault out →
+    IsStoppedAt WrittenAt file form o
+stopped_at WrittenAt file form o before stop behind fault out is_run refuses first written answer =
     let frames = frames_of file form in
-    let k = length s.before in
-    let at = number_of_stop 0 frames s.before s.stop s.behind s.is_run in
-    let number : s.stop.0 ≡ k = omega (arith, at.1) in
-    let front = front_of_stop frames s.before s.stop s.behind s.is_run in
+    let k = length before in
+    let at = number_of_stop 0 frames before stop behind is_run in
+    let number : stop.0 ≡ k = omega (arith, at.1) in
+    let front = front_of_stop frames before stop behind is_run in
     record {
       k = k;
-      fault = s.fault;
+      fault = fault;
       stops = record {
         within = at.0;
-        first = none_of_numbered decode form 0 (take k frames) (subst (NoneRefused decode form) front s.first);
-        refuses = subst (λ frame. Refuses decode (shape form) frame s.fault) at.2 s.refuses;
+        first = none_of_numbered decode form 0 (take k frames) (subst (NoneRefused decode form) front first);
+        refuses = subst (λ frame. Refuses decode (shape form) frame fault) at.2 refuses;
       };
-      out = s.out;
-      written = subst (λ i. Before file form i s.out) number s.written;
-      answer = s.answer ∙ ap (λ i. frame_refused i s.fault s.out) number;
+      out = out;
+      written = subst (λ i. WrittenAt i out) number written;
+      answer = answer ∙ ap (λ i. frame_refused i fault out) number;
     }
 
-pub by_number : (file : List ℕ) (form : Form) (o : Answer) → IsStoppedAt file form o → IsStopped decode file form o
+-- the run of all frames, split at the number at which it stops
+pub split_at_stop : (form : Form) (frames : List (List ℕ)) (k : ℕ) (fault : FrameFault) → StopsAt decode (shape form) frames k fault →
+    (enumerate_from 0 frames ≡ take k (enumerate_from 0 frames) ++ (k, get_or frames k []) ∷ drop (suc k) (enumerate_from 0 frames))
+    × NoneRefused decode form (take k (enumerate_from 0 frames))
+split_at_stop form frames k fault stops =
+    let all = enumerate_from 0 frames in
+    let within : k < length all = omega (arith, stops.within, length-enumerate_from 0 frames) in
+    let here : get_or all k (0, []) ≡ (k, get_or frames k []) = get_or-enumerate_from 0 frames k (0, []) stops.within
+    ∙ ap {B = ℕ × List ℕ} (λ i. (i, get_or frames k [])) (omega arith) in (
+      sym (take-append-drop k all) ∙ ap (λ l. take k all ++ l) (drop-cons all k (0, []) within ∙ ap (λ p. p ∷ drop (suc k) all) here),
+      subst (NoneRefused decode form) (sym (take-numbered k 0 frames)) (none_numbered decode form 0 (take k frames) stops.first),
+    )
+
+-- what decoding writes in front of a refused frame
+abbrev pub IsStoppedDecoding : List ℕ → Form → Answer → Type 0
+IsStoppedDecoding file form o = IsStoppedAt (Before file form) file form o
+
+pub to_number : (file : List ℕ) (form : Form) (o : Answer) → IsStopped decode file form o → IsStoppedDecoding file form o
+to_number file form o s =
+    stopped_at (Before file form) file form o s.before s.stop s.behind s.fault s.out s.is_run s.refuses s.first s.written s.answer
+
+pub by_number : (file : List ℕ) (form : Form) (o : Answer) → IsStoppedDecoding file form o → IsStopped decode file form o
 by_number file form o s =
     let frames = frames_of file form in
-    let k = s.k in
-    let all = enumerate_from 0 frames in
-    let within : k < length all = omega (arith, s.stops.within, length-enumerate_from 0 frames) in
-    let here : get_or all k (0, []) ≡ (k, get_or frames k []) = get_or-enumerate_from 0 frames k (0, []) s.stops.within
-    ∙ ap {B = ℕ × List ℕ} (λ i. (i, get_or frames k [])) (omega arith) in
+    let split = split_at_stop form frames s.k s.fault s.stops in
     record {
-      before = take k all;
-      stop = (k, get_or frames k []);
-      behind = drop (suc k) all;
-      is_run = sym (take-append-drop k all) ∙ ap (λ l. take k all ++ l) (drop-cons all k (0, []) within ∙ ap (λ p. p ∷ drop (suc k) all) here);
+      before = take s.k (enumerate_from 0 frames);
+      stop = (s.k, get_or frames s.k []);
+      behind = drop (suc s.k) (enumerate_from 0 frames);
+      is_run = split.0;
       fault = s.fault;
       refuses = s.stops.refuses;
-      first = subst (NoneRefused decode form) (sym (take-numbered k 0 frames)) (none_numbered decode form 0 (take k frames) s.stops.first);
+      first = split.1;
       out = s.out;
       written = s.written;
       answer = s.answer;
@@ -128,7 +149,7 @@ abbrev IsOutcome : List ℕ → Form → Answer → Type 0
 IsOutcome file form o = IsStopped decode file form o ⊎ IsDone decode file form o
 
 same_stop : (file : List ℕ) (form : Form) (a b : Answer) → AreAnswered decode (shape form) (frames_of file form) →
-    IsStoppedAt file form a → IsStoppedAt file form b → a ≡ b
+    IsStoppedDecoding file form a → IsStoppedDecoding file form b → a ≡ b
 same_stop file form a b answered s t =
     let c = decode in
     let f = shape form in
@@ -144,7 +165,7 @@ same_stop file form a b answered s t =
     ∙ ap (λ out. frame_refused t.k t.fault out) out
     ∙ sym t.answer
 
-never_both : (file : List ℕ) (form : Form) (o : Answer) → IsStoppedAt file form o → NoneOf decode (shape form) (frames_of file form) → ⊥
+never_both : (file : List ℕ) (form : Form) (o : Answer) → IsStoppedDecoding file form o → NoneOf decode (shape form) (frames_of file form) → ⊥
 never_both file form o s none = get_all (NotRefused decode (shape form)) (frames_of file form) s.k [] none s.stops.within s.fault s.stops.refuses
 
 one_outcome_of_form : (file : List ℕ) (form : Form) (a b : Answer) → AreAnswered decode (shape form) (frames_of file form) →

@@ -22,7 +22,7 @@ use Rattle.dsdiff_spec.proofs.Pieces.{AreWhole, length-sounds, decoded_of_sounds
 use Rattle.dsdiff_spec.proofs.CodedFiles.{IsDecodable, is_decodable}
 use Rattle.dsdiff_spec.specs.Progress.{NotRefused, NoneOf, AreDecoded}
 use Rattle.dsdiff_spec.proofs.Verdicts.{IsAnswered, AreAnswered, fewer_sounds, stop_is_not_earlier}
-use Rattle.dsdiff_spec.proofs.OneOutcome.{IsStoppedAt, to_number, by_number, none_numbered, frames_are_answered, decoding_has_one_outcome}
+use Rattle.dsdiff_spec.proofs.OneOutcome.{IsStoppedDecoding, to_number, by_number, none_numbered, frames_are_answered, decoding_has_one_outcome}
 
 -- ---- bytes that begin with others
 pub record BeginsWith (whole front : List ℕ) : Type 0 where
@@ -166,7 +166,7 @@ stops_at_frame file k sounds fault none h l r =
     let d = is_decodable file none in
     let out = head_of file ++ concat sounds in
     let o = frame_refused k fault out in
-    let stopped : IsStoppedAt file form o = record {
+    let stopped : IsStoppedDecoding file form o = record {
       k = k;
       fault = fault;
       stops = record { within = omega (arith, d.frames); first = h.none; refuses = r };
@@ -224,7 +224,7 @@ begins_with_some head end size sounds all more e =
 
 stopped_begins : (file : List ℕ) (k : ℕ) (sounds : List (List ℕ)) (o : Answer) → IsDecodable file (accepted file) →
     AreAnswered decode (shape (accepted file)) (frames_of file (accepted file)) →
-    AreDecoded file (accepted file) k sounds → IsStoppedAt file (accepted file) o → BeginsWith o.out (head_of file ++ take (sound_size file) (concat sounds))
+    AreDecoded file (accepted file) k sounds → IsStoppedDecoding file (accepted file) o → BeginsWith o.out (head_of file ++ take (sound_size file) (concat sounds))
 stopped_begins file k sounds o d answered h s =
     let c = decode in
     let form = accepted file in

@@ -35,7 +35,7 @@ use Rattle.dst_read.specs.Decoding.{StopsAt, sound_of}
 use Rattle.dst_dsf.specs.Rows.{samples_of, rows_of}
 use Rattle.dst_dsf.specs.Decoding.{IsFor}
 use Rattle.dst_dsf.proofs.Gathering.{one_more_row, rows_before}
-use Rattle.dst_dsf.proofs.OneDsf.{IsStoppedAt, to_number, by_number, decodable, one_outcome}
+use Rattle.dst_dsf.proofs.OneDsf.{IsStoppedDsf, to_number, by_number, decodable, one_outcome}
 
 -- ---- the file by its rows
 with_rows : (d : Dsf) (sound : List ℕ) (n : ℕ) → dsf_with d (samples_of d sound) n ≡ dsf_header d ++ rows_of d sound n
@@ -199,7 +199,7 @@ module _ (file : List ℕ) (form : Form) (d : Dsf) (o : IsFor file form d)
         go : IsStopped decode_dsf file form a ⊎ IsDone decode_dsf file form a → BeginsWith a.out (dsf_header d ++ rows_of d (sound_of form sounds) r)
         go (inl stopped) = at_stop (to_number file form a stopped)
           where
-            at_stop : IsStoppedAt file form a → BeginsWith a.out (dsf_header d ++ rows_of d (sound_of form sounds) r)
+            at_stop : IsStoppedDsf file form a → BeginsWith a.out (dsf_header d ++ rows_of d (sound_of form sounds) r)
             at_stop s =
                 let later : k ≤ s.k = not_earlier (cases_order s.k k) in
                 let first = take s.k (frames_of file form) in
