@@ -1,5 +1,5 @@
 // One symbol, without a branch.
-ghost use Rattle.std.specs.Prelude.{◌≡◌, ◌+◌, ◌*◌, ◌^◌, ◌<◌, ◌≤◌, if◌then◌else◌};
+ghost use Rattle.std.specs.Prelude.{◌≡◌, ◌+◌, ◌*◌, ◌^◌, ◌<◌, ◌≤◌};
 ghost use Rattle.dst_spec.specs.Interval.{Interval, narrowed};
 ghost use Rattle.arith_core.specs.Range.{IsRange};
 ghost use Rattle.arith_encoder.specs.Registers.{IsScaling};

@@ -1,5 +1,5 @@
 // One symbol of one lane, without a branch and in sixteen bits.
-ghost use Rattle.std.specs.Prelude.{◌≡◌, ℕ, ◌+◌, ◌*◌, ◌/◌, ◌%◌, ◌<◌, Bool, if◌then◌else◌, nat_lt};
+ghost use Rattle.std.specs.Prelude.{◌≡◌, ◌+◌, ◌*◌, ◌/◌, ◌%◌, ◌<◌, Bool, if◌then◌else◌, nat_lt};
 ghost use Rattle.dst_spec.specs.Interval.{scale as scale_of};
 ghost use Rattle.arith_lanes.specs.Lanes.{StepsBy};
 

@@ -1,5 +1,5 @@
 // A filter as sums of eight coefficients, looked up by the byte of their samples.
-ghost use Rattle.std.specs.Prelude.{◌≡◌, ℕ, ◌*◌, ◌<◌, ◌≤◌, ℤ, pos, neg_ℤ, List, length, get_or, take, drop};
+ghost use Rattle.std.specs.Prelude.{◌≡◌, ℕ, ◌*◌, ◌<◌, ◌≤◌, ℤ, pos, List, length, get_or, take, drop};
 ghost use Rattle.dst_spec.specs.Table.{filter_kind, IsTable};
 ghost use Rattle.dst_spec.specs.Sample.{Shape};
 ghost use Rattle.dst_spec.specs.Guess.{sum_before};

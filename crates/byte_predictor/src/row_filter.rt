@@ -1,8 +1,8 @@
 // A filter as rows of sums, for loops over eight samples at a time.
-ghost use Rattle.std.specs.Prelude.{◌≡◌, ℕ, ◌+◌, ◌*◌, ◌<◌, ◌≤◌, ℤ, pos, neg_ℤ, ◌+ℤ◌, ◌-ℤ◌, ◌≤ℤ◌, List, [], ◌∷◌, length, get_or, drop};
+ghost use Rattle.std.specs.Prelude.{◌≡◌, ℕ, ◌+◌, ◌*◌, ◌<◌, ◌≤◌, ℤ, pos, ◌-ℤ◌, List, [], ◌∷◌, length, get_or};
 ghost use Rattle.dst_spec.specs.Table.{filter_kind, IsTable, InRange};
 ghost use Rattle.byte_predictor.specs.Samples.{rising_bits, signed_sum};
-ghost use Rattle.byte_predictor.specs.Upward.{above_zero, upward_sum, size_sum, far, twice_ones};
+ghost use Rattle.byte_predictor.specs.Upward.{upward_sum, size_sum, far, twice_ones};
 
 use crate::byte_filter::{coef_at, with_zeros};
 use crate::rows::{fill_rows, moved, zeros_sum};

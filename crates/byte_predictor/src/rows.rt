@@ -1,5 +1,5 @@
 // Rows of sums: what each byte of samples adds, lane by lane.
-ghost use Rattle.std.specs.Prelude.{◌≡◌, ℕ, ◌+◌, ◌*◌, ◌%◌, ◌<◌, ◌≤◌, ℤ, pos, neg_ℤ, ◌+ℤ◌, ◌≤ℤ◌, [], length, get_or, drop};
+ghost use Rattle.std.specs.Prelude.{◌≡◌, ℕ, ◌+◌, ◌*◌, ◌%◌, ◌<◌, ◌≤◌, pos, neg_ℤ, ◌+ℤ◌, ◌≤ℤ◌, [], length, get_or, drop};
 ghost use Rattle.dst_spec.specs.Table.{filter_kind, InRange};
 ghost use Rattle.byte_predictor.specs.Samples.{rising_bits};
 ghost use Rattle.byte_predictor.specs.Upward.{above_zero, upward_sum};

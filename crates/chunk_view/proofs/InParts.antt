@@ -1,11 +1,11 @@
 -- Bytes and numbers in a part of a file are bytes and numbers of the file.
 use Rattle.std.proofs.Common.{◌≡◌, ℕ, ◌+◌, ◌-◌, ◌≤◌, List, take, drop, ap, sym, ◌∙◌, arith, add-zero}
 use Rattle.std.proofs.lemmas.List.{drop-take, take-take, drop-drop}
-use Rattle.byteorder.specs.Endian.{big_from, big_number}
+use Rattle.byteorder.specs.Endian.{big_from}
 use Rattle.byteorder.specs.Numbers.{big_from-take}
 use Rattle.dsdiff_spec.specs.Bytes.{bytes_at, number_at}
-use Rattle.dsdiff_spec.specs.Chunks.{Head, head_at}
-use Rattle.dsdiff_spec.proofs.Tiling.{head_of, same_head}
+use Rattle.dsdiff_spec.specs.Chunks.{head_at}
+use Rattle.dsdiff_spec.proofs.Tiling.{same_head}
 use Rattle.chunk_view.proofs.Reading.{big_from-drop}
 
 pub bytes_in_part : (xs : List ℕ) (from n i k : ℕ) → i + k ≤ n → bytes_at (bytes_at xs from n) i k ≡ bytes_at xs (from + i) k

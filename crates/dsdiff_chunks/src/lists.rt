@@ -1,5 +1,5 @@
 // Heads of chunks, and the lists that a form has: of heads and of bytes.
-ghost use Rattle.std.specs.Prelude.{◌≡◌, ◌++◌, ◌∷◌, [], IfOk, MatchResult, ◌<◌, vec_len, vec_capacity, IsOk};
+ghost use Rattle.std.specs.Prelude.{◌≡◌, ◌<◌};
 
 use std::marker::Model;
 

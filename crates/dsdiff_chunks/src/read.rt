@@ -1,5 +1,5 @@
 // Reading a range of a source whole.
-ghost use Rattle.std.specs.Prelude.{◌≡◌, ◌+◌, ◌^◌, ◌<◌, ◌≤◌, ℕ, List, length, Option, Some, OnOk};
+ghost use Rattle.std.specs.Prelude.{◌≡◌, ◌+◌, ◌^◌, ◌<◌, ◌≤◌, ℕ, List, length, Some, OnOk};
 ghost use Rattle.dst_streams.specs.Causes.{HasCause};
 ghost use Rattle.dst_streams.specs.Told.{counted};
 ghost use Rattle.dsdiff_spec.specs.Bytes.{bytes_at};

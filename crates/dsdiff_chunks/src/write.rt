@@ -1,5 +1,5 @@
 // Writing chunks.
-ghost use Rattle.std.specs.Prelude.{◌≡◌, ◌+◌, ◌^◌, ◌++◌, ◌≤◌, ℕ, List, length, true, OnOk, MatchResult, flat_map};
+ghost use Rattle.std.specs.Prelude.{◌≡◌, ◌+◌, ◌^◌, ◌++◌, ◌≤◌, length, true, OnOk, MatchResult, flat_map};
 ghost use Rattle.byteorder.specs.Endian.{big_bytes};
 ghost use Rattle.dst_streams.specs.Causes.{HasCause};
 ghost use Rattle.dst_streams.specs.Told.{IsCutShort, IsSure, and_then};

@@ -8,7 +8,7 @@ use Rattle.dst_spec.specs.Sample.{IsShape}
 use Rattle.dst_spec.proofs.Lists.{AreBytes-take, AreBytes-drop, all_append}
 use Rattle.dsdiff_spec.specs.Bytes.{◌is◌}
 use Rattle.dsdiff_spec.specs.Chunks.{Chunk, bytes_of_chunk, Head, Found, body_place, body_end, body_of, named}
-use Rattle.dsdiff_spec.specs.Form.{Kind, plain, coded, is_plain, Form, shape, sound_bytes_of, longest_frame, frames_for}
+use Rattle.dsdiff_spec.specs.Form.{plain, coded, Form, shape, sound_bytes_of, frames_for}
 use Rattle.dsdiff_spec.specs.Parts.{sound_head, form_end, pad_byte, sound_bytes_in}
 use Rattle.dsdiff_spec.specs.Rules.{form_fault, form_of_kind, accepted}
 use Rattle.dsdiff_spec.specs.Walk.{entries, compare_fault, index_heads}

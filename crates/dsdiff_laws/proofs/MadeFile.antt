@@ -1,8 +1,8 @@
 -- A file of made sound keeps all rules of a plain form.
 use Rattle.std.proofs.Common.{◌≡◌, ◌⊎◌, inl, inr, ℕ, zero, suc, ◌+◌, ◌-◌, ◌*◌, ◌/◌, ◌%◌, ◌^◌, ◌<◌, ◌≤◌, ◌==◌, true, false, if◌then◌else◌, List, [], ◌∷◌, ◌++◌}
-use Rattle.std.proofs.Common.{length, flat_map, map, take, get_or, filter, None, Some, Option, refl, sym, ap, ap₂, subst, ◌∙◌, arith, append-nil}
+use Rattle.std.proofs.Common.{length, flat_map, map, filter, None, refl, sym, ap, ap₂, subst, ◌∙◌, arith, append-nil}
 use Rattle.std.proofs.Common.{append_assoc, length-append, lit≤, lit<}
-use Rattle.std.specs.Prelude.{codes, not, nat_lt, bytes_eq, ◌||◌}
+use Rattle.std.specs.Prelude.{codes, not, nat_lt, bytes_eq}
 use Rattle.std.specs.Fmt.{digits}
 use Rattle.std.specs.List.{range_with_len}
 use Rattle.std.proofs.lemmas.Bool.{le-ltb, eq-eqb}
@@ -12,14 +12,14 @@ use Rattle.dsdiff_spec.proofs.CodedFiles.{form_by, longest_sound_of_frame, refus
 use Rattle.byteorder.specs.Endian.{big_bytes}
 use Rattle.byteorder.specs.Numbers.{big_number-reads_back, length-bytes_high_first}
 use Rattle.dst_spec.specs.Bits.{AreBytes}
-use Rattle.dst_spec.specs.Sample.{Shape, IsShape, sound_bytes}
-use Rattle.dsdiff_spec.specs.Bytes.{number_at, ◌is◌, ◌above◌}
-use Rattle.dsdiff_spec.specs.Faults.{◌when◌, ◌otherwise◌}
+use Rattle.dst_spec.specs.Sample.{IsShape, sound_bytes}
+use Rattle.dsdiff_spec.specs.Bytes.{number_at, ◌is◌}
+use Rattle.dsdiff_spec.specs.Faults.{◌when◌}
 use Rattle.dsdiff_spec.specs.Chunks.{Chunk, IsChunk, bytes_of_chunk, Head, Found, body_place, body_of, named, the_first}
-use Rattle.dsdiff_spec.specs.Form.{Form, Kind, plain, coded, shape_of, frames_for, size_of_sound, sound_bytes_of, is_coded}
-use Rattle.dsdiff_spec.specs.Made.{channel_id, fver, prop_of, plain_form}
+use Rattle.dsdiff_spec.specs.Form.{Form, plain, coded, shape_of, frames_for, size_of_sound, sound_bytes_of, is_coded}
+use Rattle.dsdiff_spec.specs.Made.{channel_id}
 use Rattle.dsdiff_spec.specs.Parts.{form_size, form_end, top_level, all, prop_head, prop, sounds, sound_head, kind, compression, channel_count}
-use Rattle.dsdiff_spec.specs.Parts.{multiple, frames_needed, sound_bytes_in, behind_form}
+use Rattle.dsdiff_spec.specs.Parts.{multiple, frames_needed, behind_form}
 use Rattle.dsdiff_spec.specs.Refusal.{refusal}
 use Rattle.dsdiff_spec.specs.Rules.{opening_fault, is_version, version_fault, local_fault, prop_fault, sound_fault, plain_fault, kind_fault}
 use Rattle.dsdiff_spec.specs.Rules.{form_fault, form_of_kind, accepted, is_rate}
@@ -34,8 +34,8 @@ use Rattle.dsdiff_laws.proofs.Composed.{is_ending}
 use Rattle.dsdiff_laws.proofs.Standing.{Holds}
 use Rattle.dsdiff_laws.proofs.Filed.{IsFile, may_lack, body_bytes, found_is, length-file, opens, size_is, behind_is, written_is_file}
 use Rattle.dsdiff_laws.proofs.Props.{IsProp, HasFields, AreRead, fields_are_read, lawful_prop, chunk_of, length-prop}
-use Rattle.dsdiff_laws.proofs.Places.{Lacks, one_named, head_behind, stands_behind, byte_in_body}
-use Rattle.dsdiff_laws.proofs.FormParts.{prop_id, sound_id}
+use Rattle.dsdiff_laws.proofs.Places.{one_named, head_behind, stands_behind}
+use Rattle.dsdiff_laws.proofs.FormParts.{sound_id}
 use Rattle.dsdiff_laws.proofs.PlainParts.{added_id}
 use Rattle.dsdiff_laws.proofs.CodedChunks.{plain_pre, coded_chunks}
 use Rattle.dsdiff_laws.proofs.CodedFile.{AreShort, is_whole, length_written, length-body, length-cons, coded_most}

@@ -1,6 +1,6 @@
 -- The body of `PROP` by the chunks in it: its fields, what its rules ask of them, and the body with another `CMPR`.
 use Rattle.std.proofs.Common.{◌≡◌, ◌⊎◌, inl, inr, ℕ, zero, suc, ◌+◌, ◌-◌, ◌*◌, ◌%◌, ◌≤◌, ◌==◌, min, Bool, true, false, if◌then◌else◌, List, [], ◌∷◌}
-use Rattle.std.proofs.Common.{◌++◌, length, take, drop, flat_map, map, Option, Some, None, refl, sym, ap, ap₂, subst, ◌∙◌, arith, length-append}
+use Rattle.std.proofs.Common.{◌++◌, length, take, drop, flat_map, map, None, refl, sym, ap, ap₂, subst, ◌∙◌, arith, length-append}
 use Rattle.std.proofs.Common.{length-drop, take_at, append-nil, ltb-false, eqb-true}
 use Rattle.std.specs.Prelude.{codes, not, ◌||◌, nat_lt}
 use Rattle.std.proofs.lemmas.Slice.Eq.{bytes_eq-Decides}
@@ -17,8 +17,7 @@ use Rattle.dsdiff_spec.specs.Parts.{in_prop, local, rate_head, channels_head, cm
 use Rattle.dsdiff_spec.specs.Origin.{outside}
 use Rattle.dsdiff_spec.specs.Rules.{moved, type_fault, rate_fault, channels_fault, compression_fault, local_fault, is_rate}
 use Rattle.dsdiff_spec.specs.Written.{part_of_prop, cmpr_in, prop_with, chunk, padded_chunk}
-use Rattle.dsdiff_spec.specs.declared.faults.FileFault.{FileFault}
-use Rattle.dsdiff_spec.specs.declared.faults.FileFault.TheVariants.{PropType, Overrun, Rate, Channels, Compression}
+use Rattle.dsdiff_spec.specs.declared.faults.FileFault.TheVariants.{PropType, Rate, Channels, Compression}
 use Rattle.dsdiff_spec.proofs.Lawful.{first_gives_none, later_gives_none, when_not, moved_none}
 use Rattle.dsdiff_spec.proofs.Finding.{found_follow, found_at_most, found_to_the_end}
 use Rattle.dsdiff_spec.proofs.Tiling.{heads_from}

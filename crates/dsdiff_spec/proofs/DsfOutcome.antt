@@ -1,12 +1,12 @@
 -- Decoding to a DSF file: what is written in front of the first refused frame, and of all frames, is one list of bytes.
 use Rattle.std.proofs.Common.{◌≡◌, ◌⊎◌, inl, inr, ℕ, ◌+◌, ◌*◌, ◌/◌, List, [], ◌∷◌, take, refl, ap, sym, subst, ◌∙◌, arith, length}
-use Rattle.std.specs.List.{AllByRecursion, AllZip, enumerate_from}
+use Rattle.std.specs.List.{AllZip, enumerate_from}
 use Rattle.dst_spec.specs.Sample.{Shape}
 use Rattle.dst_spec.specs.Means.{Means}
 use Rattle.dst_spec.proofs.Lists.{all_take}
 use Rattle.dsdiff_spec.specs.Form.{Form, shape, size_of_sound}
 use Rattle.dsdiff_spec.specs.Decoded.{frames_of}
-use Rattle.dsdiff_spec.specs.Dsf.{to_dsf, rows, dsf_in, ToDsf, DsfBefore}
+use Rattle.dsdiff_spec.specs.Dsf.{to_dsf, rows, dsf_in}
 use Rattle.dsdiff_spec.specs.Words.{decode, decode_dsf}
 use Rattle.dsdiff_spec.specs.Lines.{decoded_line}
 use Rattle.dsdiff_spec.specs.Outcome.{done, NoneRefused, run, Does}
@@ -14,7 +14,7 @@ use Rattle.dsdiff_spec.specs.Progress.{NoneOf}
 use Rattle.dsdiff_spec.proofs.Verdicts.{IsAnswered, AreAnswered, one_list}
 use Rattle.dsdiff_spec.proofs.OneOutcome.{none_of_numbered, number_of_stop, front_of_stop}
 use Rattle.dsdiff_spec.proofs.Settling.{OffendsOnce, OffendsNever, offends_or_not}
-use Rattle.dsdiff_spec.proofs.Stopping.{One, OneOut, IsSettled, AreSettled, StopsIn, WritesOne}
+use Rattle.dsdiff_spec.proofs.Stopping.{One, IsSettled, AreSettled, WritesOne}
 
 pub dsf_frames_are_settled : (form : Form) (n : ℕ) (frames : List (List ℕ)) → AreSettled decode_dsf form (enumerate_from n frames)
 dsf_frames_are_settled form n [] = tt

@@ -4,7 +4,7 @@ use Rattle.dsdiff_spec.specs.Form.{Form, shape}
 use Rattle.dsdiff_spec.specs.Ranges.{Sound, Want, wants, range_of, range_before, place_of}
 use Rattle.dsdiff_spec.specs.Words.{range}
 use Rattle.dsdiff_spec.specs.Lines.{range_line}
-use Rattle.dsdiff_spec.specs.Outcome.{Answer, done, nth_frame, Does}
+use Rattle.dsdiff_spec.specs.Outcome.{done, nth_frame, Does}
 use Rattle.dsdiff_spec.proofs.Settling.{OffendsOnce, OffendsNever, offends_or_not}
 use Rattle.dsdiff_spec.proofs.Stopping.{One, IsSettled, AreSettled, WritesOne}
 

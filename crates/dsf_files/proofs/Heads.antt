@@ -1,11 +1,11 @@
 -- The rules of a DSF file speak of its size and its first 92 bytes alone.
-use Rattle.std.proofs.Common.{◌≡◌, ℕ, ◌+◌, ◌*◌, ◌/◌, ◌<◌, ◌≤◌, Bool, true, false, List, length, take, drop, refl, sym, ap, ap₂, ◌∙◌, arith, Option, Some, None}
+use Rattle.std.proofs.Common.{◌≡◌, ℕ, ◌+◌, ◌/◌, ◌<◌, ◌≤◌, Bool, true, false, List, length, take, drop, refl, sym, ap, ap₂, ◌∙◌, arith, Option, Some, None}
 use Rattle.std.specs.Prelude.{not, ◌&&◌, ◌||◌, ◌==◌}
 use Rattle.std.proofs.lemmas.Bool.{lt-ltb, le-ltb}
 use Rattle.std.proofs.lemmas.List.{take-take, drop-take}
 use Rattle.byteorder.specs.Numbers.{little_from-take}
-use Rattle.dsdiff_spec.specs.Bytes.{bytes_at, ◌is◌, ◌below◌, ◌above◌}
-use Rattle.dsdiff_spec.specs.Dsf.{Dsf, little_at, dsf_of, dsf_fault, octets, bytes_of_blocks}
+use Rattle.dsdiff_spec.specs.Bytes.{bytes_at, ◌is◌, ◌below◌}
+use Rattle.dsdiff_spec.specs.Dsf.{Dsf, little_at, dsf_of, dsf_fault}
 use Rattle.dsdiff_spec.specs.Faults.{◌when◌, ◌otherwise◌}
 use Rattle.dsdiff_spec.specs.declared.faults.FileFault.{FileFault}
 use Rattle.dsdiff_spec.specs.declared.faults.FileFault.TheVariants.{DsfForm, DsfFormat, Channels, Rate}

@@ -3,7 +3,7 @@ use Rattle.std.proofs.Common.{◌≡◌, ℕ, zero, suc, ◌+◌, ◌*◌, ◌/�
 use Rattle.std.proofs.Common.{length, get_or, refl, arith}
 use Rattle.std.specs.Prelude.{codes, nat_lt, flat_map}
 use Rattle.std.specs.Fmt.{digits}
-use Rattle.std.specs.List.{concat, list_all, range_with_len}
+use Rattle.std.specs.List.{list_all, range_with_len}
 use Rattle.std.specs.Int.{byte_at}
 use Rattle.std.proofs.lemmas.Bool.{ltb-true}
 use Rattle.std.proofs.Math.Nat.{mod-lt}
@@ -13,7 +13,7 @@ use Rattle.dst_spec.proofs.Lists.{both_true}
 use Rattle.dsdiff_spec.specs.Dsf.{dsf_of, octets, dsf_bit, dsf_sample, dsfk, dsdiff}
 use Rattle.dsdiff_spec.specs.Made.{channel_id, fver, prop_of, plain_form}
 use Rattle.dsdiff_spec.specs.Samples.{sound_of}
-use Rattle.dsdiff_spec.specs.Written.{padded_chunk, chunk, cmpr_plain}
+use Rattle.dsdiff_spec.specs.Written.{chunk, cmpr_plain}
 use Rattle.dsdiff_spec.proofs.ByteLists.{bytes_joined}
 use Rattle.dsf_files.proofs.SoundSamples.{sound_is_bytes}
 use Prim.Native.String.{String}

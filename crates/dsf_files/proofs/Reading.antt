@@ -1,9 +1,8 @@
 -- What is read of the form that stands for a DSF file, part by part.
-use Rattle.std.proofs.Common.{◌≡◌, ◌⊎◌, inl, inr, ℕ, zero, suc, ◌+◌, ◌-◌, ◌*◌, ◌/◌, ◌%◌, ◌<◌, ◌≤◌, min, Bool, true, false, if◌then◌else◌, List, []}
+use Rattle.std.proofs.Common.{◌≡◌, inl, inr, ℕ, zero, suc, ◌+◌, ◌-◌, ◌*◌, ◌/◌, ◌%◌, ◌<◌, ◌≤◌, min, Bool, true, false, if◌then◌else◌, List, []}
 use Rattle.std.proofs.Common.{◌∷◌, ◌++◌, length, take, drop, get_or, refl, sym, ap, ap₂, subst, ◌∙◌, arith, Option, Some, None, append_assoc}
 use Rattle.std.proofs.Common.{length-append}
 use Rattle.std.specs.Prelude.{◌==◌, ◌||◌}
-use Rattle.std.specs.List.{All}
 use Rattle.std.proofs.lemmas.Bool.{eqb-true, cases_lt}
 use Rattle.std.proofs.lemmas.Grind.{same_number_lists}
 use Rattle.std.proofs.lemmas.List.{take_at, take-append-le, drop-append-le, drop-drop, drop_at, get_or-take, get_or-drop, get_or_append_left}
@@ -12,17 +11,17 @@ use Rattle.std.proofs.lemmas.List.Elements.{All-from_recursion}
 use Rattle.std.proofs.lemmas.Nat.{div-add-mod'}
 use Rattle.std.proofs.Math.Nat.{mul-le-mul_right, mod-lt}
 use Rattle.dst_spec.specs.Sample.{IsShape}
-use Rattle.dst_streams.specs.Told.{HoldsFrom, IsReadCount}
+use Rattle.dst_streams.specs.Told.{HoldsFrom}
 use Rattle.dsdiff_spec.specs.Dsf.{Dsf, dsf_of, dsf_sample, rows, octets, dsdiff}
 use Rattle.dsf_files.proofs.PlainBytes.{form_is_bytes}
 use Rattle.dsf_files.proofs.SoundSamples.{byte_of_sound}
 use Rattle.dsf_files.specs.declared.form.DsfForm.{DsfForm}
-use Rattle.dsf_files.specs.Forms.{dsf_seen, has_blocks, is_order, IsFormOf, IsFormOfTold}
+use Rattle.dsf_files.specs.Forms.{dsf_seen, is_order, IsFormOfTold}
 use Rattle.dsf_files.specs.Laws.{IsPlainOfTold}
 use Rattle.dsf_files.specs.Reading.{HoldsSound}
 use Rattle.dsf_files.specs.Rows.{IsRowOf, HoldsRow}
-use Rattle.dsf_files.specs.Standing.{front, sound, back, front_size, sound_size, back_size, whole_size, plain_of}
-use Rattle.dsf_files.proofs.Whole.{standing, length-front, length-sound, length-back, length-dsdiff}
+use Rattle.dsf_files.specs.Standing.{front, sound, back, front_size, sound_size, back_size, plain_of}
+use Rattle.dsf_files.proofs.Whole.{standing, length-front, length-sound, length-dsdiff}
 
 -- ---- a quotient below a bound
 pub quotient_below : (place k r : ℕ) → place < r * k → place / k < r

@@ -1,13 +1,13 @@
 -- A row of blocks as it is read, and the sound in it.
-use Rattle.std.proofs.Common.{◌≡◌, ◌⊎◌, inl, inr, ℕ, ◌+◌, ◌-◌, ◌*◌, ◌/◌, ◌%◌, ◌^◌, ◌<◌, ◌≤◌, Bool, true, List, length, take, drop}
+use Rattle.std.proofs.Common.{◌≡◌, ◌⊎◌, inl, inr, ℕ, ◌+◌, ◌-◌, ◌*◌, ◌/◌, ◌%◌, ◌^◌, ◌<◌, ◌≤◌, true, List, drop}
 use Rattle.std.proofs.Common.{get_or, refl, sym, ap, ap₂, subst, ◌∙◌, arith, Option, Some, None}
 use Rattle.std.proofs.lemmas.Bool.{leb-true, cases_order}
 use Rattle.std.proofs.lemmas.List.{get_or-take, get_or-drop}
-use Rattle.std.proofs.lemmas.Nat.{div-mul-add, mul-le}
+use Rattle.std.proofs.lemmas.Nat.{div-mul-add}
 use Rattle.std.proofs.Math.Nat.{mul-le-mul_right, mul-add-mod_self_right, mod-eq_of_lt}
 use Rattle.dst_spec.specs.Bits.{AreBytes}
 use Rattle.dsdiff_spec.specs.Bytes.{bytes_at}
-use Rattle.dsdiff_spec.specs.Dsf.{Dsf, dsf_of, rows, bytes_of_blocks, octets}
+use Rattle.dsdiff_spec.specs.Dsf.{dsf_of, rows, bytes_of_blocks}
 use Rattle.dsdiff_spec.proofs.ByteLists.{byte_at_place}
 use Rattle.dsf_files.specs.declared.form.DsfForm.{DsfForm}
 use Rattle.dsf_files.specs.Forms.{dsf_seen, has_blocks, is_order}

@@ -1,13 +1,13 @@
 -- Bytes of sound by the bytes of blocks: eight samples of a byte, in either order.
 use Rattle.std.proofs.Common.{◌≡◌, ℕ, zero, suc, ◌+◌, ◌-◌, ◌*◌, ◌/◌, ◌%◌, ◌^◌, ◌<◌, ◌≤◌, Bool, true, false, if◌then◌else◌, List, get_or, refl, sym}
 use Rattle.std.proofs.Common.{ap, ap₂, ◌∙◌, inl, inr, arith}
-use Rattle.std.specs.Prelude.{◌==◌, ◌||◌, nat_lt}
+use Rattle.std.specs.Prelude.{◌==◌}
 use Rattle.std.specs.Int.{reverse_bits_onto}
 use Rattle.std.proofs.lemmas.Bool.{lt-ltb, le-ltb, cases_lt}
 use Rattle.dst_spec.specs.Bits.{number_from, low_bits}
 use Rattle.dst_spec.proofs.Numbers.{number_from-low_bits}
 use Rattle.dsdiff_spec.specs.Bytes.{◌below◌}
-use Rattle.dsdiff_spec.specs.Dsf.{dsf_of, dsf_bit, dsf_sample}
+use Rattle.dsdiff_spec.specs.Dsf.{dsf_of, dsf_sample}
 use Rattle.dsdiff_spec.specs.Samples.{eight}
 use Rattle.dsf_files.specs.Forms.{is_order}
 use Rattle.dsf_files.specs.Rows.{turned, in_order, cleared, sound_byte}

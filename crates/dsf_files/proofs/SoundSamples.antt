@@ -1,14 +1,11 @@
 -- A sound by its samples: how long it is, each byte of it, and each sample.
-use Rattle.std.proofs.Common.{◌≡◌, ℕ, ◌+◌, ◌-◌, ◌*◌, ◌/◌, ◌%◌, ◌^◌, ◌<◌, ◌≤◌, take, drop, length, get_or, refl, sym, ap, ap₂, ◌∙◌, arith}
-use Rattle.std.proofs.Common.{length-append, take-append-drop}
+use Rattle.std.proofs.Common.{◌≡◌, ℕ, ◌+◌, ◌-◌, ◌*◌, ◌/◌, ◌%◌, ◌^◌, ◌<◌, take, length, get_or, sym, ap, ◌∙◌, arith}
 use Rattle.std.specs.List.{flat_map, range_with_len}
 use Rattle.std.proofs.lemmas.List.{length-take}
 use Rattle.std.proofs.lemmas.List.Concat.{get_or-flat_map}
 use Rattle.std.proofs.lemmas.List.FromFn.{get_or-map-range_with_len}
-use Rattle.std.proofs.lemmas.Nat.{div-mul-add}
-use Rattle.std.proofs.Math.Nat.{mul-add-mod_self_right, mod-eq_of_lt}
-use Rattle.dst_spec.specs.Bits.{number_from, low_bits, AreBits, AreBytes}
-use Rattle.dst_spec.proofs.Lists.{all_map, all_flat_map, all_range, place-below}
+use Rattle.dst_spec.specs.Bits.{number_from, AreBits, AreBytes}
+use Rattle.dst_spec.proofs.Lists.{all_map, all_flat_map, all_range}
 use Rattle.dst_spec.proofs.Numbers.{length-range, get_or-range, number_from-below, bit-number_from, low_bits-at}
 use Rattle.dsdiff_spec.specs.Samples.{eight, sound_of, sample_in}
 use Rattle.dsdiff_spec.proofs.DsfLengths.{length-parts}

@@ -1,18 +1,13 @@
 -- The form that stands for a DSF file is its parts one after the other, so long, and bytes.
-use Rattle.std.proofs.Common.{◌≡◌, ℕ, zero, suc, ◌+◌, ◌-◌, ◌*◌, ◌/◌, ◌%◌, ◌^◌, ◌<◌, ◌≤◌, ◌==◌, if◌then◌else◌, List, [], ◌∷◌, ◌++◌, length, take, drop}
-use Rattle.std.proofs.Common.{get_or, refl, sym, ap, ap₂, subst, ◌∙◌, inl, inr, arith, append_assoc, append-nil, length-append, Some}
-use Rattle.std.specs.Prelude.{codes, bytes_eq, nat_lt, true, false, Bool}
+use Rattle.std.proofs.Common.{◌≡◌, ℕ, zero, suc, ◌+◌, ◌-◌, ◌*◌, ◌%◌, ◌<◌, ◌≤◌, ◌==◌, if◌then◌else◌, List, [], ◌∷◌, ◌++◌, length, take}
+use Rattle.std.proofs.Common.{refl, sym, ap, ap₂, ◌∙◌, arith, append_assoc, append-nil, length-append}
+use Rattle.std.specs.Prelude.{codes}
 use Rattle.std.specs.Fmt.{digits}
-use Rattle.std.specs.List.{concat}
-use Rattle.std.proofs.lemmas.Bool.{cases_lt, lt-ltb, le-ltb}
 use Rattle.byteorder.specs.Endian.{big_bytes}
-use Rattle.byteorder.specs.Numbers.{length-bytes_high_first}
-use Rattle.dst_spec.specs.Bits.{AreBytes}
-use Rattle.dst_spec.proofs.Lists.{all_append}
-use Rattle.dsdiff_spec.specs.Dsf.{Dsf, dsf_of, octets, dsf_bit, dsf_sample, dsfk, dsdiff}
+use Rattle.dsdiff_spec.specs.Dsf.{Dsf, dsf_of, octets, dsf_sample, dsfk, dsdiff}
 use Rattle.dsdiff_spec.specs.Made.{fver, prop_of, plain_form}
 use Rattle.dsdiff_spec.specs.Samples.{sound_of}
-use Rattle.dsdiff_spec.specs.Written.{chunk, cmpr_plain, form_of}
+use Rattle.dsdiff_spec.specs.Written.{chunk, cmpr_plain}
 use Rattle.dsdiff_spec.proofs.MadeLengths.{prop_is_long, sound_is_long}
 use Rattle.dsf_files.specs.Standing.{sound_size, form_size, front, sound, back, front_size, back_size, whole_size}
 

@@ -1,5 +1,5 @@
 -- What the forms of this crate are in the definitions of DSF files.
-use Rattle.std.specs.Prelude.{◌≡◌, ◌⊎◌, ℕ, ◌+◌, ◌/◌, Bool, true, false, ◌||◌, ◌==◌, nat_le, List, Option, Some, None}
+use Rattle.std.specs.Prelude.{◌≡◌, ℕ, ◌+◌, ◌/◌, Bool, false, ◌||◌, ◌==◌, nat_le, List, Option, Some, None}
 use Rattle.std.specs.Coded.{Unit-prop}
 use Rattle.std.proofs.Props.{props}
 use Rattle.dsdiff_spec.specs.Dsf.{Dsf, dsf_of, dsf_fault, bytes_of_blocks}

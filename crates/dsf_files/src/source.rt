@@ -1,5 +1,5 @@
 // A source of the form that stands for a DSF file.
-ghost use Rattle.std.specs.Prelude.{◌≡◌, ◌+◌, ◌*◌, ◌-◌, ◌^◌, ◌<◌, ◌≤◌, ℕ, List, length, take, drop, true, Option, Some, None, IfOk, MatchResult, OnOk};
+ghost use Rattle.std.specs.Prelude.{◌≡◌, ◌+◌, ◌*◌, ◌-◌, ◌<◌, ◌≤◌, length, true, Some, None, IfOk, OnOk};
 ghost use Rattle.dst_streams.specs.Causes.{HasCause};
 ghost use Rattle.dst_streams.specs.Told.{HoldsFrom, IsReadCount};
 ghost use Rattle.dsdiff_spec.specs.Dsf.{rows};

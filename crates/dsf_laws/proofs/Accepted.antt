@@ -1,7 +1,7 @@
 -- What an accepted DSF file has: channels and a rate, few frames, numbers of their sizes.
-use Rattle.std.proofs.Common.{◌≡◌, ◌⊎◌, inl, inr, ℕ, zero, suc, ◌+◌, ◌*◌, ◌/◌, ◌^◌, ◌<◌, ◌≤◌, Bool, true, false, List, [], ◌∷◌, length, refl, sym, ap}
-use Rattle.std.proofs.Common.{◌∙◌, arith, None, ltb-false, eqb-true}
-use Rattle.std.specs.Prelude.{not, ◌||◌, ◌==◌, slice_index}
+use Rattle.std.proofs.Common.{◌≡◌, ◌⊎◌, inl, inr, ℕ, ◌+◌, ◌*◌, ◌/◌, ◌^◌, ◌<◌, ◌≤◌, Bool, true, false, List, length, refl, sym, ap}
+use Rattle.std.proofs.Common.{◌∙◌, None, ltb-false, eqb-true}
+use Rattle.std.specs.Prelude.{not, ◌||◌, ◌==◌}
 use Rattle.byteorder.specs.Numbers.{little_from-lt}
 use Rattle.dst_spec.specs.Bits.{AreBytes}
 use Rattle.dsdiff_spec.specs.Bytes.{bytes_at, ◌is◌, ◌below◌, ◌above◌}

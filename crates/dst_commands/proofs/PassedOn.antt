@@ -1,5 +1,5 @@
 -- Chunks of a lawful form: where they lie, how long they are, and what is written of the first ones.
-use Rattle.std.proofs.Common.{◌≡◌, ℕ, zero, suc, ◌+◌, ◌-◌, ◌*◌, ◌%◌, ◌<◌, ◌≤◌, Bool, true, false, if◌then◌else◌, List, [], ◌∷◌, ◌++◌, length, take}
+use Rattle.std.proofs.Common.{◌≡◌, ℕ, ◌+◌, ◌-◌, ◌*◌, ◌%◌, ◌<◌, ◌≤◌, Bool, true, false, if◌then◌else◌, List, [], ◌∷◌, ◌++◌, length, take}
 use Rattle.std.proofs.Common.{drop, filter}
 use Rattle.std.proofs.Common.{get_or, map, Option, Some, None, refl, ap, sym, subst, ◌∙◌, arith, length-append, length-drop, append-nil}
 use Rattle.std.specs.Prelude.{min, bytes_eq, codes, OnOk, OnErr, MatchResult, Result, Ok, Err}

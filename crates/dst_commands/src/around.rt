@@ -2,7 +2,6 @@
 ghost use Rattle.std.specs.Prelude.{◌≡◌, ◌≤◌, ◌<◌, ◌++◌, ℕ, List, length, codes, Some, IfErr, OnOk, ◌+◌, ◌∷◌, [], MatchResult, ◌%◌, ◌==◌, if◌then◌else◌};
 ghost use Rattle.byteorder.specs.Endian.{big_bytes};
 ghost use Rattle.dst_streams.specs.Causes.{HasCause};
-ghost use Rattle.dsdiff_spec.specs.Form.{coded};
 ghost use Rattle.dsdiff_spec.specs.Pieces.{decoded_front, decoded_end};
 ghost use Rattle.dsdiff_chunks.specs.Forms.{coded_seen};
 ghost use Rattle.dsdiff_chunks.specs.declared.copy.CopyFault.{CopyFault};

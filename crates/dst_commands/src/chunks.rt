@@ -1,9 +1,8 @@
 // The chunks that are passed on from one form to another.
-ghost use Rattle.std.specs.Prelude.{◌≡◌, ◌+◌, ◌-◌, ◌<◌, ◌≤◌, ◌^◌, ℕ, List, length, map, filter, Contains, Option, Some, true, IfErr, OnOk, MatchResult};
+ghost use Rattle.std.specs.Prelude.{◌≡◌, ◌+◌, ◌-◌, ◌<◌, ◌≤◌, ◌^◌, ℕ, List, length, map, filter, Some, IfErr, OnOk, MatchResult};
 ghost use Rattle.std.specs.Option.{option_copied};
 ghost use Rattle.dsdiff_spec.specs.Chunks.{body_end};
 ghost use Rattle.dsdiff_spec.specs.Decoded as decoding;
-ghost use Rattle.dsdiff_spec.specs.Form.{coded};
 ghost use Rattle.dsdiff_chunks.specs.Forms.{coded_seen};
 ghost use Rattle.dsdiff_chunks.specs.Seen.{head_seen};
 ghost use Rattle.dsdiff_chunks.specs.declared.copy.CopyFault.{CopyFault};

@@ -1,5 +1,5 @@
 // Pieces that are appended to a sink.
-ghost use Rattle.std.specs.Prelude.{◌≡◌, MatchResult};
+ghost use Rattle.std.specs.Prelude.{MatchResult};
 ghost use Rattle.dst_streams.specs.Causes.{HasCause};
 ghost use Rattle.dst_commands.specs.Writing.{Adds, Stops};
 

@@ -1,6 +1,6 @@
 // The sizes of the plain file that a coded one is decoded to.
-ghost use Rattle.std.specs.Prelude.{◌≡◌, ◌+◌, ◌*◌, ◌≤◌, ◌^◌, ℕ, List, length};
-ghost use Rattle.dsdiff_spec.specs.Form.{coded, shape, sound_bytes_of, size_of_sound};
+ghost use Rattle.std.specs.Prelude.{◌≡◌, ◌+◌, ◌*◌, ◌≤◌, ℕ, List, length};
+ghost use Rattle.dsdiff_spec.specs.Form.{coded, size_of_sound};
 ghost use Rattle.dsdiff_spec.specs.Pieces.{decoded_size};
 ghost use Rattle.dsdiff_chunks.specs.Forms.{coded_seen};
 

@@ -1,5 +1,5 @@
 // Cutting frames out of a coded file.
-ghost use Rattle.std.specs.Prelude.{◌≡◌, ◌⊎◌, ◌+◌, ◌^◌, ◌≤◌, ◌<◌, ℕ, List, length, true, Option, Some, IfOk, IfErr, OnOk, Err, ◌∷◌, []};
+ghost use Rattle.std.specs.Prelude.{◌≡◌, ◌⊎◌, ◌+◌, ◌^◌, ◌≤◌, ◌<◌, ℕ, List, length, true, Some, IfOk, IfErr, OnOk, Err, ◌∷◌, []};
 ghost use Rattle.std.specs.declared.alloc.AllocError.{AllocError};
 ghost use Rattle.dst_streams.specs.Causes.{Rose};
 ghost use Rattle.dst_streams.specs.Told.{IsCutShort, and_then};

@@ -1,5 +1,5 @@
 // A coded form of which frames are cut out: where these stand, what is left of the sound, and the sizes of what is written.
-ghost use Rattle.std.specs.Prelude.{◌≡◌, ◌+◌, ◌≤◌, ◌<◌, ◌^◌, ℕ, List, length, Option};
+ghost use Rattle.std.specs.Prelude.{◌≡◌, ◌+◌, ◌≤◌, ◌<◌, ◌^◌, ℕ, List, length};
 ghost use Rattle.std.proofs.Props.{props};
 ghost use Rattle.dsdiff_spec.specs.Cut.{cut_chunks};
 ghost use Rattle.dsdiff_spec.specs.Refusal.{cut_fault};

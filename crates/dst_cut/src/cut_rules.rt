@@ -1,5 +1,5 @@
 // The rules of cutting.
-ghost use Rattle.std.specs.Prelude.{◌≡◌, ◌≤◌, ℕ, List};
+ghost use Rattle.std.specs.Prelude.{◌≤◌};
 ghost use Rattle.dsdiff_spec.specs.Words as words;
 ghost use Rattle.dst_cut.specs.Cutting.{IsCutForm};
 

@@ -15,7 +15,7 @@ use Rattle.dsdiff_spec.proofs.CodedFiles.{IsDecodable, is_decodable}
 use Rattle.dsdiff_spec.proofs.Progress.{BeginsWith, begins_with_front, none_decoded_yet}
 use Rattle.dst_commands.specs.Commands.{OutcomeOf}
 use Rattle.dst_commands.specs.Writing.{Adds, Stops}
-use Rattle.dst_commands.proofs.Writing.{added, adds_then, cut_off, stops_at_once, stops_for, stops_in, stops_then, stops_unsettled}
+use Rattle.dst_commands.proofs.Writing.{added, adds_then, cut_off, stops_at_once, stops_in, stops_then, stops_unsettled}
 use Rattle.dst_read.specs.declared.faults.Decoded.{Decoded}
 use Rattle.dst_read.specs.declared.faults.DecodeFault.{DecodeFault}
 use Rattle.dst_read.specs.declared.faults.DecodeFault.TheVariants.{Source, Write, Frame}

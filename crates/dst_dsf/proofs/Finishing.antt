@@ -1,5 +1,5 @@
 -- The run of the frames, and the last row behind it.
-use Rattle.std.proofs.Common.{◌≡◌, ◌⊎◌, inl, inr, ℕ, ◌*◌, ◌/◌, ◌≤◌, List, length, Option, Some, Ok, Err, Result, refl, sym, ap, subst, ◌∙◌, arith}
+use Rattle.std.proofs.Common.{◌≡◌, inl, inr, ℕ, ◌*◌, ◌/◌, ◌≤◌, List, length, Option, Ok, Err, refl, ap, subst, ◌∙◌, arith}
 use Rattle.dst_streams.specs.Told.{and_then}
 use Rattle.dst_streams.specs.Causes.{Rose}
 use Rattle.dst_streams.proofs.Counts.{Rose-earlier}

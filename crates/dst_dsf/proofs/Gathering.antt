@@ -1,5 +1,5 @@
 -- Sound that is gathered into rows: what a row has when bytes are put into it, and what is written when it is full.
-use Rattle.std.proofs.Common.{◌≡◌, ◌⊎◌, inl, inr, ℕ, zero, suc, ◌+◌, ◌-◌, ◌*◌, ◌/◌, ◌%◌, ◌^◌, ◌<◌, ◌≤◌, List, [], ◌∷◌, ◌++◌, map, length, take, drop}
+use Rattle.std.proofs.Common.{◌≡◌, ◌⊎◌, inl, inr, ℕ, zero, suc, ◌+◌, ◌-◌, ◌*◌, ◌/◌, ◌%◌, ◌^◌, ◌<◌, ◌≤◌, List, [], ◌++◌, map, length, take, drop}
 use Rattle.std.proofs.Common.{get_or, replicate, Option, Result, Ok, Err, take-append-drop}
 use Rattle.std.proofs.Common.{refl, sym, ap, ap₂, subst, ◌∙◌, arith, length-append, append_assoc, append-nil}
 use Rattle.std.specs.Prelude.{◌==◌, if◌then◌else◌, reverse, min, MatchResult, OnOk}
@@ -14,7 +14,6 @@ use Rattle.dst_spec.specs.Bits.{number_from}
 use Rattle.dst_spec.proofs.Lists.{place-below, get_or-zeros}
 use Rattle.dsdiff_spec.specs.Bytes.{◌below◌}
 use Rattle.dsdiff_spec.specs.Dsf.{Dsf, dsf_byte, dsf_row, octets, rows}
-use Rattle.dsdiff_spec.specs.Samples.{sample_in}
 use Rattle.dsf_files.specs.declared.form.DsfForm.{DsfForm}
 use Rattle.dsf_files.specs.Forms.{dsf_seen}
 use Rattle.dsf_laws.proofs.Alike.{map_alike, flat_alike}

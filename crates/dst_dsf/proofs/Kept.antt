@@ -1,13 +1,12 @@
 -- What a coded form says of a DSF file, by its chunk `DSFK` or without one.
-use Rattle.std.proofs.Common.{◌≡◌, ℕ, suc, ◌+◌, ◌*◌, ◌/◌, ◌%◌, ◌≤◌, Bool, true, false, List, [], ◌∷◌, length, refl, sym, ap, ap₂, ◌∙◌, arith, Option}
+use Rattle.std.proofs.Common.{◌≡◌, ℕ, ◌+◌, ◌*◌, ◌/◌, ◌%◌, ◌≤◌, List, [], ◌∷◌, length, refl, sym, ap, ◌∙◌, arith, Option}
 use Rattle.std.proofs.Common.{Some, None}
-use Rattle.std.specs.Prelude.{not, ◌||◌, ◌==◌, if◌then◌else◌, filter, option_map, bytes_eq, codes}
-use Rattle.std.proofs.Math.Bool.{or_self}
+use Rattle.std.specs.Prelude.{not, ◌||◌, ◌==◌, option_map}
 use Rattle.std.proofs.Math.Dec.{eqb-suc-zero}
 use Rattle.std.proofs.Math.Nat.{mul-mod_left, div-add-mod}
 use Rattle.dst_spec.specs.Sample.{sound_bytes}
 use Rattle.dsdiff_spec.specs.Bytes.{bytes_at, number_at, ◌is◌}
-use Rattle.dsdiff_spec.specs.Chunks.{Head, body_place, body_end, named}
+use Rattle.dsdiff_spec.specs.Chunks.{Head, body_place}
 use Rattle.dsdiff_spec.specs.Dsf.{Dsf, dsf_said, dsf_in, dsfk_heads, usual_type, is_bad_dsfk, dsfk_fault, octets}
 use Rattle.dsdiff_spec.specs.Faults.{◌when◌}
 use Rattle.dsdiff_spec.specs.Form.{Form, size_of_sound, plain_size, coded}

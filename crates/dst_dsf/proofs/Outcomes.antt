@@ -1,26 +1,22 @@
 -- What every outcome begins with, and how decoding to a DSF file ends, by the sounds of the frames.
 use Rattle.std.proofs.Common.{◌≡◌, ◌⊎◌, inl, inr, ℕ, zero, suc, ◌+◌, ◌-◌, ◌*◌, ◌/◌, ◌%◌, ◌^◌, ◌<◌, ◌≤◌, List, [], ◌∷◌, ◌++◌, map, length, take, drop}
-use Rattle.std.proofs.Common.{get_or, Option, Some, None}
-use Rattle.std.proofs.Common.{refl, sym, ap, subst, ◌∙◌, arith, length-append, append_assoc, append-nil, take-append-drop}
+use Rattle.std.proofs.Common.{refl, sym, ap, subst, ◌∙◌, arith, append_assoc, append-nil, take-append-drop}
 use Rattle.std.specs.List.{concat, AllZip, range_with_len}
 use Rattle.std.specs.Prelude.{◌==◌, if◌then◌else◌, reverse}
-use Rattle.std.proofs.lemmas.Bool.{cases_lt, cases_order, lt-ltb, le-ltb}
+use Rattle.std.proofs.lemmas.Bool.{cases_lt, cases_order, le-ltb}
 use Rattle.std.proofs.lemmas.List.{take_all, get_or-take, length-take}
 use Rattle.std.proofs.lemmas.List.Folds.{concat-append}
-use Rattle.std.proofs.Math.Nat.{mul-div-mul_right, mul-le-mul_right, lt-div-mul-add}
+use Rattle.std.proofs.Math.Nat.{mul-div-mul_right, mul-le-mul_right}
 use Rattle.dst_spec.specs.Bits.{AreBytes, number_from}
-use Rattle.dst_spec.specs.Sample.{sound_bytes}
 use Rattle.dst_spec.specs.Means.{Means}
 use Rattle.dst_spec.specs.declared.faults.FrameFault.{FrameFault}
 use Rattle.dst_spec.proofs.Lists.{all_take, place-below}
 use Rattle.dsdiff_spec.specs.Bytes.{◌below◌}
-use Rattle.dsdiff_spec.specs.Dsf.{Dsf, dsf_header, dsf_byte, dsf_row, dsf_with, dsf_in, octets, rows, to_dsf, ToDsf, DsfBefore}
+use Rattle.dsdiff_spec.specs.Dsf.{Dsf, dsf_header, dsf_byte, dsf_row, dsf_with, dsf_in, octets, rows, to_dsf}
 use Rattle.dsdiff_spec.specs.Form.{Form, shape, sound_bytes_of, size_of_sound}
-use Rattle.dsdiff_spec.specs.Rules.{accepted}
 use Rattle.dsdiff_spec.specs.Decoded.{frames_of}
 use Rattle.dsdiff_spec.specs.Samples.{sample_in}
 use Rattle.dsdiff_spec.specs.Words.{decode, decode_dsf}
-use Rattle.dsdiff_spec.specs.Refusal.{refusal}
 use Rattle.dsdiff_spec.specs.Lines.{decoded_line}
 use Rattle.dsdiff_spec.specs.Outcome.{Answer, done, frame_refused, IsStopped, IsDone, OfCommand}
 use Rattle.dsdiff_spec.specs.Progress.{NoneOf, AreDecoded}
@@ -28,7 +24,6 @@ use Rattle.dsdiff_spec.proofs.CodedFiles.{IsDecodable, is_decodable}
 use Rattle.dsdiff_spec.proofs.OneOutcome.{none_numbered, none_of_numbered, frames_are_answered}
 use Rattle.dsdiff_spec.proofs.Progress.{BeginsWith, length-decoded, sound_is_whole, take_of_take}
 use Rattle.dsdiff_spec.proofs.Verdicts.{IsAnswered, AreAnswered, fewer_sounds, stop_is_not_earlier}
-use Rattle.dsf_files.proofs.Reading.{quotient_below}
 use Rattle.dsf_laws.proofs.Alike.{map_alike, flat_alike}
 use Rattle.dst_commands.specs.Commands.{OutcomeOf}
 use Rattle.dst_read.specs.Decoding.{StopsAt, sound_of}

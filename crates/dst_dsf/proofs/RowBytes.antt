@@ -1,5 +1,5 @@
 -- The bytes of a row of a DSF file by those of the sound in it.
-use Rattle.std.proofs.Common.{◌≡◌, ◌⊎◌, inl, inr, ℕ, zero, suc, ◌+◌, ◌-◌, ◌*◌, ◌/◌, ◌%◌, ◌^◌, ◌<◌, ◌≤◌, Bool, true, false, if◌then◌else◌, List, map}
+use Rattle.std.proofs.Common.{◌≡◌, inl, inr, ℕ, ◌+◌, ◌-◌, ◌*◌, ◌/◌, ◌%◌, ◌^◌, ◌<◌, ◌≤◌, Bool, true, false, if◌then◌else◌, List, map}
 use Rattle.std.proofs.Common.{reverse, take, length, get_or}
 use Rattle.std.proofs.Common.{refl, sym, ap, ap₂, subst, ◌∙◌, arith}
 use Rattle.std.specs.Prelude.{◌==◌}
@@ -17,8 +17,8 @@ use Rattle.dsdiff_spec.specs.Dsf.{Dsf, dsf_byte, dsf_row, octets}
 use Rattle.dsdiff_spec.specs.Samples.{eight, sample_in}
 use Rattle.dsdiff_spec.proofs.DsfLengths.{length-parts, length-block, length-dsf_row}
 use Rattle.dsf_files.specs.Rows.{turned, in_order, cleared}
-use Rattle.dsf_files.proofs.SoundBytes.{joined, joined_of, eight_joined, same_joined, joined_alike, bit_of, turned_bits, bits_in_order, part_of_bits, below_by}
-use Rattle.dst_dsf.specs.Rows.{place_in, samples_of, HasRow, ends_within, IsClearedRow}
+use Rattle.dsf_files.proofs.SoundBytes.{joined, eight_joined, same_joined, joined_alike, bit_of, turned_bits, bits_in_order, part_of_bits, below_by}
+use Rattle.dst_dsf.specs.Rows.{samples_of, HasRow, ends_within, IsClearedRow}
 use Rattle.dst_dsf.proofs.RowPlaces.{place_at}
 
 -- ---- a byte of the sound by its samples

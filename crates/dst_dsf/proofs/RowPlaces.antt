@@ -1,5 +1,5 @@
 -- Where the bytes of a row's sound stand in its blocks: each at a place of its own.
-use Rattle.std.proofs.Common.{◌≡◌, ℕ, ◌+◌, ◌*◌, ◌/◌, ◌%◌, ◌<◌, ◌≤◌, List, take, sym, ap, ap₂, ◌∙◌, arith}
+use Rattle.std.proofs.Common.{◌≡◌, ℕ, ◌+◌, ◌*◌, ◌/◌, ◌%◌, ◌<◌, List, take, sym, ap₂, ◌∙◌, arith}
 use Rattle.std.proofs.lemmas.List.{get_or-take}
 use Rattle.std.proofs.Math.Nat.{div-add-mod, mod-lt}
 use Rattle.dsf_files.proofs.Reading.{quotient_below}

@@ -1,14 +1,13 @@
 -- Frames that are read, decoded and gathered into rows, up to some number.
-use Rattle.std.proofs.Common.{◌≡◌, ◌⊎◌, ℕ, zero, suc, ◌+◌, ◌-◌, ◌*◌, ◌/◌, ◌≤◌, List, [], ◌∷◌, ◌++◌, length, take, Option, Some, None, Ok, Err, refl}
+use Rattle.std.proofs.Common.{◌≡◌, ℕ, zero, suc, ◌+◌, ◌-◌, ◌*◌, ◌/◌, ◌≤◌, List, [], ◌∷◌, ◌++◌, length, take, Option, Some, None, Ok, Err, refl}
 use Rattle.std.proofs.Common.{ap, sym, subst, ◌∙◌, arith}
 use Rattle.std.specs.Prelude.{option_map}
-use Rattle.std.specs.List.{concat}
 use Rattle.std.proofs.lemmas.List.{length-take}
-use Rattle.dst_spec.specs.Sample.{IsShape, sound_bytes}
+use Rattle.dst_spec.specs.Sample.{IsShape}
 use Rattle.dst_spec.specs.Offends.{Offends}
 use Rattle.dst_streams.specs.Told.{and_then}
 use Rattle.dst_streams.proofs.Counts.{Rose-earlier}
-use Rattle.dsdiff_spec.specs.Form.{Form, shape, sound_bytes_of, size_of_sound, plain_size, coded}
+use Rattle.dsdiff_spec.specs.Form.{Form, shape, sound_bytes_of, size_of_sound, plain_size}
 use Rattle.dsdiff_spec.specs.Walk.{Entry, entry, frame_at}
 use Rattle.dsdiff_spec.specs.Progress.{AreDecoded}
 use Rattle.dsdiff_spec.proofs.CodedFiles.{needed, some_bytes}

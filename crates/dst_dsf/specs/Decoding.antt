@@ -1,6 +1,5 @@
 -- Decoding a coded file to a DSF file: what opening leaves, and how it ends.
-use Rattle.std.specs.Prelude.{◌≡◌, ℕ, ◌*◌, ◌<◌, ◌≤◌, List, [], ◌∷◌, length, Option, None, Result, Ok, Err}
-use Rattle.dst_spec.specs.Sample.{Shape}
+use Rattle.std.specs.Prelude.{◌≡◌, ℕ, ◌*◌, ◌≤◌, List, [], ◌∷◌, length, Option, None, Result, Ok, Err}
 use Rattle.dst_streams.specs.Told.{and_then, IsCutShort}
 use Rattle.dsdiff_spec.specs.Dsf.{Dsf, dsf_in, octets}
 use Rattle.dsdiff_spec.specs.Form.{Form, size_of_sound}
@@ -12,7 +11,7 @@ use Rattle.dsdiff_spec.specs.Outcome.{Answer, done, frame_refused}
 use Rattle.dst_commands.specs.Commands.{OutcomeOf}
 use Rattle.dst_commands.specs.Writing.{Lacks}
 use Rattle.dst_read.specs.declared.faults.DecodeFault.{DecodeFault}
-use Rattle.dst_read.specs.declared.faults.DecodeFault.TheVariants.{Source, Write, Frame}
+use Rattle.dst_read.specs.declared.faults.DecodeFault.TheVariants.{Write, Frame}
 use Rattle.dst_read.specs.declared.faults.Decoded.{Decoded}
 
 -- the file is accepted for it, with this form, and this DSF file comes of it

@@ -1,5 +1,5 @@
 -- Frames that are decoded into rows of blocks: how their run ends.
-use Rattle.std.specs.Prelude.{◌≡◌, ◌⊎◌, ℕ, ◌*◌, ◌/◌, ◌<◌, ◌≤◌, List, length, Option, Some, Result, Ok, Err, IfErr, OnOk}
+use Rattle.std.specs.Prelude.{◌≡◌, ◌⊎◌, ℕ, ◌*◌, ◌/◌, ◌≤◌, List, length, Option, Some, Result, Ok, Err, IfErr, OnOk}
 use Rattle.dsdiff_spec.specs.Dsf.{Dsf, rows}
 use Rattle.dsdiff_spec.specs.Form.{Form}
 use Rattle.dsdiff_spec.specs.Progress.{AreDecoded}
@@ -7,7 +7,7 @@ use Rattle.dst_streams.specs.Told.{and_then}
 use Rattle.dsf_files.specs.Forms.{dsf_seen}
 use Rattle.dst_commands.specs.Writing.{Adds, Stops}
 use Rattle.dst_read.specs.declared.faults.DecodeFault.{DecodeFault}
-use Rattle.dst_read.specs.declared.faults.DecodeFault.TheVariants.{Source, Write, Frame}
+use Rattle.dst_read.specs.declared.faults.DecodeFault.TheVariants.{Write, Frame}
 use Rattle.dst_read.specs.declared.feed.StoredFrames.{StoredFrames}
 use Rattle.dst_read.specs.Decoding.{StopsAt, HasItsCause, sound_of}
 use Rattle.dst_read.specs.Feeding as feeding

@@ -1,5 +1,5 @@
 -- Rows of blocks by the bytes of sound that are in them.
-use Rattle.std.specs.Prelude.{◌≡◌, ℕ, ◌+◌, ◌-◌, ◌*◌, ◌/◌, ◌%◌, ◌<◌, ◌&&◌, ◌==◌, not, if◌then◌else◌, List, get_or, flat_map, slice_index}
+use Rattle.std.specs.Prelude.{◌≡◌, ℕ, ◌+◌, ◌-◌, ◌*◌, ◌/◌, ◌%◌, ◌<◌, List, get_or, flat_map, slice_index}
 use Rattle.std.specs.List.{range_with_len}
 use Rattle.dsdiff_spec.specs.Dsf.{Dsf, dsf_row, sample_to}
 use Rattle.dsdiff_spec.specs.Samples.{sample_in}

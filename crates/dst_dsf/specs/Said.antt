@@ -1,6 +1,5 @@
 -- What a coded form says of a DSF file.
 use Rattle.std.specs.Prelude.{◌≡◌, ℕ, ◌*◌, Bool, true, not, ◌||◌, ◌==◌, List}
-use Rattle.std.proofs.Props.{props}
 use Rattle.dsdiff_spec.specs.Bytes.{number_at}
 use Rattle.dsdiff_spec.specs.Dsf.{Dsf, dsf_said, dsf_in, octets}
 use Rattle.dsdiff_spec.specs.Form.{Form, size_of_sound}

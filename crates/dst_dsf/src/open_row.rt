@@ -1,5 +1,5 @@
 // A row of blocks in which sound is gathered.
-ghost use Rattle.std.specs.Prelude.{◌≡◌, ◌+◌, ◌-◌, ◌*◌, ◌/◌, ◌%◌, ◌<◌, ◌≤◌, ◌++◌, ℕ, List, length, take, true, replicate};
+ghost use Rattle.std.specs.Prelude.{◌≡◌, ◌+◌, ◌-◌, ◌*◌, ◌/◌, ◌%◌, ◌≤◌, ◌++◌, ℕ, List, length, take, true, replicate};
 ghost use Rattle.dsdiff_spec.specs.Dsf.{dsf_row, octets};
 ghost use Rattle.dsf_files.specs.Forms.{dsf_seen, is_order};
 ghost use Rattle.dst_dsf.specs.Rows.{samples_of, HasRow};

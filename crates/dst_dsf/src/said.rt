@@ -1,9 +1,8 @@
 // What a coded form says of a DSF file: in its chunk `DSFK`, or else by its sound and channels.
-ghost use Rattle.std.specs.Prelude.{◌≡◌, ◌+◌, ◌*◌, ◌/◌, ◌≤◌, ◌<◌, ℕ, List, length, true, false, Some, None, IfOk, IfErr, IfSome, IfNone, [], ◌∷◌, map};
-ghost use Rattle.dsdiff_spec.specs.Bytes.{number_at};
-ghost use Rattle.dsdiff_spec.specs.Chunks.{Head, named};
+ghost use Rattle.std.specs.Prelude.{◌≡◌, ◌+◌, ◌*◌, ◌/◌, ◌≤◌, ◌<◌, ℕ, List, true, false, Some, None, IfOk, IfErr, IfSome, IfNone, [], ◌∷◌, map};
+ghost use Rattle.dsdiff_spec.specs.Chunks.{named};
 ghost use Rattle.dsdiff_chunks.specs.Found.{FoundAre};
-ghost use Rattle.dsdiff_spec.specs.Dsf.{Dsf, dsf_in, dsf_said, dsfk_fault, dsfk_heads, usual_type, octets};
+ghost use Rattle.dsdiff_spec.specs.Dsf.{dsf_in, dsf_said, dsfk_fault, dsfk_heads, usual_type, octets};
 ghost use Rattle.dsdiff_spec.specs.Form.{size_of_sound};
 ghost use Rattle.dsdiff_chunks.specs.Forms.{coded_seen};
 ghost use Rattle.dsdiff_chunks.specs.Seen.{head_seen};

@@ -1,5 +1,5 @@
 // Up to eight frames, decoded side by side.
-ghost use Rattle.std.specs.Prelude.{◌≡◌, ◌≢◌, true, false, ◌<◌, ◌≤◌, ◌+◌, ◌*◌, ◌^◌, ℕ, List, [], length, take, get_or, replicate, Ok, IfSome, vec_capacity};
+ghost use Rattle.std.specs.Prelude.{◌≡◌, ◌≢◌, true, false, ◌<◌, ◌≤◌, ◌+◌, ◌*◌, ◌^◌, ℕ, [], length, take, get_or, replicate, Ok, IfSome, vec_capacity};
 ghost use Rattle.dst_spec.specs.Bits.{bits};
 ghost use Rattle.dst_spec.specs.Sample.{Shape, sound_bytes};
 ghost use Rattle.dst_spec.specs.Header.{Params, HasHeader};
@@ -13,7 +13,7 @@ ghost use Rattle.arith_lanes.specs.Lanes.{IsKept, Begins};
 ghost use Rattle.dst_frames.specs.Coded.{IsCodeOfSound};
 ghost use Rattle.dst_frames.specs.Tables.{IsBuilt, AreBuilt};
 ghost use Rattle.dst_frames.specs.Ready.{IsReady};
-ghost use Rattle.dst_frames.specs.Batch.{IsDecoded, IsWordOf, IsLaneFurther, AreLanes, HasBegun, stored_in, code_at};
+ghost use Rattle.dst_frames.specs.Batch.{IsDecoded, IsLaneFurther, AreLanes, HasBegun, stored_in, code_at};
 ghost use Rattle.dst_frames.specs.Eight.{states_at, table_at, tables_at, tables_in};
 ghost use Rattle.dst_frames.specs.Running.{AreStored, AreNarrow, AreEight, IsPool, AreTaken, AreWords, LaneDecoded};
 ghost use Rattle.dst_frames.specs.declared.state.ChannelState.{ChannelState};

@@ -1,5 +1,5 @@
 // The sound of a coded frame.
-ghost use Rattle.std.specs.Prelude.{◌≡◌, ℕ, ◌+◌, ◌*◌, ◌<◌, ◌≤◌, ◌^◌, Bool, length, get_or, replicate, IfOk, IfErr};
+ghost use Rattle.std.specs.Prelude.{◌≡◌, ℕ, ◌*◌, ◌<◌, ◌≤◌, ◌^◌, length, get_or, replicate, IfOk, IfErr};
 ghost use Rattle.dst_spec.specs.Bits.{bits};
 ghost use Rattle.dst_spec.specs.Sample.{Shape};
 ghost use Rattle.dst_spec.specs.Guess.{filter_of, probs_of};

@@ -1,6 +1,5 @@
 // The memory in which frames are decoded.
 ghost use Rattle.std.specs.Prelude.{◌≡◌, IfOk};
-ghost use Rattle.dst_spec.specs.Sample.{IsShape};
 
 use crate::state::ChannelState;
 use crate::tables::ChannelTables;

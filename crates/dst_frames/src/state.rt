@@ -1,5 +1,5 @@
 // What changes of a channel from sample to sample.
-ghost use Rattle.std.specs.Prelude.{ℕ, ◌+◌, ◌<◌, ℤ, Bool, true, false, List, ◌∷◌, replicate, IfSome};
+ghost use Rattle.std.specs.Prelude.{ℕ, ◌<◌, ℤ, Bool, true, false, List, ◌∷◌, replicate, IfSome};
 ghost use Rattle.dst_spec.specs.Header.{bit_of};
 ghost use Rattle.byte_predictor.specs.Samples.{samples_of, signed_sum};
 ghost use Rattle.dst_frames.specs.Tables.{IsBuilt, IsEntry};

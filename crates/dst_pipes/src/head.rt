@@ -1,11 +1,10 @@
 // The head of the plain file.
-ghost use Rattle.std.specs.Prelude.{◌≡◌, ◌+◌, ◌≤◌, ◌++◌, length, codes, MatchResult};
-ghost use Rattle.byteorder.specs.Endian.{big_bytes};
+ghost use Rattle.std.specs.Prelude.{◌≡◌, ◌+◌, ◌≤◌, length, MatchResult};
 ghost use Rattle.dst_streams.specs.Causes.{HasCause};
 ghost use Rattle.dsdiff_spec.specs.Written.{cmpr_plain};
 ghost use Rattle.dsdiff_chunks.specs.Lawful.{IsPropBody};
 ghost use Rattle.dst_commands.specs.Writing.{Adds, Stops};
-ghost use Rattle.dst_pipes.specs.Heads.{version_bytes, opening_bytes, plain_size, head_with};
+ghost use Rattle.dst_pipes.specs.Heads.{version_bytes, head_with};
 
 use dsdiff_chunks::{prop_length, write_head, write_prop};
 use dst_commands::write_opening;

@@ -1,5 +1,5 @@
 // A stream, decoded.
-ghost use Rattle.std.specs.Prelude.{◌≡◌, ◌⊎◌, ◌+◌, ◌*◌, ◌≤◌, ◌<◌, ◌^◌, ℕ, List, [], ◌∷◌, ◌++◌, length, true, Option, Some, None, IsOk, IfOk, IfErr, Err, Ok};
+ghost use Rattle.std.specs.Prelude.{◌≡◌, ◌⊎◌, ◌+◌, ◌*◌, ◌≤◌, ◌<◌, ℕ, List, [], ◌∷◌, length, true, Some, None, IsOk, IfOk, IfErr, Err, Ok};
 ghost use Rattle.std.specs.declared.alloc.AllocError.{AllocError};
 ghost use Rattle.dst_spec.specs.declared.faults.FrameFault.{FrameFault};
 ghost use Rattle.dst_streams.specs.Causes.{Rose};
@@ -13,7 +13,7 @@ ghost use Rattle.push_decoder.specs.Decoder.{StandsFor};
 ghost use Rattle.push_decoder.specs.Events.{Answered, nothing_answered, due};
 ghost use Rattle.push_decoder.specs.Told.{EndsAs};
 ghost use Rattle.stream_spec.specs.Outcome.{StreamOutcome, stream_refused};
-ghost use Rattle.dst_pipes.specs.Endings.{Writes, PipeEnds, HasItsCause};
+ghost use Rattle.dst_pipes.specs.Endings.{PipeEnds, HasItsCause};
 ghost use Rattle.dst_pipes.specs.declared.work.Work.{Work};
 ghost use Rattle.dst_pipes.specs.declared.faults.PipeFault.{PipeFault};
 

@@ -1,5 +1,5 @@
 // One step of a stream: its next event, and what it asks for.
-ghost use Rattle.std.specs.Prelude.{◌≡◌, ◌+◌, ◌-◌, ◌≤◌, ◌<◌, ℕ, List, ◌++◌, length, Option, Some, None, IfOk, IfErr, Err, Ok};
+ghost use Rattle.std.specs.Prelude.{◌≡◌, ◌+◌, ◌-◌, ◌≤◌, ◌<◌, ℕ, List, ◌++◌, length, Option, Some, None, IfOk, Err, Ok};
 ghost use Rattle.std.specs.declared.alloc.AllocError.{AllocError};
 ghost use Rattle.dst_streams.specs.Causes.{Rose};
 ghost use Rattle.push_decoder.specs.Decoder.{StandsFor};

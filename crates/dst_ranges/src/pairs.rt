@@ -1,7 +1,6 @@
 // Pairs of a first group and a number of groups, written one after the other.
-ghost use Rattle.std.specs.Prelude.{◌≡◌, ◌+◌, ◌*◌, ◌≤◌, ◌<◌, ◌^◌, ℕ, ◌∷◌, [], length, Some, IfOk, IfErr, OnOk, Err};
+ghost use Rattle.std.specs.Prelude.{◌≡◌, ◌+◌, ◌*◌, ◌≤◌, ◌<◌, ℕ, length, Some, IfOk, IfErr, OnOk, Err};
 ghost use Rattle.dst_spec.specs.Sample.{sound_bytes};
-ghost use Rattle.frame_cache.specs.Reader.{IsSame};
 ghost use Rattle.dst_read.specs.Decoding.{HasItsCause};
 ghost use Rattle.dst_ranges.specs.Asked.{groups_asked};
 ghost use Rattle.dst_ranges.specs.Opened.{IsReady};

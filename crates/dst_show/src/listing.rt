@@ -1,5 +1,5 @@
 // The lines of a report, one after the other, and the list of a file's frames.
-ghost use Rattle.std.specs.Prelude.{◌≡◌, ◌≢◌, ◌+◌, ◌≤◌, ℕ, List, [], length, map, flat_map, Option, Some, IfOk, OnOk, MatchResult, Err};
+ghost use Rattle.std.specs.Prelude.{◌≡◌, ◌≢◌, ◌+◌, ◌≤◌, ℕ, List, [], length, map, flat_map, Some, IfOk, OnOk, MatchResult, Err};
 ghost use Rattle.dst_streams.specs.Causes.{Rose, HasCause};
 ghost use Rattle.dst_streams.specs.Told.{IsCutShort, and_then};
 ghost use Rattle.dsdiff_spec.specs.declared.faults.FileFault.{FileFault};

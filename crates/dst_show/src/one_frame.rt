@@ -1,5 +1,5 @@
 // The sound of one frame.
-ghost use Rattle.std.specs.Prelude.{◌≡◌, ◌≢◌, ◌+◌, ◌*◌, ◌<◌, ◌≤◌, ◌^◌, ℕ, true, List, [], ◌∷◌, length, Option, Some, None, IfOk, IfErr, OnOk, Err, MatchResult};
+ghost use Rattle.std.specs.Prelude.{◌≡◌, ◌≢◌, ◌+◌, ◌*◌, ◌<◌, ◌≤◌, ℕ, true, List, [], ◌∷◌, length, Some, None, IfOk, IfErr, OnOk, Err, MatchResult};
 ghost use Rattle.dst_spec.specs.Sample.{IsShape, sound_bytes};
 ghost use Rattle.dst_spec.specs.declared.faults.FrameFault.{FrameFault};
 ghost use Rattle.dst_streams.specs.Causes.{Rose, HasCause};

@@ -1,5 +1,5 @@
 // The summary of a file, in lines.
-ghost use Rattle.std.specs.Prelude.{◌≡◌, ◌≤◌, List, [], ◌∷◌, length, map, flat_map, sum, not, ◌==◌, is_some, MatchResult};
+ghost use Rattle.std.specs.Prelude.{◌≡◌, ◌≤◌, [], length, map, sum, not, ◌==◌, is_some, MatchResult};
 ghost use Rattle.dst_streams.specs.Causes.{HasCause};
 ghost use Rattle.dsdiff_spec.specs.Chunks.{named};
 ghost use Rattle.dsdiff_spec.specs.Lines as reports;

@@ -6,7 +6,7 @@ ghost use Rattle.dsdiff_spec.specs.Lines as reports;
 ghost use Rattle.dst_words.specs.Commands.{command_seen, NumbersAreLawful};
 ghost use Rattle.dst_tool.specs.Answers.{status_of, done_line, fault_line, line_of, TellsOneLine};
 ghost use Rattle.dst_show.specs.LineByLine.{AddsLines};
-ghost use Rattle.dst_tool.specs.Runs.{IsRun, Counts, Held, Told, ReadsAndWrites};
+ghost use Rattle.dst_tool.specs.Runs.{IsRun, ReadsAndWrites};
 
 use crate::answers::{
     Fault, Numbers, checked, cut_out, decoded, encoded, frame_written, listed, made, ran,

@@ -1,9 +1,9 @@
 // The top call: words in, a status out.
-ghost use Rattle.std.specs.Prelude.{◌≡◌, ◌≢◌, ◌⊎◌, ◌+◌, ◌<◌, ◌≤◌, true, ℕ, List, [], ◌∷◌, length, map, Option, Some, None, Err};
+ghost use Rattle.std.specs.Prelude.{◌≡◌, ◌≢◌, ◌⊎◌, ◌+◌, ◌<◌, ◌≤◌, true, ℕ, List, [], ◌∷◌, length, map, Some, None, Err};
 ghost use Rattle.std.specs.String.{string_bytes};
 ghost use Rattle.dst_spec.specs.declared.faults.FrameFault.{FrameFault};
 ghost use Rattle.dst_streams.specs.Causes.{Rose};
-ghost use Rattle.dst_streams.specs.Told.{IsCutShort, and_then};
+ghost use Rattle.dst_streams.specs.Told.{and_then};
 ghost use Rattle.dsdiff_spec.specs.declared.faults.FileFault.{FileFault};
 ghost use Rattle.dsdiff_spec.specs.Form.{sound_bytes_of};
 ghost use Rattle.dsdiff_spec.specs.Rules.{accepted};

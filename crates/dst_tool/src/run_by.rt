@@ -5,7 +5,7 @@ ghost use Rattle.dst_streams.specs.Causes.{Rose};
 ghost use Rattle.dsdiff_spec.specs.Lines as reports;
 ghost use Rattle.dsdiff_spec.specs.Words as asked;
 ghost use Rattle.words_spec.specs.Rows.{command_of};
-ghost use Rattle.dst_tool.specs.Runs.{Counts, Held, Told, IsRun, Reports};
+ghost use Rattle.dst_tool.specs.Runs.{IsRun, Reports};
 
 use crate::command::{report_line, run_command};
 use dst_lines::lines;

@@ -1,19 +1,17 @@
 -- Frames by their sizes: the bytes of their chunks, and their entries in `DSTI`.
-use Rattle.std.proofs.Common.{◌≡◌, ℕ, ◌+◌, ◌*◌, ◌/◌, ◌%◌, ◌<◌, ◌==◌, false, if◌then◌else◌, List, [], ◌∷◌, ◌++◌, length, map, take, get_or}
+use Rattle.std.proofs.Common.{◌≡◌, ℕ, ◌+◌, ◌*◌, ◌/◌, ◌<◌, List, [], ◌∷◌, ◌++◌, length, map, take, get_or}
 use Rattle.std.proofs.Common.{flat_map, refl, sym, ap, ◌∙◌, arith, length-append, append-nil, append_assoc, drop}
 use Rattle.std.specs.Prelude.{codes}
 use Rattle.std.proofs.lemmas.List.{take_more, take-append-drop}
 use Rattle.std.proofs.lemmas.List.Sums.{sum_by-cons}
 use Rattle.std.proofs.lemmas.List.Concat.{flat_map-append}
 use Rattle.byteorder.specs.Endian.{big_bytes}
-use Rattle.byteorder.specs.Numbers.{length-bytes_high_first}
 use Rattle.dsdiff_spec.proofs.Progress.{BeginsWith}
 use Rattle.dsdiff_spec.proofs.ByteLists.{entry_bytes, length-index}
 use Rattle.dst_commands.proofs.ChunkLengths.{length-padded, even_chunk}
 use Rattle.dsdiff_spec.specs.Walk.{Entry}
-use Rattle.dsdiff_spec.specs.Written.{padded_chunk, chunk, frte, dstf, dsti, entries_from}
+use Rattle.dsdiff_spec.specs.Written.{dstf, dsti, entries_from}
 use Rattle.dst_write.specs.Layout.{chunk_size, frames_size, entries_by}
-use Prim.Native.String.{String}
 
 -- ---- the chunks of frames
 pub chunk_size_is : (frame : List ℕ) → length (dstf frame) ≡ chunk_size (length frame)

@@ -6,7 +6,7 @@
 //! ```
 #![tactic(auto)]
 
-ghost use Rattle.std.specs.Prelude.{◌≡◌, ◌+◌, ◌%◌, ◌<◌, ◌≤◌, ◌++◌, ◌∷◌, [], ◌==◌, if◌then◌else◌, ℕ, Option, Some, length, flat_map, slice_get, take, drop, IfOk};
+ghost use Rattle.std.specs.Prelude.{◌≡◌, ◌+◌, ◌%◌, ◌<◌, ◌≤◌, ◌++◌, ◌∷◌, [], ◌==◌, if◌then◌else◌, ℕ, Some, length, flat_map, slice_get, take, drop, IfOk};
 ghost use Rattle.byteorder.specs.Endian.{big_bytes};
 
 use std::alloc::{AllocError, Global};

@@ -1,10 +1,10 @@
 // The picker of a level.
-ghost use Rattle.std.specs.Prelude.{◌≡◌, ℕ, ◌+◌, ◌*◌, ◌^◌, ◌<◌, ◌≤◌, ℤ, pos, ◌+ℤ◌, nat_abs, [], ◌∷◌, ◌++◌, length, map, get_or, IfNone, IfSome};
+ghost use Rattle.std.specs.Prelude.{◌≡◌, ℕ, ◌+◌, ◌^◌, ◌<◌, ◌≤◌, pos, ◌+ℤ◌, nat_abs, [], ◌∷◌, length, map, get_or, IfNone, IfSome};
 ghost use Rattle.dst_spec.specs.Sample.{IsShape, sound_bytes};
 ghost use Rattle.level_spec.specs.Correlation.{correlations};
 ghost use Rattle.level_spec.specs.Recursion.{solution};
 ghost use Rattle.level_spec.specs.Laws.{AreCorrelations};
-ghost use Rattle.level_spec.specs.Picks.{channels_of, per_channel as per_channel_of, shared as shared_of, orders, level_picks};
+ghost use Rattle.level_spec.specs.Picks.{channels_of, orders, level_picks};
 ghost use Rattle.filter_analyser.specs.Run.{padded};
 
 use crate::lags::{correlate, correlate_first};

@@ -7,7 +7,7 @@ ghost use Rattle.dst_num.specs.Map.{params_of};
 ghost use Rattle.level_spec.specs.Correlation.{correlations};
 ghost use Rattle.level_spec.specs.Recursion.{solution};
 ghost use Rattle.level_spec.specs.Counts.{counted};
-ghost use Rattle.level_spec.specs.Picks.{channels_of, filter_for, per_channel as per_channel_of, shared as shared_of, orders, level_picks};
+ghost use Rattle.level_spec.specs.Picks.{channels_of, per_channel as per_channel_of, shared as shared_of};
 ghost use Rattle.frame_predictions.specs.Codes.{code_at};
 ghost use Rattle.filter_analyser.specs.Run.{padded};
 

@@ -1,5 +1,5 @@
 // From correlations to the values of filters, all orders in one run.
-ghost use Rattle.std.specs.Prelude.{◌≡◌, ℕ, ◌+◌, ◌-◌, ◌*◌, ◌^◌, ◌<◌, ◌≤◌, ℤ, pos, ◌*ℤ◌, ◌≤ℤ◌, nat_abs, nat_lt, int_lt, ◌||◌, true, false, [], length, map, get_or, take};
+ghost use Rattle.std.specs.Prelude.{◌≡◌, ℕ, ◌+◌, ◌-◌, ◌*◌, ◌^◌, ◌<◌, ◌≤◌, pos, ◌*ℤ◌, ◌≤ℤ◌, nat_abs, nat_lt, int_lt, ◌||◌, true, false, length, map, get_or, take};
 ghost use Rattle.std.specs.List.{list_any};
 ghost use Rattle.level_spec.specs.Recursion.{whole, left_over as left_over_of, reflection, moved as moved_of, begin, step as step_of, fallen as fallen_of, after, solution};
 ghost use Rattle.level_spec.specs.Rows.{first_row, next_row, rows as rows_of, row_solution};

@@ -7,8 +7,7 @@ ghost use Rattle.level_spec.specs.Recursion.{lag};
 ghost use Rattle.level_spec.specs.Counts.{count_from, table_of};
 ghost use Rattle.level_spec.specs.Rows.{rows as rows_of};
 ghost use Rattle.level_spec.specs.Size.{shortened, size};
-ghost use Rattle.level_spec.specs.Refining.{weighted_agreement, gradient, next_filter as next_filter_of, refined_from, Refined as Refinement};
-ghost use Rattle.level_spec.specs.Laws.{AreCorrelations};
+ghost use Rattle.level_spec.specs.Refining.{weighted_agreement, gradient, next_filter as next_filter_of, refined_from};
 ghost use Rattle.frame_predictions.specs.Codes.{code_at};
 
 use crate::counts::table_from;

@@ -1,5 +1,5 @@
 // From a target to the coefficients of a filter.
-ghost use Rattle.std.specs.Prelude.{◌≡◌, ℕ, ◌+◌, ◌-◌, ◌*◌, ◌^◌, ◌<◌, ◌≤◌, max, ℤ, pos, ◌-ℤ◌, ◌*ℤ◌, nat_abs, length, get_or, take};
+ghost use Rattle.std.specs.Prelude.{◌≡◌, ℕ, ◌+◌, ◌-◌, ◌*◌, ◌^◌, ◌<◌, ◌≤◌, max, pos, ◌-ℤ◌, ◌*ℤ◌, nat_abs, length, get_or, take};
 ghost use Rattle.std.specs.Int.{int_div_euclid};
 ghost use Rattle.level_spec.specs.Recursion.{value, whole};
 ghost use Rattle.level_spec.specs.Rows.{row_value};

@@ -1,5 +1,5 @@
 // How the samples of a channel, by their weights, agree with those before them.
-ghost use Rattle.std.specs.Prelude.{◌≡◌, ℕ, ◌+◌, ◌-◌, ◌*◌, ◌/◌, ◌%◌, ◌^◌, ◌<◌, ◌≤◌, ℤ, pos, ◌+ℤ◌, nat_abs, if◌then◌else◌, length, get_or, All};
+ghost use Rattle.std.specs.Prelude.{◌≡◌, ℕ, ◌+◌, ◌-◌, ◌*◌, ◌/◌, ◌%◌, ◌^◌, ◌<◌, ◌≤◌, pos, ◌+ℤ◌, nat_abs, if◌then◌else◌, length, get_or, All};
 ghost use Rattle.dst_spec.specs.Sample.{samples, sound_bytes};
 ghost use Rattle.dst_spec.specs.Guess.{signed};
 ghost use Rattle.level_spec.specs.Correlation.{sum_over};

@@ -1,7 +1,6 @@
 // How many bits a filter comes to, in 4096ths.
-ghost use Rattle.std.specs.Prelude.{◌≡◌, ℕ, ◌+◌, ◌-◌, ◌*◌, ◌^◌, ◌<◌, ◌≤◌, pos, map, length, get_or};
-ghost use Rattle.dst_spec.specs.Table.{filter_kind, prob_kind};
-ghost use Rattle.level_spec.specs.Size.{shortened, power_in as power_in_of, next_digit as next_digit_of, digits_after, Logarithm, bits_of as bits_of_symbol, spelled_bits, entry_at, place_bits, sum_below, size};
+ghost use Rattle.std.specs.Prelude.{◌≡◌, ℕ, ◌+◌, ◌-◌, ◌*◌, ◌^◌, ◌<◌, ◌≤◌, length, get_or};
+ghost use Rattle.level_spec.specs.Size.{shortened, power_in as power_in_of, next_digit as next_digit_of, digits_after, bits_of as bits_of_symbol, place_bits, size};
 
 use dst_num::{FilterTable, ProbTable};
 use table_code::{Filters, Probs, best_spelling};

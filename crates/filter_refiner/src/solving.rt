@@ -1,5 +1,5 @@
 // By the rows, the values whose correlations are given.
-ghost use Rattle.std.specs.Prelude.{◌≡◌, ◌≢◌, ℕ, ◌+◌, ◌-◌, ◌*◌, ◌^◌, ◌<◌, ◌≤◌, ℤ, pos, ◌+ℤ◌, ◌-ℤ◌, ◌*ℤ◌, nat_abs, length, get_or, take, None, Some, IfNone, IfSome};
+ghost use Rattle.std.specs.Prelude.{◌≡◌, ℕ, ◌+◌, ◌-◌, ◌*◌, ◌^◌, ◌<◌, ◌≤◌, pos, ◌+ℤ◌, ◌-ℤ◌, ◌*ℤ◌, nat_abs, length, get_or, take, None, Some, IfNone, IfSome};
 ghost use Rattle.level_spec.specs.Correlation.{sum_over};
 ghost use Rattle.level_spec.specs.Recursion.{value, whole};
 ghost use Rattle.level_spec.specs.Solving.{growth as growth_of, solved};

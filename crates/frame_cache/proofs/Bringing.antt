@@ -1,5 +1,5 @@
 -- One frame is wanted: it is kept, or it is decoded.
-use Rattle.std.proofs.Common.{◌≡◌, ℕ, ◌+◌, ◌^◌, ◌<◌, true, false, List, [], ◌∷◌, length, take, is_some, Option, Some, None, refl, sym, ap, subst, ◌∙◌, arith}
+use Rattle.std.proofs.Common.{◌≡◌, ℕ, ◌^◌, ◌<◌, true, false, List, [], ◌∷◌, length, take, is_some, Option, Some, None, refl, sym, ap, subst, ◌∙◌, arith}
 use Rattle.std.specs.Global.{Vec}
 use Rattle.std.specs.Vec.{with_items}
 use Rattle.std.proofs.lemmas.List.{with_items_is}
@@ -8,7 +8,7 @@ use Rattle.dst_spec.proofs.Lists.{all_take}
 use Rattle.dst_streams.specs.Told.{counted}
 use Rattle.dsdiff_spec.specs.Walk.{entry}
 use Rattle.dsdiff_spec.specs.Ranges.{is_kept, decoded_of}
-use Rattle.frame_cache.specs.Slots.{Kept, kept, frames_in, found, moved}
+use Rattle.frame_cache.specs.Slots.{Kept, kept, found, moved}
 use Rattle.frame_cache.specs.Reader.{Reader, order, stored_bytes, frame_in, IsSame, KeepsSounds, HoldsTogether}
 use Rattle.frame_cache.specs.Reads.{MeanSounds, HasWanted}
 use Rattle.frame_cache.proofs.Orders.{kept_is_found, frame-found, order-moved, order-taken, all-found, all-moved}

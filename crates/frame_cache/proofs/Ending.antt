@@ -1,21 +1,20 @@
 -- A read goes on with a frame, or ends: at a frame that is refused, where the source fails, or behind the last frame.
-use Rattle.std.proofs.Common.{◌≡◌, ◌⊎◌, inl, inr, ℕ, zero, suc, ◌+◌, ◌-◌, ◌*◌, ◌<◌, ◌≤◌, false, List, [], ◌∷◌, ◌++◌, length, take, Option, Some, refl}
+use Rattle.std.proofs.Common.{◌≡◌, ℕ, zero, suc, ◌+◌, ◌-◌, ◌*◌, ◌<◌, ◌≤◌, false, List, [], ◌∷◌, ◌++◌, length, take, Option, Some, refl}
 use Rattle.std.proofs.Common.{sym, ap, subst, ◌∙◌, arith}
 use Rattle.std.specs.Prelude.{min}
 use Rattle.std.specs.List.{range_with_len}
-use Rattle.std.proofs.Math.Nat.{mul-le-mul, mul-le-mul_right}
+use Rattle.std.proofs.Math.Nat.{mul-le-mul}
 use Rattle.std.proofs.lemmas.List.{take_all}
-use Rattle.dst_spec.specs.Sample.{Shape, IsShape, sound_bytes}
+use Rattle.dst_spec.specs.Sample.{IsShape, sound_bytes}
 use Rattle.dst_spec.specs.Means.{Means}
 use Rattle.dst_spec.specs.Offends.{Offends}
 use Rattle.dst_spec.specs.declared.faults.FrameFault.{FrameFault}
 use Rattle.dst_spec.proofs.Numbers.{length-range}
 use Rattle.dst_spec.proofs.SymbolsBefore.{range-more}
 use Rattle.dsdiff_spec.specs.Bytes.{bytes_at}
-use Rattle.dsdiff_spec.specs.Form.{Form, shape, sound_bytes_of, size_of_sound}
-use Rattle.dsdiff_spec.specs.Walk.{Entry, entry, entries, frame_at}
+use Rattle.dsdiff_spec.specs.Form.{Form, shape, sound_bytes_of}
+use Rattle.dsdiff_spec.specs.Walk.{entry, entries, frame_at}
 use Rattle.dsdiff_spec.specs.Ranges.{Sound, is_kept}
-use Rattle.frame_cache.specs.Slots.{Kept}
 use Rattle.frame_cache.specs.Reader.{Reader, HoldsTogether, order, frame_in, IsSame, IsReaderOf, KeepsSounds}
 use Rattle.frame_cache.specs.Reads.{HasWanted, IsPartWay, IsRefusedAt}
 use Rattle.frame_cache.proofs.Orders.{HasInFront, in_front_of, range-parts, few_decoded}

@@ -3,10 +3,9 @@ use Rattle.std.proofs.Common.{◌≡◌, ℕ, zero, suc, ◌+◌, ◌==◌, Bool
 use Rattle.std.proofs.Common.{option_map, refl, sym, ap, subst, ◌∙◌, arith, eqb-true, eq-eqb}
 use Rattle.std.specs.List.{AllByRecursion, IsDistinct, cons_option}
 use Rattle.std.specs.Map.{keys_of, lookup_entry, remove_entry}
-use Rattle.std.specs.Option.{is_some}
 use Rattle.lru.specs.LruCache.{promoted}
 use Rattle.frame_cache.specs.declared.slots.Slot.{Slot}
-use Rattle.frame_cache.specs.Slots.{Kept, kept, kept_of, kept_in, found, others, moved, holds, slot_of, NoneBehind, AreFilledFirst, AreSlots}
+use Rattle.frame_cache.specs.Slots.{Kept, kept, kept_in, found, others, moved, holds, slot_of, NoneBehind, AreFilledFirst, AreSlots}
 
 take-none : (n : ℕ) → take {A = Kept} n [] ≡ []
 take-none zero = refl

@@ -5,7 +5,6 @@ use Rattle.std.specs.Prelude.{sum, ◌≤◌, ◌<◌}
 use Rattle.std.specs.List.{AllByRecursion, range_with_len}
 use Rattle.std.proofs.lemmas.List.{take-map, map-append}
 use Rattle.std.proofs.lemmas.List.Sums.{sum_by-append}
-use Rattle.dst_spec.proofs.Lists.{all_take, all_append}
 use Rattle.dsdiff_spec.specs.Ranges.{is_kept, without, keys, keys_after, decoded_of}
 use Rattle.frame_cache.specs.Slots.{Kept, kept, frames_in, found, others, in_front, moved}
 

@@ -1,14 +1,13 @@
 -- What slots hold after the last one came to the front with another frame, and while they are made.
-use Rattle.std.proofs.Common.{◌≡◌, ℕ, suc, ◌+◌, ◌-◌, ◌<◌, ◌≤◌, Bool, true, false, List, [], ◌∷◌, ◌++◌, length, take, nat_eq, Option, Some, None}
-use Rattle.std.proofs.Common.{option_map, refl, sym, ap, ◌∙◌, arith, subst, eqb-true, eq-eqb, length-append}
+use Rattle.std.proofs.Common.{◌≡◌, ℕ, suc, ◌+◌, ◌-◌, ◌<◌, Bool, true, false, List, [], ◌∷◌, ◌++◌, length, take, nat_eq, Some, None}
+use Rattle.std.proofs.Common.{refl, sym, ap, ◌∙◌, arith, subst, eqb-true, eq-eqb, length-append}
 use Rattle.std.specs.List.{AllByRecursion, IsDistinct}
 use Rattle.std.specs.Map.{keys_of, lookup, lookup_entry, remove_entry, set_value}
-use Rattle.std.specs.Prelude.{slice_get}
 use Rattle.dst_spec.proofs.Lists.{all_take}
 use Rattle.lru.specs.LruCache.{promoted, last_entry}
 use Rattle.lru.proofs.Pairs.{cut_end, take-cut, last_of_push}
 use Rattle.frame_cache.specs.declared.slots.Slot.{Slot}
-use Rattle.frame_cache.specs.Slots.{Kept, kept, kept_in, AreFilledFirst, AreSlots}
+use Rattle.frame_cache.specs.Slots.{kept, kept_in, AreFilledFirst, AreSlots}
 use Rattle.frame_cache.proofs.Holding.{swapped, kept-take, filled-take}
 
 -- the last entry, and those in front of it

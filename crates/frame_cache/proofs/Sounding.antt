@@ -1,14 +1,13 @@
 -- A part of a frame's sound is that part of the whole sound.
-use Rattle.std.proofs.Common.{◌≡◌, ◌⊎◌, ℕ, zero, suc, ◌+◌, ◌-◌, ◌*◌, ◌<◌, ◌≤◌, List, [], ◌∷◌, ◌++◌, length, take, drop, get_or, replicate}
-use Rattle.std.proofs.Common.{refl, sym, ap, subst, ◌∙◌, arith, length-append, length-drop}
+use Rattle.std.proofs.Common.{◌≡◌, ℕ, zero, suc, ◌+◌, ◌-◌, ◌*◌, ◌<◌, ◌≤◌, List, [], ◌∷◌, ◌++◌, length, take, drop, get_or}
+use Rattle.std.proofs.Common.{sym, ap, subst, ◌∙◌, arith, length-drop}
 use Rattle.std.specs.List.{AllZip, concat}
 use Rattle.std.proofs.lemmas.List.{take-append-le, drop-append-le, drop_at, drop-drop, length-map, get_or-map}
-use Rattle.dst_spec.specs.Sample.{Shape, IsShape, IsSound, sound_bytes}
+use Rattle.dst_spec.specs.Sample.{Shape, IsShape, sound_bytes}
 use Rattle.dst_spec.specs.Means.{Means}
-use Rattle.dst_spec.proofs.Unique.{one_meaning}
 use Rattle.dsdiff_spec.specs.Bytes.{bytes_at}
 use Rattle.dsdiff_spec.specs.Form.{Form, shape, sound_bytes_of, size_of_sound}
-use Rattle.dsdiff_spec.specs.Walk.{Entry, entry, entries, frame_at}
+use Rattle.dsdiff_spec.specs.Walk.{entry, entries, frame_at}
 use Rattle.dsdiff_spec.specs.Decoded.{frames_of}
 use Rattle.dsdiff_spec.specs.Ranges.{MeansOrZeros, Sound}
 use Rattle.dsdiff_spec.proofs.Pieces.{AreWhole}

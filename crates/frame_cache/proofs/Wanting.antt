@@ -1,11 +1,10 @@
 -- Frames that are wanted in turn, and others behind them.
-use Rattle.std.proofs.Common.{◌≡◌, ℕ, ◌+◌, ◌^◌, ◌<◌, List, [], ◌∷◌, ◌++◌, length, map, Option, refl, sym, ap, subst, ◌∙◌, arith, length-append}
-use Rattle.std.specs.Prelude.{sum}
+use Rattle.std.proofs.Common.{◌≡◌, ℕ, ◌+◌, ◌^◌, ◌<◌, List, [], ◌++◌, length, Option, refl, sym, ap, subst, ◌∙◌, arith, length-append}
 use Rattle.dst_spec.specs.Means.{Means}
 use Rattle.dst_spec.proofs.Lists.{all_append}
 use Rattle.dsdiff_spec.specs.Walk.{entry}
 use Rattle.dsdiff_spec.specs.Ranges.{keys_after, decoded_of}
-use Rattle.frame_cache.specs.Reader.{Reader, order, stored_bytes, frame_in, IsSame, KeepsSounds}
+use Rattle.frame_cache.specs.Reader.{Reader, order, stored_bytes, frame_in, IsSame}
 use Rattle.frame_cache.specs.Reads.{MeanSounds, HasWanted}
 use Rattle.frame_cache.proofs.Orders.{keys_after-append, decoded_of-append, sum_of-append}
 

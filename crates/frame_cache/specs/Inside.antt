@@ -1,5 +1,5 @@
 -- What a reader has inside, and what holds of it.
-use Rattle.std.specs.Prelude.{◌≡◌, ℕ, ◌+◌, ◌*◌, length}
+use Rattle.std.specs.Prelude.{◌≡◌, ◌+◌, ◌*◌, length}
 use Rattle.dst_spec.specs.Sample.{sound_bytes}
 use Rattle.frame_cache.specs.declared.reader.RangeReader.TheInside.{Inside}
 use Rattle.frame_cache.specs.Slots.{kept_in, AreSlots}

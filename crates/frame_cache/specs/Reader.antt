@@ -1,12 +1,12 @@
 -- A reader of parts of a sound, as contracts see it.
-use Rattle.std.specs.Prelude.{◌≡◌, ℕ, ◌+◌, ◌*◌, ◌^◌, ◌<◌, ◌≤◌, List, [], ◌∷◌, length, map, sum}
+use Rattle.std.specs.Prelude.{◌≡◌, ℕ, ◌+◌, ◌*◌, ◌^◌, ◌<◌, ◌≤◌, List, [], length, map, sum}
 use Rattle.std.specs.List.{AllByRecursion}
 use Rattle.dst_spec.specs.Sample.{Shape, sound_bytes}
 use Rattle.dst_spec.specs.Means.{Means}
 use Rattle.dsdiff_spec.specs.Form.{Form, shape, size_of_sound}
 use Rattle.dsdiff_spec.specs.Walk.{Entry, entry, entries, frame_at}
 use Rattle.dsdiff_spec.specs.Ranges.{touched}
-use Rattle.frame_cache.specs.Slots.{Kept, frames_in, AreSlots}
+use Rattle.frame_cache.specs.Slots.{Kept, frames_in}
 
 -- The frames of a file and where they stand, the bytes of its sound, the place behind its form; how many sounds of frames the
 -- reader has room for, and those that it keeps, the one that was wanted last in front.

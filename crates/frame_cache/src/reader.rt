@@ -1,10 +1,10 @@
 // A reader of parts of a sound.
-ghost use Rattle.std.specs.Prelude.{◌≡◌, ◌+◌, ◌*◌, ◌<◌, ◌≤◌, ◌^◌, ◌∷◌, [], ℕ, List, Option, Some, true, false, length, not, slice_get, IfOk, IfErr, OnOk, OnErr, Err};
+ghost use Rattle.std.specs.Prelude.{◌≡◌, ◌+◌, ◌*◌, ◌<◌, ◌≤◌, ◌^◌, ◌∷◌, [], ℕ, List, Some, false, length, slice_get, IfOk, OnOk, OnErr, Err};
 ghost use Rattle.dst_spec.specs.Sample.{sound_bytes, IsShape};
 ghost use Rattle.dst_spec.specs.Means.{Means};
 ghost use Rattle.dst_spec.specs.Offends.{Offends};
 ghost use Rattle.dst_spec.specs.declared.faults.FrameFault.{FrameFault};
-ghost use Rattle.dst_streams.specs.Causes.{Rose, HasCause};
+ghost use Rattle.dst_streams.specs.Causes.{Rose};
 ghost use Rattle.dst_streams.specs.Told.{counted};
 ghost use Rattle.dsdiff_spec.specs.Bytes.{bytes_at};
 ghost use Rattle.dsdiff_spec.specs.Form.{Form, size_of_sound};

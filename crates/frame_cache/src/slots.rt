@@ -1,5 +1,5 @@
 // Slots for the sounds of frames, in the order of their use.
-ghost use Rattle.std.specs.Prelude.{◌≡◌, ◌<◌, ◌≤◌, ℕ, List, [], ◌∷◌, true, length, take, nat_eq, slice_get, is_some, IsSome, IfOk, IfSome, Some};
+ghost use Rattle.std.specs.Prelude.{◌≡◌, ◌<◌, ℕ, List, [], ◌∷◌, length, take, nat_eq, slice_get, is_some, IsSome, IfOk, IfSome, Some};
 ghost use Rattle.std.specs.Map.{lookup, set_value};
 ghost use Rattle.lru.specs.LruCache.{promoted};
 ghost use Rattle.frame_cache.specs.Slots.{Kept, kept, kept_in, frames_in, found, moved, slot_of, AreSlots};

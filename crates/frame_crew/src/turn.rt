@@ -1,6 +1,5 @@
 // Work that takes the jobs of a run one after another.
-ghost use Rattle.std.specs.Prelude.{◌≡◌, ℕ, All};
-ghost use Rattle.std.specs.List.{AllZip};
+ghost use Rattle.std.specs.Prelude.{◌≡◌, ℕ};
 
 use crate::{FrameWork, Slot};
 

@@ -1,5 +1,5 @@
 // The bits in front of a header's tables.
-ghost use Rattle.std.specs.Prelude.{◌≡◌, ◌==◌, ◌+◌, ◌<◌, ◌≤◌, ◌++◌, ◌^◌, [], ◌∷◌, length, map};
+ghost use Rattle.std.specs.Prelude.{◌≡◌, ◌==◌, ◌+◌, ◌<◌, ◌≤◌, ◌++◌, ◌^◌, length, map};
 ghost use Rattle.std.specs.List.{list_all};
 ghost use Rattle.dst_spec.specs.Bits.{low_bits};
 ghost use Rattle.dst_spec.specs.Map.{Numbers, map_numbers};

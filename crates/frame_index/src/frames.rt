@@ -1,5 +1,5 @@
 // The walk of a coded form: where its frames stand.
-ghost use Rattle.std.specs.Prelude.{◌≡◌, ◌+◌, ◌*◌, ◌^◌, ◌<◌, ◌≤◌, ℕ, List, [], length, take, true, false, Some, None, Option, IfNone, IfOk, OnOk, Err, Ok, vec_capacity};
+ghost use Rattle.std.specs.Prelude.{◌≡◌, ◌+◌, ◌*◌, ◌^◌, ◌<◌, ◌≤◌, ℕ, List, [], length, take, true, false, Some, None, IfNone, IfOk, OnOk, Err, Ok, vec_capacity};
 ghost use Rattle.std.specs.declared.alloc.AllocError.{AllocError};
 ghost use Rattle.dst_streams.specs.Causes.{Rose};
 ghost use Rattle.dsdiff_spec.specs.Bytes.{◌is◌};

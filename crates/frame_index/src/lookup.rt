@@ -1,5 +1,5 @@
 // Frames by the index of a form.
-ghost use Rattle.std.specs.Prelude.{◌≡◌, ◌+◌, ◌*◌, ◌^◌, ◌<◌, ◌≤◌, ℕ, List, [], ◌∷◌, length, map, true, false, ◌&&◌, ◌==◌, Some, None, Option, IfSome, IfNone, IfOk, OnOk, Err, Ok};
+ghost use Rattle.std.specs.Prelude.{◌≡◌, ◌+◌, ◌*◌, ◌^◌, ◌<◌, ◌≤◌, ℕ, List, [], ◌∷◌, length, map, true, false, ◌&&◌, ◌==◌, Some, None, IfSome, IfNone, IfOk, OnOk, Err, Ok};
 ghost use Rattle.std.specs.declared.alloc.AllocError.{AllocError};
 ghost use Rattle.dst_streams.specs.Causes.{Rose, HasCause};
 ghost use Rattle.dsdiff_spec.specs.Bytes.{bytes_at, number_at, ◌is◌};

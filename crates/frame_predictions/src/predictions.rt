@@ -1,6 +1,6 @@
 // What is predicted of a frame's sound.
 ghost use Rattle.std.specs.Prelude.{◌≡◌, ℕ, ◌+◌, ◌*◌, ◌<◌, ◌≤◌, ◌++◌, [], ◌∷◌, length, get_or, replicate, All, Contains, IfOk};
-ghost use Rattle.dst_spec.specs.Sample.{IsShape, samples, sound_bytes};
+ghost use Rattle.dst_spec.specs.Sample.{samples, sound_bytes};
 ghost use Rattle.frame_predictions.specs.Codes.{codes};
 ghost use Rattle.frame_predictions.specs.Predicting.{Predicted, nothing};
 

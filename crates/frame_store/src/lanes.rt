@@ -5,7 +5,7 @@ ghost use Rattle.dst_spec.specs.Header.{Params as Parameters};
 ghost use Rattle.dst_spec.specs.Symbols.{reserved_probability as reserved_from, symbols as symbols_of};
 ghost use Rattle.dst_spec.specs.Spell.{code_spelling};
 ghost use Rattle.arith_encoder.specs.Lanes.{IsStep};
-ghost use Rattle.frame_store.specs.Coded.{AreCodeSteps, AreCoded, step_at};
+ghost use Rattle.frame_store.specs.Coded.{AreCoded, step_at};
 
 use crate::coded::{ChannelSteps, steps_of_codes};
 use arith_encoder::narrow_lanes;

@@ -1,5 +1,5 @@
 // The symbols of a sound in order, as bytes.
-ghost use Rattle.std.specs.Prelude.{◌≡◌, ◌≢◌, ℕ, ◌+◌, ◌*◌, ◌<◌, ◌≤◌, ◌^◌, nat_lt, ◌&&◌, true, false, pos, map, length, get_or, All};
+ghost use Rattle.std.specs.Prelude.{◌≡◌, ◌≢◌, ℕ, ◌+◌, ◌*◌, ◌<◌, ◌≤◌, ◌^◌, nat_lt, true, false, pos, map, length, get_or, All};
 ghost use Rattle.dst_spec.specs.Table.{prob_kind, IsTable};
 ghost use Rattle.dst_spec.specs.Sample.{sound_bytes};
 ghost use Rattle.dst_spec.specs.Symbols.{symbols as symbols_of};

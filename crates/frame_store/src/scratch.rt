@@ -1,5 +1,5 @@
 // The memory in which frames are stored.
-ghost use Rattle.std.specs.Prelude.{◌≡◌, ◌%◌, ◌*◌, ◌+◌, ◌≤◌, [], length, IfOk};
+ghost use Rattle.std.specs.Prelude.{◌≡◌, ◌*◌, ◌+◌, ◌≤◌, [], length, IfOk};
 ghost use Rattle.dst_spec.specs.Sample.{sound_bytes};
 ghost use Rattle.frame_store.specs.Storing.{written, IsWriter};
 

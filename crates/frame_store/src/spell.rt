@@ -1,5 +1,5 @@
 // A sound, spelled.
-ghost use Rattle.std.specs.Prelude.{◌≡◌, ◌+◌, ◌*◌, ◌%◌, ◌/◌, ◌<◌, ◌≤◌, ◌^◌, ◌↔◌, ◌++◌, false, [], ◌∷◌, length, map, IfOk, IfErr, IsTrue};
+ghost use Rattle.std.specs.Prelude.{◌≡◌, ◌+◌, ◌*◌, ◌%◌, ◌/◌, ◌<◌, ◌≤◌, ◌↔◌, ◌++◌, false, [], ◌∷◌, length, map, IfOk, IfErr, IsTrue};
 ghost use Rattle.dst_spec.specs.Bits.{octets};
 ghost use Rattle.dst_spec.specs.Sample.{IsShape, sound_bytes};
 ghost use Rattle.dst_spec.specs.Interval.{interval};

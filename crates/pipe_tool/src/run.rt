@@ -1,5 +1,5 @@
 // The call on a pipe.
-ghost use Rattle.std.specs.Prelude.{◌≡◌, ◌≢◌, ◌⊎◌, ◌+◌, ◌<◌, ◌≤◌, true, false, ℕ, List, [], ◌∷◌, length, map, Option, Some, None, Err};
+ghost use Rattle.std.specs.Prelude.{◌≡◌, ◌⊎◌, ◌+◌, ◌<◌, ◌≤◌, true, false, ℕ, List, [], ◌∷◌, length, map, Some, None, Err};
 ghost use Rattle.std.specs.String.{string_bytes};
 ghost use Rattle.dst_spec.specs.declared.faults.FrameFault.{FrameFault};
 ghost use Rattle.dst_streams.specs.Causes.{Rose};
@@ -8,10 +8,10 @@ ghost use Rattle.dsdiff_spec.specs.declared.faults.FileFault.{FileFault};
 ghost use Rattle.dsdiff_spec.specs.Lines as reports;
 ghost use Rattle.dsdiff_spec.specs.Outcome.{Answer, frame_refused};
 ghost use Rattle.dsdiff_spec.specs.Streams.{stream};
-ghost use Rattle.stream_spec.specs.Outcome.{StreamOutcome, stream_refused};
+ghost use Rattle.stream_spec.specs.Outcome.{stream_refused};
 ghost use Rattle.dst_pipes.specs.declared.faults.PipeFault.{PipeFault};
 ghost use Rattle.pipe_tool.specs.Words as asked;
-ghost use Rattle.pipe_tool.specs.Runs.{DidNotRise, status_of, line_of, PipeOutcome, Ends, EndsAs, EndsByStream, EndsAsOne, Reports, NoFrameIsRefused};
+ghost use Rattle.pipe_tool.specs.Runs.{DidNotRise, status_of, line_of, PipeOutcome, Ends, EndsAs, Reports, NoFrameIsRefused};
 
 use crate::words::is_pipe;
 use dst_lines::lines;

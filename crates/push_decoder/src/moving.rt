@@ -1,5 +1,5 @@
 // From one stage to the next.
-ghost use Rattle.std.specs.Prelude.{◌≡◌, ◌+◌, ◌-◌, ◌^◌, ◌<◌, ◌≤◌, ℕ, List, length, true, false, Option, IfNone};
+ghost use Rattle.std.specs.Prelude.{◌≡◌, ◌+◌, ◌-◌, ◌^◌, ◌<◌, ◌≤◌, ℕ, List, length, true, false, IfNone};
 ghost use Rattle.push_decoder.specs.Events.{Answered, nothing_answered};
 ghost use Rattle.push_decoder.specs.Reading.{AnsweredAt};
 ghost use Rattle.dsdiff_spec.specs.Parts.{form_size};

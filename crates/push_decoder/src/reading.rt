@@ -1,5 +1,5 @@
 // The reader of a stream: it gathers bytes, part after part, and tells what is due.
-ghost use Rattle.std.specs.Prelude.{◌≡◌, ◌+◌, ◌-◌, ◌^◌, ◌<◌, ◌≤◌, ◌++◌, ℕ, List, [], length, take, true, false, Option, Some, None, IfNone, IfSome, IfOk};
+ghost use Rattle.std.specs.Prelude.{◌≡◌, ◌+◌, ◌-◌, ◌^◌, ◌<◌, ◌≤◌, ◌++◌, ℕ, List, [], length, take, true, false, Some, None, IfNone, IfSome, IfOk};
 ghost use Rattle.push_decoder.specs.Gathered as gathering;
 ghost use Rattle.push_decoder.specs.Events.{Answered, nothing_answered, frame_came, frames_in, due, answered_with};
 ghost use Rattle.push_decoder.specs.Reading.{HasRead};

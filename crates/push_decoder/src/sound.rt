@@ -1,5 +1,5 @@
 // The chunks of `DST `, one after the other.
-ghost use Rattle.std.specs.Prelude.{◌≡◌, ◌+◌, ◌^◌, ◌<◌, ◌≤◌, ℕ, List, length, true, false, Option, IfNone, IsSome};
+ghost use Rattle.std.specs.Prelude.{◌≡◌, ◌+◌, ◌^◌, ◌<◌, ◌≤◌, ℕ, List, length, true, false, IfNone, IsSome};
 ghost use Rattle.dsdiff_spec.specs.Bytes.{bytes_at, ◌is◌};
 ghost use Rattle.dsdiff_spec.specs.Chunks.{head_at, body_of, body_end};
 ghost use Rattle.dsdiff_spec.specs.Streams as streams;

@@ -11,7 +11,7 @@ use Rattle.rand_pcg.specs.Pcg.{pcg32}
 use Rattle.dst_spec.specs.Bits.{number_from}
 use Rattle.dst_spec.specs.Sample.{Shape, samples}
 use Rattle.dsdiff_spec.specs.Samples.{eight, sound_of}
-use Rattle.dsdiff_spec.specs.Made.{Wave, Made, at_time, times_from, dither, height, phase, sample_of, level_of, next_wave, seeded, made_sound}
+use Rattle.dsdiff_spec.specs.Made.{Wave, Made, at_time, times_from, dither, height, sample_of, level_of, next_wave, seeded, made_sound}
 use Rattle.sound_maker.specs.Making.{Moment, Maker, now, later, sample_from, frame_of, after_frame, maker_after}
 
 -- before the first sample

@@ -1,5 +1,5 @@
 -- Steps of made sound that no short piece of it reaches: bounds that bound, the new u in w, and the ends of what a random word gives.
-use Rattle.std.proofs.Common.{◌≡◌, ℤ, pos, List, [], ◌∷◌, map, refl}
+use Rattle.std.proofs.Common.{◌≡◌, ℤ, pos, [], ◌∷◌, map, refl}
 use Rattle.std.specs.Prelude.{neg_ℤ}
 use Rattle.dsdiff_spec.specs.Made.{Wave, bounded, dither, phase, sample_of, level_of, next_wave}
 

@@ -1,5 +1,5 @@
 // A real file that is made.
-ghost use Rattle.std.specs.Prelude.{◌≡◌, ◌≤◌, None};
+ghost use Rattle.std.specs.Prelude.{◌≡◌, None};
 
 use crate::{Failed, Sink};
 use std::fs::{File, OpenFile};

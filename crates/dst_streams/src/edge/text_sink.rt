@@ -1,5 +1,5 @@
 // Standard output.
-ghost use Rattle.std.specs.Prelude.{◌≡◌, ◌≤◌, true, None};
+ghost use Rattle.std.specs.Prelude.{◌≡◌, true, None};
 
 use crate::{Failed, Sink};
 

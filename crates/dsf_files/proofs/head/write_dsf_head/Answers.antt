@@ -1,5 +1,5 @@
 -- The pieces are the head.
-use Rattle.std.proofs.Common.{◌≡◌, ℕ, ◌+◌, ◌*◌, ◌/◌, List, MatchResult, ap, sym, subst, ◌∙◌, arith}
+use Rattle.std.proofs.Common.{◌≡◌, ℕ, ◌+◌, ◌*◌, ◌/◌, List, MatchResult, ap, subst, ◌∙◌, arith}
 use Rattle.byteorder.specs.Endian.{little_bytes}
 use Rattle.dst_streams.specs.Told.{IsCutShort, and_then}
 use Rattle.dsf_files.specs.Forms.{dsf_seen}

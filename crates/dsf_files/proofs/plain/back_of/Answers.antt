@@ -1,5 +1,5 @@
 -- The pieces are the back.
-use Rattle.std.proofs.Common.{◌≡◌, ℕ, ◌%◌, List, [], ◌∷◌, length, take, ap, refl, ◌∙◌}
+use Rattle.std.proofs.Common.{ℕ, ◌%◌, List, [], ◌∷◌, length, take, ap, refl, ◌∙◌}
 use Rattle.dsf_files.specs.Standing.{sound_size}
 use Rattle.dsf_files.proofs.Reading.{pad_by_size}
 use Rattle.dsf_files.specs.Forms.{dsf_seen}

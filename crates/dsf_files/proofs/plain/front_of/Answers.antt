@@ -1,5 +1,5 @@
 -- The pieces are the front.
-use Rattle.std.proofs.Common.{◌≡◌, ◌*◌, ◌/◌, ℕ, List, length, ap, sym, ◌∙◌, arith}
+use Rattle.std.proofs.Common.{◌≡◌, ◌/◌, ℕ, List, length, ap, ◌∙◌, arith}
 use Rattle.dsf_files.specs.Forms.{dsf_seen}
 use Rattle.dsf_files.specs.Standing.{front}
 use Rattle.dsf_files.proofs.Whole.{front_is, length-front}

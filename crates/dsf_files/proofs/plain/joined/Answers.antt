@@ -1,5 +1,5 @@
 -- There is room for the next piece.
-use Rattle.std.proofs.Common.{◌≡◌, ◌+◌, ◌≤◌, ℕ, List, [], length, take, get_or, flat_map, ap, refl, arith, Bor, Result, Ok, Err}
+use Rattle.std.proofs.Common.{◌≡◌, ◌+◌, ◌≤◌, ℕ, List, [], length, get_or, ap, refl, arith, Bor, Result, Ok, Err}
 use Rattle.std.specs.Prelude.{IsOk}
 use Rattle.std.proofs.lemmas.List.Folds.{length-flat_map-take}
 use Rattle.dsf_files.proofs.plain.joined.Goals as goal

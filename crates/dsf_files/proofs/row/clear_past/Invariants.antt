@@ -1,5 +1,5 @@
 -- The bytes of the channels in front are cleared, and no others.
-use Rattle.std.proofs.Common.{◌≡◌, ℕ, ◌+◌, ◌*◌, ◌<◌, ◌≤◌, length, get_or}
+use Rattle.std.proofs.Common.{◌≡◌, ℕ, ◌+◌, ◌*◌, ◌<◌, ◌≤◌, get_or}
 use Rattle.dsf_files.specs.Rows.{cleared}
 use Rattle.dsf_files.proofs.row.clear_past.Given as goal
 

@@ -1,4 +1,4 @@
-use Rattle.std.proofs.Common.{◌≡◌, ◌≢◌, ℕ, ◌+◌, ◌*◌, ◌/◌, ◌%◌, ◌<◌, length, get_or, sym, ap, ap₂, ◌∙◌, arith, below_more, get_or-set_other, get_or-set_same}
+use Rattle.std.proofs.Common.{◌≡◌, ◌≢◌, ◌+◌, ◌*◌, ◌<◌, length, get_or, sym, ap, ap₂, ◌∙◌, arith, below_more, get_or-set_other, get_or-set_same}
 use Rattle.dsf_files.proofs.RowBytes.{place_of_byte}
 use Rattle.dsf_files.proofs.row.copy_sound.Goals as goal
 use Rattle.dsf_files.proofs.row.copy_sound.Goals.{then-channel-channels, else-channel-channels}

@@ -1,5 +1,5 @@
 -- The bytes in front are those of the row, and the place of the next one is known by its channel and its octet.
-use Rattle.std.proofs.Common.{◌≡◌, ℕ, ◌+◌, ◌*◌, ◌/◌, ◌%◌, ◌<◌, ◌≤◌, length, get_or}
+use Rattle.std.proofs.Common.{◌≡◌, ℕ, ◌+◌, ◌*◌, ◌/◌, ◌%◌, ◌<◌, get_or}
 use Rattle.dsf_files.proofs.row.copy_sound.Given as goal
 
 abbrev pub invariant-loop-byte : goal.invariant-loop-byte

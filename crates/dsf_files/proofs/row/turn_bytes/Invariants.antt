@@ -1,5 +1,5 @@
 -- The bytes in front are turned, and those behind are as they were.
-use Rattle.std.proofs.Common.{◌≡◌, ℕ, ◌<◌, ◌≤◌, length, get_or}
+use Rattle.std.proofs.Common.{◌≡◌, ℕ, ◌<◌, ◌≤◌, get_or}
 use Rattle.dsf_files.specs.Rows.{turned}
 use Rattle.dsf_files.proofs.row.turn_bytes.Given as goal
 

@@ -1,5 +1,5 @@
 -- The front of the bytes is the row.
-use Rattle.std.proofs.Common.{◌≡◌, ◌*◌, length, take_at, ap, sym, ◌∙◌, arith}
+use Rattle.std.proofs.Common.{◌≡◌, ◌*◌, take_at, ap, ◌∙◌, arith}
 use Rattle.std.proofs.lemmas.List.{length-take-le}
 use Rattle.dst_dsf.proofs.RowPlaces.{front_row}
 use Rattle.dst_dsf.proofs.open_row.order_front.Goals as goal

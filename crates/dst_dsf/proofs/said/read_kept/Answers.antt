@@ -1,5 +1,5 @@
 -- The chunk lies in the form, and what is read of it is its body.
-use Rattle.std.proofs.Common.{◌≡◌, ◌+◌, ◌<◌, ◌≤◌, ap, ◌∙◌, arith}
+use Rattle.std.proofs.Common.{ap, ◌∙◌, arith}
 use Rattle.dsdiff_spec.specs.Faults.{◌when◌}
 use Rattle.dsdiff_spec.specs.declared.faults.FileFault.TheVariants.{DsfKeptBad}
 use Rattle.dsdiff_chunks.specs.Forms.{coded_seen}

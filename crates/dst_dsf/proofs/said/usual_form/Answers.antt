@@ -1,4 +1,4 @@
-use Rattle.std.proofs.Common.{◌≡◌, refl, ap, ap₂, ◌∙◌}
+use Rattle.std.proofs.Common.{refl}
 use Rattle.dsdiff_spec.specs.Form.{size_of_sound}
 use Rattle.dsdiff_chunks.specs.Forms.{coded_seen}
 use Rattle.dst_dsf.proofs.Kept.{whole_groups, groups_times}

@@ -1,5 +1,5 @@
 -- Words that aren't understood, and commands.
-use Rattle.std.proofs.Common.{◌≡◌, ◌≤◌, ℕ, List, Option, Some, [], ◌∷◌, length, map, option_map, ap, sym, subst}
+use Rattle.std.proofs.Common.{◌≡◌, ◌≤◌, List, Option, length, map, option_map, ap, sym, subst}
 use Rattle.std.specs.String.{string_bytes}
 use Rattle.dsdiff_spec.specs.Lines.{words_line}
 use Rattle.words_spec.specs.Rows.{command_of, task_of}

@@ -1,5 +1,5 @@
 -- A sound that `KEPT` tells needs the frames of its form.
-use Rattle.std.proofs.Common.{◌≡◌, ◌+◌, ◌*◌, ◌<◌, ◌≤◌, ap, sym, subst, ◌∙◌, refl, arith, option_map}
+use Rattle.std.proofs.Common.{◌≡◌, ◌*◌, ◌<◌, ap, subst, refl, arith, option_map}
 use Rattle.dst_spec.specs.Sample.{sound_bytes}
 use Rattle.dsdiff_spec.specs.Form.{sound_bytes_of}
 use Rattle.dsdiff_spec.proofs.CodedFiles.{needed}

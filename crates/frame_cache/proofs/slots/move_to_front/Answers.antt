@@ -1,7 +1,7 @@
 -- The slot that holds the frame moves to the front; where there is none, the frame isn't kept.
-use Rattle.std.proofs.Common.{◌≡◌, ℕ, nat_eq, Some, None, is_some, option_map, refl, sym, ap, ◌∙◌}
+use Rattle.std.proofs.Common.{nat_eq, is_some, option_map, refl, sym, ap, ◌∙◌}
 use Rattle.lru.proofs.Pairs.{lookup-lookup_entry}
-use Rattle.frame_cache.specs.Slots.{kept_in, found, in_front}
+use Rattle.frame_cache.specs.Slots.{kept_in}
 use Rattle.frame_cache.proofs.Holding.{found_at, not_found, kept-promoted, slots-promoted}
 use Rattle.frame_cache.proofs.slots.move_to_front.Goals as goal
 

@@ -1,14 +1,11 @@
-use Rattle.std.proofs.Common.{◌≡◌, ℕ, ◌+◌, ◌*◌, ◌%◌, ◌^◌, ◌<◌, ◌≤◌, List, replicate, get_or, take, refl, ap, ap₂, sym, subst, ◌∙◌, arith}
-use Rattle.std.specs.List.{range_with_len}
+use Rattle.std.proofs.Common.{◌≡◌, ℕ, ◌+◌, ◌*◌, ◌%◌, ◌^◌, ◌<◌, ◌≤◌, List, replicate, get_or, take, refl, ap, ap₂, sym, ◌∙◌, arith}
 use Rattle.std.proofs.lemmas.List.{get_or-replicate}
 use Rattle.std.proofs.lemmas.Nat.{pow-add}
 use Rattle.std.proofs.Math.Pow.{pow_mono}
 use Rattle.std.proofs.lemmas.List.FromFn.{get_or-map-range_with_len}
-use Rattle.rand_pcg.specs.Lcg.{Lcg}
 use Rattle.dst_spec.specs.Bits.{number_from}
 use Rattle.dst_spec.proofs.Numbers.{number_from-more}
 use Rattle.dsdiff_spec.specs.Samples.{eight}
-use Rattle.dsdiff_spec.specs.Made.{Wave}
 use Rattle.sound_maker.specs.Making.{Moment, moment, now, later, sample_from}
 use Rattle.sound_maker.proofs.Making.{next_moment, later_by_one, sample-below}
 use Rattle.sound_maker.proofs.maker.eight_samples.Goals as goal

@@ -1,4 +1,4 @@
-use Rattle.std.proofs.Common.{◌≡◌, ℕ, ◌+◌, ◌*◌, ◌%◌, ◌<◌, ◌≤◌, pos, length, get_or, take}
+use Rattle.std.proofs.Common.{◌≡◌, ℕ, ◌+◌, ◌*◌, ◌%◌, ◌<◌, ◌≤◌, length, get_or, take}
 use Rattle.dsdiff_spec.specs.Made.{at_time}
 use Rattle.sound_maker.proofs.Making.{still}
 use Rattle.sound_maker.proofs.maker.sample_each.Given as goal

@@ -1,8 +1,7 @@
 -- Where no row is held nothing is said of the array, and then it has the row that was read.
-use Rattle.std.proofs.Common.{◌≡◌, ◌*◌, Option, List, ℕ, Some, true, sym, subst, ◌∙◌, ap, arith}
+use Rattle.std.proofs.Common.{◌≡◌, Option, List, ℕ, true, sym, subst, ◌∙◌}
 use Rattle.dsf_files.specs.Forms.{has_blocks, IsFormOfTold}
 use Rattle.dsf_files.specs.Laws.{IsPlainOfTold}
-use Rattle.dsf_files.specs.Rows.{HoldsRow}
 use Rattle.dsf_files.proofs.Reading.{holds_read}
 use Rattle.dsf_files.proofs.source.DsfSource.hold_row.Goals as goal
 

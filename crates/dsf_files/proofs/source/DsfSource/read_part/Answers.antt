@@ -1,5 +1,5 @@
 -- A piece of the front, of the sound or of the back is that of the form.
-use Rattle.std.proofs.Common.{◌≡◌, ◌+◌, ◌-◌, ◌≤◌, ℕ, List, length, take, drop, subst, ◌∙◌, ap, arith}
+use Rattle.std.proofs.Common.{◌-◌, ℕ, List, length, take, drop, subst, ◌∙◌, ap, arith}
 use Rattle.dsf_files.specs.Forms.{dsf_seen}
 use Rattle.dsf_files.specs.Reading.{HoldsSound}
 use Rattle.dsf_files.specs.Standing.{front_size, sound_size, back_size}

@@ -1,10 +1,9 @@
 -- The rules of decoding are kept; what is left is `DSFK`.
-use Rattle.std.proofs.Common.{◌≡◌, List, ℕ, Option, Some, None, refl, sym, ap, ◌∙◌}
+use Rattle.std.proofs.Common.{◌≡◌, List, ℕ, None, sym, ap, ◌∙◌}
 use Rattle.dsdiff_spec.specs.Dsf.{dsfk_fault}
 use Rattle.dsdiff_spec.specs.Refusal.{command_fault}
 use Rattle.dsdiff_spec.specs.Walk.{entries, walk_fault}
 use Rattle.dsdiff_spec.specs.Words.{decode_dsf}
-use Rattle.dsdiff_spec.specs.declared.faults.FileFault.{FileFault}
 use Rattle.dsdiff_chunks.specs.declared.form.CodedForm.{CodedForm}
 use Rattle.dsdiff_chunks.specs.Forms.{coded_seen, form_seen}
 use Rattle.dsdiff_chunks.proofs.Stopping.{Stops-in}

@@ -1,6 +1,6 @@
 -- The sound ends with a row, or in one.
-use Rattle.std.proofs.Common.{◌≡◌, ◌%◌, ◌/◌, ◌≤◌, length, refl, ap, sym, ◌∙◌, arith}
-use Rattle.dst_dsf.proofs.Gathering.{ends_with_row, ends_in_row, row_by, IsAll}
+use Rattle.std.proofs.Common.{◌%◌, ◌/◌, refl, ap, sym, ◌∙◌, arith}
+use Rattle.dst_dsf.proofs.Gathering.{ends_with_row, ends_in_row, row_by}
 use Rattle.dst_dsf.proofs.rows.RowWriter.finish.Goals as goal
 
 pub returns-then-self-size-eq0-clause-written : goal.returns-then-self-size-eq0-clause-written

@@ -1,6 +1,6 @@
 -- The part is in the row; a row that is full is written.
 use Rattle.std.proofs.Common.{◌≡◌, ◌/◌, ◌*◌, ◌≤◌, ◌++◌, length, refl, ap, sym, subst, ◌∙◌, arith, length-append}
-use Rattle.dst_dsf.proofs.Gathering.{goes_on, row_is_drained, row_by, IsPut}
+use Rattle.dst_dsf.proofs.Gathering.{goes_on, row_is_drained, row_by}
 use Rattle.dst_dsf.proofs.rows.RowWriter.take_part.Goals as goal
 
 pub returns-then-self-size-clause-written : goal.returns-then-self-size-clause-written

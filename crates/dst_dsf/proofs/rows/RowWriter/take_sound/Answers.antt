@@ -1,5 +1,5 @@
 -- The loop takes a front of the piece.
-use Rattle.std.proofs.Common.{◌≡◌, ◌+◌, ◌-◌, ◌≤◌, ◌++◌, List, ℕ, take, drop, length, ap, sym, subst, ◌∙◌, arith}
+use Rattle.std.proofs.Common.{◌≡◌, ◌+◌, ◌-◌, ◌++◌, take, drop, subst, ◌∙◌, arith}
 use Rattle.std.proofs.lemmas.List.{take_all}
 use Rattle.dsf_files.specs.Forms.{dsf_seen}
 use Rattle.dsf_files.specs.declared.form.DsfForm.{DsfForm}

@@ -3,7 +3,6 @@ use Rattle.std.proofs.lemmas.List.Elements.{All-more}
 use Rattle.dst_spec.specs.Table.{prob_kind, IsTable}
 use Rattle.dst_num.proofs.TableRules.{IsEntry, all_of_front, is_prob, entry_of_prob}
 use Rattle.dst_num.proofs.tables.ProbTable.new.Goals as goal
-use Rattle.dst_num.proofs.tables.ProbTable.new.Goals.{else-entries-eq1-via-then-entries-eq1+else-entries, else-entries-eq1-via-else-entries-eq1}
 
 pub returns-then-entry-lt1-clause-none : goal.returns-then-entry-lt1-clause-none
 returns-then-entry-lt1-clause-none c table =

@@ -1,5 +1,4 @@
 -- Each sound that is kept has the bytes of a frame.
-use Rattle.std.proofs.Common.{sym}
 use Rattle.frame_cache.proofs.reader.RangeReader.front.Goals as goal
 
 pub returns-clause-long : goal.returns-clause-long

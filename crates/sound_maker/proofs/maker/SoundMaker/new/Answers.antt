@@ -2,7 +2,7 @@ use Rattle.std.proofs.Common.{◌≡◌, ◌*◌, ◌≤◌, ℕ, List, [], ◌�
 use Rattle.rand_pcg.specs.Lcg.{Lcg}
 use Rattle.dst_spec.specs.Sample.{Shape}
 use Rattle.dsdiff_spec.specs.Made.{Wave, seeded}
-use Rattle.sound_maker.specs.Making.{Maker, moment}
+use Rattle.sound_maker.specs.Making.{moment}
 use Rattle.sound_maker.proofs.Making.{still, take-alike, maker_at_the_beginning}
 use Rattle.sound_maker.proofs.maker.SoundMaker.new.Goals as goal
 

@@ -1,4 +1,4 @@
-use Rattle.std.proofs.Common.{◌≡◌, ◌+◌, ◌*◌, ◌<◌, ◌≤◌, ℕ, ◌++◌, length, get_or, take, take_all, refl, ap, sym, ◌∙◌, arith}
+use Rattle.std.proofs.Common.{◌≡◌, ◌+◌, ◌*◌, ◌<◌, ℕ, ◌++◌, length, get_or, take, take_all, refl, ap, sym, ◌∙◌, arith}
 use Rattle.dst_spec.specs.Bits.{number_from}
 use Rattle.dsdiff_spec.specs.Samples.{eight, sound_of}
 use Rattle.sound_maker.specs.Making.{Moment, Maker, moment, later, sample_from, frame_of}
