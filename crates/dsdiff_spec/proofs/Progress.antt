@@ -224,7 +224,8 @@ begins_with_some head end size sounds all more e =
 
 stopped_begins : (file : List ℕ) (k : ℕ) (sounds : List (List ℕ)) (o : Answer) → IsDecodable file (accepted file) →
     AreAnswered decode (shape (accepted file)) (frames_of file (accepted file)) →
-    AreDecoded file (accepted file) k sounds → IsStoppedDecoding file (accepted file) o → BeginsWith o.out (head_of file ++ take (sound_size file) (concat sounds))
+    AreDecoded file (accepted file) k sounds → IsStoppedDecoding file (accepted file) o →
+    BeginsWith o.out (head_of file ++ take (sound_size file) (concat sounds))
 stopped_begins file k sounds o d answered h s =
     let c = decode in
     let form = accepted file in
