@@ -46,8 +46,7 @@ pub row-made : (lags : List ℤ) (s : State) (F error : ℤ) (size steps : ℕ) 
     pos 1 ≤ℤ error → error ≤ℤ to_z w64 (of_z w64 s.error) →
     past ≡ (int_lt (to_z w64 (of_z w64 error)) (to_z w64 (of_z w64 (get_or lags 0 (pos 0))))
     || list_any (λ b. nat_lt (2 ^ 32) (nat_abs b)) (take (steps + 1) next)) →
-    (to_z w64 (of_z w64 error) ≡ fallen s.error F) × (take (steps + 1) next ≡ moved s.values F (length s.values + 1)) ×
-    (next_row lags s ≡ cond past s (record { error = fallen s.error F; values = moved s.values F (length s.values + 1) }))
+    next_row lags s ≡ cond past s (record { error = to_z w64 (of_z w64 error); values = take (steps + 1) next })
 row-made lags s F error size steps next past correlations run long same is e less moves falls least most test =
     let v : size ≡ nat_abs F = e ∙ ap nat_abs same in
     let small : nat_abs F < 2 ^ 24 = omega arith in
@@ -60,7 +59,7 @@ row-made lags s F error size steps next past correlations run long same is e les
     ∙ ap (λ e. int_lt e (to_z w64 (of_z w64 (get_or lags 0 (pos 0)))) || greater (take (steps + 1) next)) fell
     ∙ ap (λ z. int_lt (fallen s.error F) z || greater (take (steps + 1) next)) kept
     ∙ ap (λ v. int_lt (fallen s.error F) (get_or lags 0 (pos 0)) || greater v) held in
-    (fell, held, row-step-by_test lags s F past (reflection-held lags s F run is) small tested)
+    rw (fell, held) (row-step-by_test lags s F past (reflection-held lags s F run is) small tested)
 
 pub below-40 : (values : List ℤ) → AllByRecursion (λ a. nat_abs a ≤ 2 ^ 32) values → AllByRecursion (λ a. nat_abs a ≤ 2 ^ 40) values
 below-40 [] h = tt

@@ -14,7 +14,6 @@ use Rattle.level_spec.proofs.Sizes.{are_correlations}
 use Rattle.level_spec.proofs.Sums.{sum_over-below}
 use Rattle.filter_refiner.proofs.Numbers.{product-most, whole-most, same_64, same_128}
 
--- a number of m whole parts has no greater whole part
 -- what values of 40 bits leave of a correlation has at most 68
 pub left-most : (lags values : List ℤ) (i n : ℕ) → AreCorrelations lags → ((k : ℕ) → nat_abs (get_or values k (pos 0)) ≤ 2 ^ 40) → n ≤ 128 →
     nat_abs (lag lags i *ℤ pos (2 ^ 24) -ℤ sum_over (λ j. value values j *ℤ lag lags (i - j)) 1 n) ≤ 2 ^ 68

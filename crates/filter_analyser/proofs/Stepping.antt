@@ -39,11 +39,10 @@ pub step-made : (lags : List ℤ) (s : State) (F : ℤ) (size steps : ℕ) (next
     to_z w128 (of_z w128 F) ≡ F → IsReflection lags s F → size ≡ nat_abs (to_z w128 (of_z w128 F)) → size < 2 ^ 24 →
     take (length s.values + 1) next ≡ moved s.values (to_z w64 (of_z w64 (to_z w128 (of_z w128 F)))) (length s.values + 1) →
     large ≡ list_any (λ b. nat_lt (2 ^ 40) (nat_abs b)) (take (steps + 1) next) →
-    (nat_abs F < 2 ^ 24) × (take (steps + 1) next ≡ moved s.values F (length s.values + 1)) ×
-    (step lags s ≡ cond large s (record { error = fallen s.error F; values = moved s.values F (length s.values + 1) }))
+    (nat_abs F < 2 ^ 24) × (step lags s ≡ cond large s (record { error = fallen s.error F; values = take (steps + 1) next }))
 step-made lags s F size steps next large run long same is e less moves test =
     let v : size ≡ nat_abs F = e ∙ ap nat_abs same in
     let small : nat_abs F < 2 ^ 24 = omega arith in
     let held = moved-held s F steps next small long moves in
     let tested = test ∙ ap (list_any (λ b. nat_lt (2 ^ 40) (nat_abs b))) held in
-    (small, held, stop-by_large lags s F large (reflection-held lags s F run is) small tested)
+    (small, rw held (stop-by_large lags s F large (reflection-held lags s F run is) small tested))

@@ -1,4 +1,5 @@
-use Rattle.std.proofs.Common.{◌≡◌, ℕ, ◌+◌, ◌-◌, ◌*◌, ◌<◌, ◌≤◌, ◌==◌, length, get_or, take, drop, inl, inr, length-take, length-drop, refl, ap, sym}
+-- The counts of each code are those of the channels so far.
+use Rattle.std.proofs.Common.{◌≡◌, ℕ, Bool, ◌+◌, ◌-◌, ◌*◌, ◌<◌, ◌≤◌, ◌==◌, length, get_or, take, drop, inl, inr, length-take, length-drop, refl, ap, sym}
 use Rattle.std.proofs.Common.{◌∙◌, subst, arith}
 use Rattle.std.proofs.lemmas.Bool.{cases_lt}
 use Rattle.std.proofs.lemmas.List.{take_rest, take_all, get_or_past}
@@ -21,45 +22,40 @@ count_codes-requires c =
     let sound = c.args.sound.now in
     let coefs = c.args.known.now in
     let first = c.args.first in
-    let i = c.loop-member.member-index in
-    let ch = get_or c.args.members.now i 0 in
+    let ch = get_or c.args.members.now c.loop-member.member-index 0 in
+    let before = take c.loop-member.member-index c.args.members.now in
     let T = samples f in
     let short : T ≤ 150528 = omega (arith, c.requires.row, c.requires.short) in
-    let long : length c.write_codes.new.codes ≡ T = ap length c.write_codes.ensures ∙ codes-length f sound ch coefs in
-    let part : take (length c.write_codes.new.codes - first) (drop first c.write_codes.new.codes) ≡ drop first (codes f sound ch coefs) =
-    take_rest c.write_codes.new.codes first ∙ ap (drop first) c.write_codes.ensures in
+    let part = take_rest c.write_codes.new.codes first ∙ ap (drop first) c.write_codes.ensures in
     let many : length (drop first (codes f sound ch coefs)) ≡ T - first = length-drop first (codes f sound ch coefs)
     ∙ ap (λ n. n - first) (codes-length f sound ch coefs) in
     record {
-      small = subst (λ xs. (k d : ℕ) → k < length xs → get_or xs k d < 128) (sym part) (λ k d h. codes-small f sound ch coefs first k d (omega arith));
+      small = subst (λ xs. (k d : ℕ) → k < length xs → get_or xs k d < 128) (sym part)
+          (λ k d h. codes-small f sound ch coefs first k d (omega arith));
       room = λ q h.
-          let before = c.loop-member.invariant.1 q h in
-          let most = count_from-most first f (λ c t. code_at f sound c coefs t == q) (take i c.args.members.now) in
-          let few : length (take i c.args.members.now) ≤ 6 = omega (arith, length-take i c.args.members.now, c.requires.few) in
-          let row : length (take (length c.write_codes.new.codes - first) (drop first c.write_codes.new.codes)) ≡ T - first = ap length part ∙ many in
-          let product : length (take i c.args.members.now) * T ≤ 6 * 150528 =
-          Rattle.std.proofs.lemmas.Nat.mul-le (length (take i c.args.members.now)) T 6 150528 few short in
-          omega arith;
+          let counts = c.loop-member.invariant.1 q h in
+          let most = count_from-most first f (λ c t. code_at f sound c coefs t == q) before in
+          let few : length before ≤ 6 = omega (arith, length-take c.loop-member.member-index c.args.members.now, c.requires.few) in
+          let row = ap length part ∙ many in
+          let product : length before * T ≤ 6 * 150528 = Rattle.std.proofs.lemmas.Nat.mul-le (length before) T 6 150528 few short in
+          omega (arith, row);
     }
 
 pub loop-member-preserved : goal.loop-member-preserved
 loop-member-preserved c =
     let f = c.args.channels in
-    let sound = c.args.sound.now in
-    let coefs = c.args.known.now in
     let first = c.args.first in
-    let i = c.loop-member.member-index in
-    let ch = get_or c.args.members.now i 0 in
-    let part : take (length c.write_codes.new.codes - first) (drop first c.write_codes.new.codes) ≡ drop first (codes f sound ch coefs) =
-    take_rest c.write_codes.new.codes first ∙ ap (drop first) c.write_codes.ensures in (
+    let test : ℕ → ℕ → ℕ → Bool = λ q channel t. code_at f c.args.sound.now channel c.args.known.now t == q in
+    let ch = get_or c.args.members.now c.loop-member.member-index 0 in (
       c.count_codes.ensures.long,
       λ q h.
-          let test = λ (c t : ℕ). code_at f sound c coefs t == q in
           c.count_codes.ensures.counts q h
-          ∙ ap (λ n. get_or c.loop-member.counts q 0 + n) (ap (count_by (λ code. code == q)) part ∙ count_by-codes f sound ch coefs first q)
-          ∙ ap (λ n. n + count_by (test ch) (range_with_len first (samples f - first))) (c.loop-member.invariant.1 q h)
-          ∙ sym (count_from-next first f test c.args.members.now i c.loop-member-test.true),
-      ap length c.write_codes.ensures ∙ codes-length f sound ch coefs,
+          ∙ ap (λ n. get_or c.loop-member.counts q 0 + n)
+          (ap (count_by (λ code. code == q)) (take_rest c.write_codes.new.codes first ∙ ap (drop first) c.write_codes.ensures)
+          ∙ count_by-codes f c.args.sound.now ch c.args.known.now first q)
+          ∙ ap (λ n. n + count_by (test q ch) (range_with_len first (samples f - first))) (c.loop-member.invariant.1 q h)
+          ∙ sym (count_from-next first f (test q) c.args.members.now c.loop-member.member-index c.loop-member-test.true),
+      ap length c.write_codes.ensures ∙ codes-length f c.args.sound.now ch c.args.known.now,
     )
 
 pub returns : goal.returns

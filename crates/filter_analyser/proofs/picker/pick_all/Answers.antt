@@ -1,3 +1,4 @@
+-- All that levels pick from: for each order the filters of the channels one by one, and one for all.
 use Rattle.std.proofs.Common.{◌≡◌, ℕ, zero, suc, ◌<◌, ◌≤◌, ℤ, List, [], ◌∷◌, ◌++◌, map, get_or, take, refl, ap, sym, ◌∙◌, arith}
 use Rattle.level_spec.specs.Correlation.{correlations}
 use Rattle.level_spec.specs.Recursion.{solution}
@@ -33,10 +34,9 @@ per_channel-requires-clause-solved c = λ ch h.
 pub shared-requires-clause-solved : goal.shared-requires-clause-solved
 shared-requires-clause-solved c =
     let f = c.args.channels in
-    let sound = c.args.sound.now in
     let place = c.loop-place.place in
     let H : ℕ → List ℤ = λ order. padded (solution c.solve_channels.new.joint order) in
-    let same : sound ≡ c.loop-place.predictions.sound = sym (c.loop-place.invariant.sound ∙ c.requires.begun) in
+    let same = sym (c.loop-place.invariant.sound ∙ c.requires.begun) in
     ap (λ t. get_or t place []) c.solve_all-together.ensures
     ∙ order-at H place (omega arith)
     ∙ ap (λ l. padded (solution l (get_or orders place 0))) c.solve_channels.ensures.joint
@@ -45,7 +45,6 @@ shared-requires-clause-solved c =
 pub returns-clause-found : goal.returns-clause-found
 unfolding level_picks
 returns-clause-found c =
-    let f = c.args.channels in
-    let sound = c.args.sound.now in
     let all : c.loop-place.place ≡ 4 = omega arith in
-    c.loop-place.invariant.found ∙ ap (λ n. map (per_channel f sound) orders ++ map (shared f sound) (take n orders)) all
+    c.loop-place.invariant.found
+    ∙ ap (λ n. map (per_channel c.args.channels c.args.sound.now) orders ++ map (shared c.args.channels c.args.sound.now) (take n orders)) all

@@ -1,13 +1,15 @@
-use Rattle.std.proofs.Common.{◌≡◌, ℕ, ◌+◌, ◌^◌, ◌<◌, ◌≤◌, List, ℤ, pos, nat_abs, [], ◌∷◌, ◌++◌, map, get_or, ap, sym, ◌∙◌, subst, arith}
+-- A filter and a table of its own for each channel, and the parameters that are made of them.
+use Rattle.std.proofs.Common.{◌≡◌, ℕ, ◌+◌, ◌^◌, ◌<◌, ◌≤◌, List, ℤ, pos, nat_abs, [], ◌∷◌, ◌++◌, true, replicate, map, get_or, ap, sym, ◌∙◌, subst, arith}
 use Rattle.std.specs.List.{range_with_len}
 use Rattle.std.proofs.lemmas.List.FromFn.{map-range_with_len_more}
+use Rattle.dst_num.specs.Map.{params_of}
 use Rattle.dst_spec.specs.Header.{IsParams}
 use Rattle.level_spec.specs.Correlation.{correlations}
 use Rattle.level_spec.specs.Counts.{counted}
-use Rattle.level_spec.specs.Picks.{filter_for}
+use Rattle.level_spec.specs.Picks.{filter_for, per_channel}
 use Rattle.level_spec.proofs.Sizes.{are_correlations}
 use Rattle.level_spec.proofs.Lawful.{IsParams-per_channel}
-use Rattle.filter_analyser.proofs.Picking.{solution-small, filter-is, per_channel-is}
+use Rattle.filter_analyser.proofs.Picking.{numbers_of, solution-small, filter-is, per_channel-is}
 use Rattle.filter_analyser.proofs.picks.per_channel.Goals as goal
 
 pub quantise-filter-requires-clause-values : goal.quantise-filter-requires-clause-values
@@ -47,18 +49,19 @@ loop-c-preserved c =
           ∙ sym (map-range_with_len_more G 0 n n z);
     }
 
+-- the parameters, with each channel's own filter and table
+channels-made : (c : goal.After-parameters-arg-2-1) → params_of (numbers_of c.args.channels) (numbers_of c.args.channels)
+    (replicate c.args.channels.channels true) c.loop-c.filters.items c.loop-c.probs.items ≡ per_channel c.args.channels c.args.predictions.now.sound c.args.order
+channels-made c =
+    per_channel-is c.args.channels c.args.predictions.now.sound c.args.order c.loop-c.c c.loop-c.filters.items c.loop-c.probs.items
+    c.count-count.ensures.shape.most (omega (arith, c.count-count.ensures.count)) c.loop-c.invariant.filters c.loop-c.invariant.probs
+
 pub parameters-requires : goal.parameters-requires
-parameters-requires c =
-    let f = c.args.channels in
-    let sound = c.args.predictions.now.sound in
-    let is = per_channel-is f sound c.args.order c.loop-c.c c.loop-c.filters.items c.loop-c.probs.items c.count-count.ensures.shape.most
-    (omega (arith, c.count-count.ensures.count)) c.loop-c.invariant.filters c.loop-c.invariant.probs in
-    record { lawful = subst (IsParams f.channels) (sym is) (IsParams-per_channel f sound c.args.order c.requires.least c.requires.most) }
+parameters-requires c = record {
+  lawful = subst (IsParams c.args.channels.channels) (sym (channels-made c))
+      (IsParams-per_channel c.args.channels c.args.predictions.now.sound c.args.order c.requires.least c.requires.most);
+}
 
 pub returns-clause-params : goal.returns-clause-params
 returns-clause-params c =
-    let f = c.args.channels in
-    let sound = c.args.predictions.now.sound in
-    c.parameters.ensures
-    ∙ per_channel-is f sound c.args.order c.loop-c.c c.loop-c.filters.items c.loop-c.probs.items c.count-count.ensures.shape.most
-    (omega (arith, c.count-count.ensures.count)) c.loop-c.invariant.filters c.loop-c.invariant.probs
+    c.parameters.ensures ∙ channels-made c.before

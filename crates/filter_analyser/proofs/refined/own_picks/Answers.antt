@@ -1,12 +1,15 @@
-use Rattle.std.proofs.Common.{◌≡◌, ℕ, ◌+◌, ◌<◌, ◌==◌, List, ℤ, [], ◌∷◌, ◌++◌, length, map, ap, sym, ◌∙◌, subst, arith}
+-- Each channel's own table goes into the table list, and the parameters that are made of them are those wanted.
+use Rattle.std.proofs.Common.{◌≡◌, ℕ, ◌+◌, ◌<◌, ◌==◌, List, ℤ, [], ◌∷◌, ◌++◌, true, length, map, replicate, ap, sym, ◌∙◌, subst, arith}
 use Rattle.std.proofs.lemmas.List.FromFn.{length-map-range_with_len, map-range_with_len_more}
 use Rattle.std.specs.List.{range_with_len}
+use Rattle.dst_num.specs.Map.{params_of}
 use Rattle.dst_spec.specs.Header.{IsParams}
 use Rattle.level_spec.specs.Counts.{count_from}
 use Rattle.level_spec.specs.Refining.{short_table}
-use Rattle.level_spec.specs.Picks.{refined_alone}
+use Rattle.level_spec.specs.Picks.{refined_alone, refined_own}
 use Rattle.level_spec.proofs.RefinedPicks.{IsParams-refined_own}
 use Rattle.frame_predictions.specs.Codes.{code_at}
+use Rattle.filter_analyser.proofs.Picking.{numbers_of}
 use Rattle.filter_analyser.proofs.Joining.{short-is, refined_own-is, each-long, each-at}
 use Rattle.filter_analyser.proofs.refined.own_picks.Goals as goal
 
@@ -50,18 +53,18 @@ copies-requires c =
     let few = c.count-c-end.ensures.shape.most in
     omega arith
 
+-- the parameters, with each channel's own filter and table
+own-is : (c : goal.After-copies) → params_of (numbers_of c.args.channels) (numbers_of c.args.channels) (replicate c.args.channels.channels true) c.copies.result.items
+    c.loop-c.probs.items ≡ refined_own c.args.channels c.args.predictions.now.sound
+own-is c =
+    refined_own-is c.args.channels c.args.predictions.now.sound c.loop-c.c c.copies.result.items c.loop-c.probs.items c.count-c-end.ensures.shape.most
+    (omega (arith, c.count-c-end.ensures.count)) (c.copies.ensures ∙ c.requires.own) c.loop-c.invariant.probs
+
 pub parameters-requires : goal.parameters-requires
-parameters-requires c =
-    let f = c.args.channels in
-    let sound = c.args.predictions.now.sound in
-    let is = refined_own-is f sound c.loop-c.c c.copies.result.items c.loop-c.probs.items c.count-c-end.ensures.shape.most
-    (omega (arith, c.count-c-end.ensures.count)) (c.copies.ensures ∙ c.requires.own) c.loop-c.invariant.probs in
-    record { lawful = subst (IsParams f.channels) (sym is) (IsParams-refined_own f sound) }
+parameters-requires c = record {
+  lawful = subst (IsParams c.args.channels.channels) (sym (own-is c)) (IsParams-refined_own c.args.channels c.args.predictions.now.sound);
+}
 
 pub returns-clause-params : goal.returns-clause-params
 returns-clause-params c =
-    let f = c.args.channels in
-    let sound = c.args.predictions.now.sound in
-    c.parameters.ensures
-    ∙ refined_own-is f sound c.loop-c.c c.copies.result.items c.loop-c.probs.items c.count-c-end.ensures.shape.most
-    (omega (arith, c.count-c-end.ensures.count)) (c.copies.ensures ∙ c.requires.own) c.loop-c.invariant.probs
+    c.parameters.ensures ∙ own-is c.before

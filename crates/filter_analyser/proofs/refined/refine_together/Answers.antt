@@ -1,3 +1,4 @@
+-- The filter of all channels together: refined from the one fitted to the rows.
 use Rattle.std.proofs.Common.{◌≡◌, ◌-◌, ◌^◌, ◌≤◌, ℕ, ℤ, List, length, pos, nat_abs, get_or, replicate, ap, sym, ◌∙◌, subst, arith}
 use Rattle.std.specs.List.{range_with_len}
 use Rattle.dst_spec.proofs.Lists.{all_append}
@@ -47,27 +48,21 @@ first f sound lags values filter kept a b v e = e ∙ ap (λ k. fitted k values)
     ∙ ap (λ l. fitted (rows l 128) (row_solution l 128)) a
 
 -- what is refined from it
-together : (f : Shape) (sound heard : List ℕ) (n : ℕ) (filter : List ℤ) → heard ≡ sound → n ≡ f.channels → filter ≡ first_filter f sound (channels_of f) →
-    refined_from f heard (range_with_len 0 n) 10 filter ≡ refined_together f sound
+together : (c : goal.After-refine) → refined_from c.args.channels c.args.predictions.now.sound (range_with_len 0 c.count.result) 10 c.fit-first.result
+    ≡ refined_together c.args.channels c.args.sound.now
 unfolding refined_together
-together f sound heard n filter a b e =
-    ap (λ s. refined_from f s (range_with_len 0 n) 10 filter) a ∙ ap (λ k. refined_from f sound (range_with_len 0 k) 10 filter) b
-    ∙ ap (refined_from f sound (channels_of f) 10) e
+together c =
+    let f = c.args.channels in
+    let filter = first f c.args.sound.now c.solve_channels.new.joint c.keep_rows-kept.result.1 c.fit-first.result c.keep_rows-kept.result.0
+    c.solve_channels.ensures.joint c.keep_rows-kept.ensures.rows c.keep_rows-kept.ensures.solution c.fit-first.ensures in
+    ap (λ s. refined_from f s (range_with_len 0 c.count.result) 10 c.fit-first.result) c.requires.begun
+    ∙ ap (λ k. refined_from f c.args.sound.now (range_with_len 0 k) 10 c.fit-first.result) c.count.ensures.count
+    ∙ ap (refined_from f c.args.sound.now (channels_of f) 10) filter
 
 pub returns-clause-best : goal.returns-clause-best
 returns-clause-best c =
-    let f = c.args.channels in
-    let sound = c.args.sound.now in
-    let filter = first f sound c.solve_channels.new.joint c.keep_rows-kept.result.1 c.fit-first.result c.keep_rows-kept.result.0 c.solve_channels.ensures.joint
-    c.keep_rows-kept.ensures.rows c.keep_rows-kept.ensures.solution c.fit-first.ensures in
-    c.refine.ensures.best
-    ∙ ap (λ r. r.best) (together f sound c.args.predictions.now.sound c.count.result c.fit-first.result c.requires.begun c.count.ensures.count filter)
+    c.refine.ensures.best ∙ ap (λ r. r.best) (together c)
 
 pub returns-clause-last : goal.returns-clause-last
 returns-clause-last c =
-    let f = c.args.channels in
-    let sound = c.args.sound.now in
-    let filter = first f sound c.solve_channels.new.joint c.keep_rows-kept.result.1 c.fit-first.result c.keep_rows-kept.result.0 c.solve_channels.ensures.joint
-    c.keep_rows-kept.ensures.rows c.keep_rows-kept.ensures.solution c.fit-first.ensures in
-    c.refine.ensures.last
-    ∙ ap (λ r. r.last) (together f sound c.args.predictions.now.sound c.count.result c.fit-first.result c.requires.begun c.count.ensures.count filter)
+    c.refine.ensures.last ∙ ap (λ r. r.last) (together c)
