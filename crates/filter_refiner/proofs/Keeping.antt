@@ -56,11 +56,11 @@ AreKept-push rows s h last = record {
 }
 
 -- a row that is kept, by the arrays
-pub row-of : (errors : List ℤ) (values : List (List ℤ)) (n k : ℕ) (rows : List State) → states errors values n ≡ rows → AreKept (states errors values n) →
+pub row-of : (errors : List ℤ) (values : List (List ℤ)) {n k : ℕ} {rows : List State} → states errors values n ≡ rows → AreKept (states errors values n) →
     k < length rows →
     (k < n) × (get_or rows k no_row ≡ record { error = get_or errors k (pos 0); values = take k (get_or values k []) })
     × IsKept k (record { error = get_or errors k (pos 0); values = take k (get_or values k []) })
-row-of errors values n k rows e h inside =
+row-of errors values {n} {k} {rows} e h inside =
     let long = length-states errors values n in
     let less : k < n = omega (arith, ap length e) in
     let is = state-at errors values n k less in

@@ -1,3 +1,4 @@
+-- A table is cut behind the last place where its entries change.
 use Rattle.std.proofs.Common.{◌≡◌, ◌+◌, ◌-◌, ◌≢◌, ◌≤◌, ℕ, max, not, cond, ◌==◌, Bool, true, false, pos, List, length, map, get_or, take, length-take}
 use Rattle.std.proofs.Common.{ap, sym, ◌∙◌, subst, arith}
 use Rattle.std.proofs.lemmas.Bool.Decides.{nat_tests}
@@ -45,37 +46,30 @@ loop-place-preserved c =
     ]
 
 -- as many entries as the shortened table has
-front : (entries table : List ℕ) (n place : ℕ) → entries ≡ table → 2 ≤ length table → length entries ≤ place → place ≤ length entries →
-    n ≡ max 2 (last_place (changes entries) place) →
-    (n ≤ length entries) × (take n entries ≡ shortened table)
+front : (c : goal.After-loop-place) → (c.loop-place.length ≤ length c.entries-entries.result.now)
+    × (take c.loop-place.length c.entries-entries.result.now ≡ shortened c.args.table.now)
 unfolding shortened
-front entries table n place e some past within is =
-    let all : place ≡ length entries = omega arith in
-    let most = last_place-most (changes entries) place in
-    let long : length entries ≡ length table = ap length e in (
-      omega arith,
-      ap (λ k. take k entries) (is ∙ ap (λ p. max 2 (last_place (changes entries) p)) all)
-          ∙ ap (λ t. take (max 2 (last_place (changes t) (length t))) t) e,
+front c =
+    let entries = c.entries-entries.result.now in
+    let same = c.entries-entries.ensures.entries in
+    let long = ap length same in
+    let within = c.loop-place.auto.place-end (omega (arith, long, c.requires)) in
+    let all : c.loop-place.place ≡ length entries = omega arith in
+    let most = last_place-most (changes entries) c.loop-place.place in (
+      omega (arith, long, c.requires, c.loop-place.invariant),
+      ap (λ k. take k entries) (c.loop-place.invariant ∙ ap (λ p. max 2 (last_place (changes entries) p)) all)
+          ∙ ap (λ t. take (max 2 (last_place (changes t) (length t))) t) same,
     )
 
 pub slice_bounds-new-end : goal.slice_bounds-new-end
 slice_bounds-new-end c =
-    let entries = c.entries-entries.result.now in
-    let is = front entries c.args.table.now c.loop-place.length c.loop-place.place c.entries-entries.ensures.entries c.requires (omega arith)
-    (c.loop-place.auto.place-end (omega (arith, ap length c.entries-entries.ensures.entries, c.requires))) c.loop-place.invariant in
-    omega (arith, is.0, length-take c.loop-place.length entries)
+    omega (arith, (front c).0, length-take c.loop-place.length c.entries-entries.result.now)
 
 pub unreachable-requires : goal.unreachable-requires
 unreachable-requires c =
-    let entries = c.entries-entries.result.now in
-    let is = front entries c.args.table.now c.loop-place.length c.loop-place.place c.entries-entries.ensures.entries c.requires (omega arith)
-    (c.loop-place.auto.place-end (omega (arith, ap length c.entries-entries.ensures.entries, c.requires))) c.loop-place.invariant in
-    c.in-None.ensures.none (subst (λ t. IsTable prob_kind (map pos t)) (sym is.1) (IsTable-shortened c.args.table.now c.requires
+    c.in-None.ensures.none (subst (λ t. IsTable prob_kind (map pos t)) (sym (front c.before.before).1) (IsTable-shortened c.args.table.now c.requires
     c.entries-entries.ensures.table))
 
 pub returns : goal.returns
 returns c =
-    let entries = c.entries-entries.result.now in
-    let is = front entries c.args.table.now c.loop-place.length c.loop-place.place c.entries-entries.ensures.entries c.requires (omega arith)
-    (c.loop-place.auto.place-end (omega (arith, ap length c.entries-entries.ensures.entries, c.requires))) c.loop-place.invariant in
-    c.in-Some.ensures.entries ∙ is.1
+    c.in-Some.ensures.entries ∙ (front c.before.before).1

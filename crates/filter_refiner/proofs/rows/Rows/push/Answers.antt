@@ -1,3 +1,4 @@
+-- One more row stands behind those that are kept, and is kept as they are.
 use Rattle.std.proofs.Common.{◌≡◌, ◌≢◌, ◌+◌, ◌<◌, ℤ, pos, List, [], ◌∷◌, ◌++◌, length, get_or, take, set, to_z, of_z, get_or-set_other, get_or-set_same}
 use Rattle.std.proofs.Common.{ℕ, refl, ap, sym, ◌∙◌, subst, arith}
 use mir.Syntax.{w64}
@@ -23,31 +24,21 @@ more errors values n error held to row a b few e t long =
     (ap (take n) there ∙ cut)
     ∙ ap (λ e. states errors values n ++ record { error = e; values = row } ∷ []) here
 
-pub invariant_of-self : goal.invariant_of-self
-invariant_of-self c =
-    let n = c.self.inside.count in
-    let errors = c.self.inside.errors in
-    let values = c.self.inside.values in
-    let long = length-states errors values n in
-    let same : length c.args.self.now ≡ n = sym (ap length c.self.view_is) ∙ long in
-    let few : n < 128 = omega (arith, c.requires.room) in
-    let held = same_64 c.args.error (omega (arith, ints, c.requires.least, c.requires.most)) in
-    let rows = more errors values n c.args.error (to_z w64 (of_z w64 c.args.error)) c.copy_front.new.to c.args.values.now c.self.told.0 c.self.told.1 few held
-    c.copy_front.ensures (c.requires.long ∙ same) in (
-      omega arith,
-      subst AreKept (sym rows) (AreKept-push (states errors values n) (record { error = c.args.error; values = c.args.values.now }) c.self.invariant.1
-          (record { long = c.requires.long ∙ same ∙ sym long; small = c.requires.small; least = c.requires.least; most = c.requires.most })),
-    )
-
 pub returns : goal.returns
 returns c =
-    let n = c.self.inside.count in
-    let errors = c.self.inside.errors in
-    let values = c.self.inside.values in
-    let long = length-states errors values n in
-    let same : length c.args.self.now ≡ n = sym (ap length c.self.view_is) ∙ long in
-    let few : n < 128 = omega (arith, c.requires.room) in
+    let r = c.self.inside in
+    let same : length c.args.self.now ≡ r.count = sym (ap length c.self.view_is) ∙ length-states r.errors r.values r.count in
+    let few : r.count < 128 = omega (arith, c.requires.room) in
     let held = same_64 c.args.error (omega (arith, ints, c.requires.least, c.requires.most)) in
-    more errors values n c.args.error (to_z w64 (of_z w64 c.args.error)) c.copy_front.new.to c.args.values.now c.self.told.0 c.self.told.1 few held
+    more r.errors r.values r.count c.args.error (to_z w64 (of_z w64 c.args.error)) c.copy_front.new.to c.args.values.now c.self.told.0 c.self.told.1 few held
     c.copy_front.ensures (c.requires.long ∙ same)
     ∙ ap (λ xs. xs ++ record { error = c.args.error; values = c.args.values.now } ∷ []) c.self.view_is
+
+pub invariant_of-self : goal.invariant_of-self
+invariant_of-self c =
+    let same = length-states c.self.inside.errors c.self.inside.values c.self.inside.count in (
+      omega (arith, ap length c.self.view_is, c.requires.room),
+      subst AreKept (sym (returns c)) (AreKept-push c.args.self.now (record { error = c.args.error; values = c.args.values.now })
+          (subst AreKept c.self.view_is c.self.invariant.1)
+          (record { long = c.requires.long; small = c.requires.small; least = c.requires.least; most = c.requires.most })),
+    )
