@@ -50,8 +50,9 @@ loop-c-preserved c =
     }
 
 -- the parameters, with each channel's own filter and table
-channels-made : (c : goal.After-parameters-arg-2-1) → params_of (numbers_of c.args.channels) (numbers_of c.args.channels)
-    (replicate c.args.channels.channels true) c.loop-c.filters.items c.loop-c.probs.items ≡ per_channel c.args.channels c.args.predictions.now.sound c.args.order
+channels-made : (c : goal.After-parameters-arg-2-1) →
+    params_of (numbers_of c.args.channels) (numbers_of c.args.channels) (replicate c.args.channels.channels true) c.loop-c.filters.items c.loop-c.probs.items
+    ≡ per_channel c.args.channels c.args.predictions.now.sound c.args.order
 channels-made c =
     per_channel-is c.args.channels c.args.predictions.now.sound c.args.order c.loop-c.c c.loop-c.filters.items c.loop-c.probs.items
     c.count-count.ensures.shape.most (omega (arith, c.count-count.ensures.count)) c.loop-c.invariant.filters c.loop-c.invariant.probs

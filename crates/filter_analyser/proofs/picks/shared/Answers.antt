@@ -23,8 +23,9 @@ quantise-filter-requires-clause-values c = λ k.
     subst P (sym c.requires.solved) (solution-small (correlations f sound (channels_of f)) c.args.order k corr)
 
 -- the parameters, with the one filter and the one table
-shared-made : (c : goal.After-parameters-arg-2-1) → params_of (zeros_of c.args.channels) (zeros_of c.args.channels) (replicate c.args.channels.channels true)
-    c.push-2.new.self.items c.push.new.self.items ≡ shared c.args.channels c.args.predictions.now.sound c.args.order
+shared-made : (c : goal.After-parameters-arg-2-1) →
+    params_of (zeros_of c.args.channels) (zeros_of c.args.channels) (replicate c.args.channels.channels true) c.push-2.new.self.items c.push.new.self.items
+    ≡ shared c.args.channels c.args.predictions.now.sound c.args.order
 shared-made c =
     let f = c.args.channels in
     let sound = c.args.predictions.now.sound in

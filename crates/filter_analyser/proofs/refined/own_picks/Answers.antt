@@ -54,8 +54,9 @@ copies-requires c =
     omega arith
 
 -- the parameters, with each channel's own filter and table
-own-is : (c : goal.After-copies) → params_of (numbers_of c.args.channels) (numbers_of c.args.channels) (replicate c.args.channels.channels true) c.copies.result.items
-    c.loop-c.probs.items ≡ refined_own c.args.channels c.args.predictions.now.sound
+own-is : (c : goal.After-copies) →
+    params_of (numbers_of c.args.channels) (numbers_of c.args.channels) (replicate c.args.channels.channels true) c.copies.result.items c.loop-c.probs.items
+    ≡ refined_own c.args.channels c.args.predictions.now.sound
 own-is c =
     refined_own-is c.args.channels c.args.predictions.now.sound c.loop-c.c c.copies.result.items c.loop-c.probs.items c.count-c-end.ensures.shape.most
     (omega (arith, c.count-c-end.ensures.count)) (c.copies.ensures ∙ c.requires.own) c.loop-c.invariant.probs

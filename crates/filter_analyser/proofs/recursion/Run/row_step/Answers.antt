@@ -39,10 +39,10 @@ next-made : (c : After-is_past) → next_row c.args.lags.now c.args.self.now ≡
 next-made c =
     let r = c.self.inside in
     let long = length-take-le r.steps r.values (omega (arith, c.self.told, c.self.invariant.0)) in
-    rw (← c.self.view_is) (row-made c.args.lags.now (record { error = r.error; values = take r.steps r.values }) c.next_value-added.result c.fallen-error.result
-    c.unsigned_abs.result r.steps c.move_values.new.next c.is_past.result c.requires.correlations c.self.invariant.1 long (omega (arith, ints)) c.next_value-added.ensures
-    c.unsigned_abs.ensures.value (omega arith) c.move_values.ensures.moved c.fallen-error.ensures.fallen c.fallen-error.ensures.least
-    c.fallen-error.ensures.most c.is_past.ensures)
+    rw (← c.self.view_is) (row-made c.args.lags.now (record { error = r.error; values = take r.steps r.values }) c.next_value-added.result
+    c.fallen-error.result c.unsigned_abs.result r.steps c.move_values.new.next c.is_past.result c.requires.correlations c.self.invariant.1 long
+    (omega (arith, ints)) c.next_value-added.ensures c.unsigned_abs.ensures.value (omega arith) c.move_values.ensures.moved c.fallen-error.ensures.fallen
+    c.fallen-error.ensures.least c.fallen-error.ensures.most c.is_past.ensures)
 
 pub returns-then-is_past-clause-state : goal.returns-then-is_past-clause-state
 returns-then-is_past-clause-state c =
