@@ -62,33 +62,6 @@ returns-then-place-held-clause-made c = λ room absent.
     let here : get_or old place asked ≡ asked = ap (λ xs. get_or xs place asked) (sym (found-stay c)) ∙ returns-then-place-held-clause-is c asked in
     absurd (absent (subst (Contains old) here (Contains-get_or old place asked (omega (arith, seen, f.2)))))
 
-pub invariant_of-self-2 : goal.invariant_of-self-2
-invariant_of-self-2 c =
-    let p = c.self.inside in
-    let v = c.self.invariant in
-    let order = v.in_order in
-    let within = v.are_filled.within in
-    let rows = c.provide-place.new.rows in
-    let place = c.provide-place.result in
-    let next = c.next_place-held.result in
-    let all : length rows ≡ p.rows.len = c.provide-place.ensures.long ∙ c.as_mut_slice.ensures.len in
-    let same = ap length c.as_mut_slice.ensures.value in
-    let back = written-back p.rows.items rows p.rows.len all in
-    let most = c.max-self-inside.ensures in
-    let filled : AreFilled p.channels p.sound.items rows c.max-self-inside.result =
-    subst₂ (λ xs n. AreFilled p.channels xs rows n) c.as_slice.ensures.value (sym most) c.provide-place.ensures.filled in
-    let long : length c.swap.new.self.items ≡ length rows = ap length c.swap.ensures.items ∙ length-swap _ place next ∙ ap length back in
-    let many = v.many in
-    let swapped : SwappedAt rows c.swap.new.self.items place next = subst (λ xs. SwappedAt xs c.swap.new.self.items place next) back c.swap.ensures.by_index in
-    record {
-      is_shape = v.is_shape;
-      whole = v.whole;
-      many = omega arith;
-      in_order = omega arith;
-      are_filled = filled-swapped p.channels p.sound.items rows c.swap.new.self.items c.max-self-inside.result place next filled swapped long
-          (omega arith) (omega arith);
-    }
-
 -- ---- a row that is put at the next place
 put : (c : goal.After-self-3-1) →
     (length c.swap.new.self.items ≡ length c.provide-place.new.rows)
@@ -116,6 +89,24 @@ put c =
       omega arith,
       omega arith,
     )
+
+pub invariant_of-self-2 : goal.invariant_of-self-2
+invariant_of-self-2 c =
+    let p = c.self.inside in
+    let v = c.self.invariant in
+    let order = v.in_order in
+    let many = v.many in
+    let q = put c in
+    let filled : AreFilled p.channels p.sound.items c.provide-place.new.rows c.max-self-inside.result =
+    subst₂ (λ xs n. AreFilled p.channels xs c.provide-place.new.rows n) c.as_slice.ensures.value (sym c.max-self-inside.ensures) c.provide-place.ensures.filled in
+    record {
+      is_shape = v.is_shape;
+      whole = v.whole;
+      many = omega (arith, q.0, q.3);
+      in_order = omega (arith, q.0, q.3, q.5);
+      are_filled = filled-swapped p.channels p.sound.items c.provide-place.new.rows c.swap.new.self.items c.max-self-inside.result c.provide-place.result
+          c.next_place-held.result filled q.1 q.0 (omega (arith, q.4)) (omega (arith, q.4));
+    }
 
 -- where there is room, it stands behind the rows that are held
 next-behind : (c : goal.After-self-3-1) → length c.args.self.now.rows < 8 * c.args.self.now.channels.channels → c.next_place-held.result ≡ c.self.inside.held
