@@ -9,13 +9,25 @@ use Rattle.dsdiff_spec.specs.Bytes.{bytes_at, number_at, ◌is◌, ◌below◌, 
 use Rattle.dsdiff_spec.specs.Chunks.{Head, named, the_first, body_place, next_place, fits}
 use Rattle.dsdiff_spec.specs.Faults.{◌when◌, ◌otherwise◌}
 use Rattle.dsdiff_spec.specs.Form.{Form, Kind, Origin, plain, coded, shape_of, frames_for}
-use Rattle.dsdiff_spec.specs.Parts.{form_size, form_end, top_level, prop_head, prop, sound_head, channel_count, multiple, sound_bytes_in}
+use Rattle.dsdiff_spec.specs.Parts.{form_size, form_end, top_level, prop_head, prop, sound_head, channel_count, multiple, sound_bytes_in, kind}
 use Rattle.dsdiff_spec.specs.Parts.{frames_needed, behind_form, frame_count, frame_rate}
-use Rattle.dsdiff_spec.specs.Rules.{room_fault, plain_fault, coded_fault}
+use Rattle.dsdiff_spec.specs.Rules.{room_fault, plain_fault, coded_fault, form_fault, kind_fault}
 use Rattle.dsdiff_spec.specs.Rules.{is_frte, has_bad_origin}
 use Rattle.dsdiff_spec.specs.declared.faults.FileFault.{FileFault}
 use Rattle.dsdiff_spec.specs.declared.faults.FileFault.TheVariants.{SoundUneven, TooManyFrames, CodedChunk, TailTooLong, FrameRate, KeptBad}
+use Rattle.dsdiff_chunks.specs.declared.build.Parts.{Parts}
+use Rattle.dsdiff_chunks.specs.declared.common.Kind as sounds
+use Rattle.dsdiff_chunks.specs.Kinds.{kind_seen}
+use Rattle.dsdiff_chunks.specs.Prepared.{AreParts}
 use Rattle.dsdiff_chunks.specs.Opening.{may_lack_pad, plain_parts_fault, space_fault, is_of_coded, coded_sound_fault, are_bad_origins}
+
+-- of parts whose sound is of this kind, only the rules on the kind are left
+pub kind_left : {bytes : Option (List ℕ)} {known : Option ℕ} {p : Parts} {k : sounds.Kind} → AreParts bytes known p → p.sound.kind ≡ k →
+    (xs : List ℕ) → bytes ≡ Some xs → (kind xs ≡ kind_seen k) × (form_fault xs ≡ kind_fault (kind_seen k) xs)
+kind_left parts of_kind xs told =
+    let has = parts.told xs told in
+    let same = ap (λ (h : Head). if h.id is "DSD " then plain else coded) has.sound ∙ sym parts.sound.kind_is ∙ ap kind_seen of_kind in
+    (same, has.left ∙ ap (λ k. kind_fault k xs) same)
 
 -- ---- forms with equal parts are equal
 abbrev made : Kind → ℕ → ℕ → ℕ → List Head → List ℕ → Head → ℕ → Option Origin → ℕ → List ℕ → Form

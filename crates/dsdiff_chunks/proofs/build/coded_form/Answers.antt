@@ -1,72 +1,72 @@
 -- The rules on a coded form speak of its parts, and where none fails the form is as they tell.
-use Rattle.std.proofs.Common.{◌≡◌, ℕ, ◌+◌, ◌≤◌, List, length, map, Ok, refl, sym, ap, ◌∙◌, subst, arith}
-use Rattle.std.specs.Prelude.{filter, if◌then◌else◌, option_map}
+use Rattle.std.proofs.Common.{◌≡◌, ℕ, ◌+◌, ◌≤◌, List, length, map, Some, Ok, refl, sym, ap, ◌∙◌, subst, arith}
+use Rattle.std.specs.Prelude.{filter, option_map}
 use Rattle.dst_spec.specs.Sample.{sound_bytes}
-use Rattle.dsdiff_spec.specs.Bytes.{◌is◌}
-use Rattle.dsdiff_spec.specs.Chunks.{Head, named}
+use Rattle.dsdiff_spec.specs.Chunks.{Head, named, body_end}
 use Rattle.dsdiff_spec.specs.Faults.{◌when◌}
-use Rattle.dsdiff_spec.specs.Form.{plain, coded}
+use Rattle.dsdiff_spec.specs.Form.{coded}
 use Rattle.dsdiff_spec.specs.Parts.{channel_count, multiple}
-use Rattle.dsdiff_spec.specs.Rules.{local_fault, form_fault, kind_fault, form_of_kind, origin_in}
+use Rattle.dsdiff_spec.specs.Rules.{local_fault, form_fault, form_of_kind, origin_in}
 use Rattle.dsdiff_spec.specs.declared.faults.FileFault.TheVariants.{KeptBad}
 use Rattle.dsdiff_spec.proofs.Lawful.{rules_at_0}
 use Rattle.dsdiff_chunks.specs.declared.lists.ChunkHead.{ChunkHead}
 use Rattle.dsdiff_chunks.specs.Lawful.{TileTo, IsOriginIfAny}
 use Rattle.dsdiff_chunks.specs.Opening.{is_sound, are_bad_origins}
 use Rattle.dsdiff_chunks.specs.Prepared.{heads_of}
-use Rattle.dsdiff_chunks.specs.Kinds.{kind_seen}
 use Rattle.dsdiff_chunks.specs.Seen.{head_seen, origin_seen}
 use Rattle.dsdiff_chunks.proofs.Chain.{form_is_accepted}
 use Rattle.dsdiff_chunks.proofs.Only.{only_within}
 use Rattle.dsdiff_chunks.proofs.Stopping.{Stops-in}
-use Rattle.dsdiff_chunks.proofs.Whole.{same_form, multiple_back, shape_back, channels_of, coded_at_sound, count_by_parts, coded_past_sound}
+use Rattle.dsdiff_chunks.proofs.Whole.{kind_left, same_form, multiple_back, shape_back, channels_of, coded_at_sound, count_by_parts, coded_past_sound}
+use Rattle.dsdiff_chunks.proofs.build.coded_form.Given.{Over}
 use Rattle.dsdiff_chunks.proofs.build.coded_form.Goals as goal
+use Rattle.dsdiff_chunks.proofs.build.coded_form.Goals.{After-as_slice}
+
+-- the sound ends where the form does, or before
+sound_within : (g : Over) (c : goal.After-read_frte-arg-2-1 g) → body_end (head_seen c.args.parts.sound.head) ≤ c.args.parts.chunks.end
+sound_within g c =
+    let p = c.args.parts in
+    only_within is_sound p.chunks.end (heads_of p) (head_seen p.sound.head) c.requires.parts.sound.found c.requires.parts.chunks.tiled
 
 pub read_frte-requires-clause-known : goal.read_frte-requires-clause-known
 read_frte-requires-clause-known g c =
-    let p = c.args.parts in
-    let parts = c.requires.parts in
-    let within = only_within is_sound p.chunks.end (heads_of p) (head_seen p.sound.head) parts.sound.found parts.chunks.tiled in
-    (p.chunks.size, parts.chunks.known_size, omega (arith, within, parts.chunks.within))
+    (c.args.parts.chunks.size, c.requires.parts.chunks.known_size, omega (arith, sound_within g c, c.requires.parts.chunks.within))
 
 pub read_frte-requires-clause-most : goal.read_frte-requires-clause-most
 read_frte-requires-clause-most g c =
-    let p = c.args.parts in
-    let parts = c.requires.parts in
-    let within = only_within is_sound p.chunks.end (heads_of p) (head_seen p.sound.head) parts.sound.found parts.chunks.tiled in
-    omega (arith, within, parts.chunks.most)
+    omega (arith, sound_within g c, c.requires.parts.chunks.most)
 
 pub returns-in-Err-clause-stops : goal.returns-in-Err-clause-stops
 returns-in-Err-clause-stops g c =
-    let p = c.args.parts in
     let parts = c.requires.parts in
     Stops-in _ form_fault (g.S.Source.bytes c.args.source.now) (g.S.Source.bytes c.args.source.now) (g.S.Source.faults c.args.source.now)
     (g.S.Source.faults c.args.source.now) _
     c.in-Err.fault refl (omega arith)
-    (λ xs f told e.
-    let has = parts.told xs told in
-    let kind_is = ap (λ (h : Head). if h.id is "DSD " then plain else coded) has.sound ∙ sym parts.sound.kind_is ∙ ap kind_seen c.requires.kind in
-    has.left ∙ ap (λ k. kind_fault k xs) kind_is ∙ coded_at_sound xs (head_seen p.sound.head) f has.sound e)
+    (λ xs f told e. (kind_left parts c.requires.kind xs told).1 ∙ coded_at_sound xs (head_seen c.args.parts.sound.head) f (parts.told xs told).sound e)
     c.in-Err.ensures.stops
+
+-- behind a sound that is accepted only the rule on the place in the original is left
+origin_left : (g : Over) (c : After-as_slice g) (xs : List ℕ) → g.S.Source.bytes c.args.source.now ≡ Some xs →
+    form_fault xs ≡ (KeptBad when are_bad_origins c.args.parts.prop.fields.channels.channels (sound_bytes c.args.parts.prop.fields.channels) c.in-Ok.frames xs
+    (named "KEPT" (map head_seen c.as_slice.result.now)))
+origin_left g c xs told =
+    let p = c.args.parts in
+    let parts = c.requires.parts in
+    let has = parts.told xs told in
+    let shape = p.prop.fields.channels in
+    let slice = ap (λ (hs : List ChunkHead). named "KEPT" (map head_seen hs)) c.as_slice.ensures.value in
+    (kind_left parts c.requires.kind xs told).1
+    ∙ coded_past_sound xs p.prop.body.items (heads_of p) (head_seen p.sound.head) shape c.in-Ok.frames has.chunks has.body has.sound parts.shape
+    (c.in-Ok.ensures.count xs told) (c.in-Ok.ensures.accepted xs told)
+    ∙ ap (λ hs. KeptBad when are_bad_origins shape.channels (sound_bytes shape) c.in-Ok.frames xs hs) (sym slice)
 
 pub returns-in-Err-read_any_origin-clause-stops : goal.returns-in-Err-read_any_origin-clause-stops
 returns-in-Err-read_any_origin-clause-stops g c =
-    let p = c.args.parts in
-    let parts = c.requires.parts in
-    let shape = p.prop.fields.channels in
     let frte = c.in-Ok.ensures in
-    let slice = ap (λ (hs : List ChunkHead). named "KEPT" (map head_seen hs)) c.as_slice.ensures.value in
     Stops-in _ form_fault (g.S.Source.bytes c.args.source.now) (g.S.Source.bytes c.read_frte.new.source) (g.S.Source.faults c.args.source.now)
     (g.S.Source.faults c.read_frte.new.source) _
     c.in-Err-read_any_origin.fault frte.source.same_bytes frte.source.later
-    (λ xs f told e.
-    let has = parts.told xs told in
-    let kind_is = ap (λ (h : Head). if h.id is "DSD " then plain else coded) has.sound ∙ sym parts.sound.kind_is ∙ ap kind_seen c.requires.kind in
-    has.left ∙ ap (λ k. kind_fault k xs) kind_is
-    ∙ coded_past_sound xs p.prop.body.items (heads_of p) (head_seen p.sound.head) shape c.in-Ok.frames has.chunks has.body has.sound parts.shape
-    (frte.count xs told) (frte.accepted xs told)
-    ∙ ap (λ hs. KeptBad when are_bad_origins shape.channels (sound_bytes shape) c.in-Ok.frames xs hs) (sym slice)
-    ∙ e)
+    (λ xs f told e. origin_left g c.before.before.before.before xs told ∙ e)
     c.in-Err-read_any_origin.ensures.stops
 
 pub returns-clause-form : goal.returns-clause-form
@@ -79,15 +79,9 @@ returns-clause-form g c xs told =
     let kept = c.in-Ok-read_any_origin.ensures in
     let there = frte.source.same_bytes ∙ told in
     let slice = ap (λ (hs : List ChunkHead). named "KEPT" (map head_seen hs)) c.as_slice.ensures.value in
-    let kind_is = ap (λ (h : Head). if h.id is "DSD " then plain else coded) has.sound ∙ sym parts.sound.kind_is ∙ ap kind_seen c.requires.kind in
-    let none = has.left ∙ ap (λ k. kind_fault k xs) kind_is
-    ∙ coded_past_sound xs p.prop.body.items (heads_of p) (head_seen p.sound.head) shape c.in-Ok.frames has.chunks has.body has.sound parts.shape
-    (frte.count xs told) (frte.accepted xs told)
-    ∙ ap (λ hs. KeptBad when are_bad_origins shape.channels (sound_bytes shape) c.in-Ok.frames xs hs) (sym slice)
-    ∙ ap (λ b. KeptBad when b) (kept.accepted xs there) in
-    form_is_accepted xs none
+    form_is_accepted xs (origin_left g c.before.before.before.before.before.before xs told ∙ ap (λ b. KeptBad when b) (kept.accepted xs there))
     ∙ ap Ok
-    (ap (λ k. form_of_kind k xs) kind_is
+    (ap (λ k. form_of_kind k xs) (kind_left parts c.requires.kind xs told).0
     ∙ same_form (form_of_kind coded xs) _ refl (channels_of xs p.prop.body.items shape has.body parts.shape)
     (ap multiple has.body ∙ sym (multiple_back shape (channel_count p.prop.body.items) (multiple p.prop.body.items) parts.shape))
     has.ends

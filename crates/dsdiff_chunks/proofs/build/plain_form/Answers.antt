@@ -5,9 +5,9 @@ use Rattle.std.proofs.lemmas.List.Elements.{All-contains}
 use Rattle.dst_spec.specs.Sample.{sound_bytes}
 use Rattle.dsdiff_spec.specs.Bytes.{◌is◌}
 use Rattle.dsdiff_spec.specs.Chunks.{Head, fits, body_end}
-use Rattle.dsdiff_spec.specs.Form.{plain, coded, frames_for}
+use Rattle.dsdiff_spec.specs.Form.{plain, frames_for}
 use Rattle.dsdiff_spec.specs.Parts.{channel_count, multiple}
-use Rattle.dsdiff_spec.specs.Rules.{local_fault, form_fault, kind_fault, form_of_kind}
+use Rattle.dsdiff_spec.specs.Rules.{local_fault, form_fault, form_of_kind}
 use Rattle.dsdiff_spec.proofs.Lawful.{rules_at_0}
 use Rattle.dsdiff_chunks.specs.Lawful.{TileTo}
 use Rattle.dsdiff_chunks.specs.Opening.{may_lack_pad, is_sound}
@@ -18,7 +18,7 @@ use Rattle.dsdiff_chunks.proofs.Chain.{form_is_accepted}
 use Rattle.dsdiff_chunks.proofs.Only.{passed_is_there}
 use Rattle.dsdiff_chunks.proofs.Stopping.{Stops-in}
 use Rattle.dsdiff_chunks.proofs.Whole.{same_form, multiple_back, shape_back, channels_of, is_plain_id, next_fits, plain_by_parts, plain_frames}
-use Rattle.dsdiff_chunks.proofs.Whole.{behind_by_parts}
+use Rattle.dsdiff_chunks.proofs.Whole.{behind_by_parts, kind_left}
 use Rattle.dsdiff_chunks.proofs.build.plain_form.Goals as goal
 
 pub read_plain-requires-clause-padded : goal.read_plain-requires-clause-padded
@@ -39,8 +39,8 @@ returns-in-Err-clause-stops g c =
     c.in-Err.fault refl (omega arith)
     (λ xs f told e.
     let has = parts.told xs told in
-    let kind_is = ap (λ (h : Head). if h.id is "DSD " then plain else coded) has.sound ∙ sym parts.sound.kind_is ∙ ap kind_seen c.requires.kind in
-    has.left ∙ ap (λ k. kind_fault k xs) kind_is
+    let left = kind_left parts c.requires.kind xs told in
+    left.1
     ∙ plain_by_parts xs p.prop.body.items (heads_of p) (head_seen p.prop_head) (head_seen p.sound.head) p.prop.fields.channels p.chunks.size p.chunks.end
     has.long has.ends has.chunks has.prop_is has.body has.sound parts.shape
     ∙ e)
@@ -53,14 +53,14 @@ returns-clause-form g c xs told =
     let has = parts.told xs told in
     let shape = p.prop.fields.channels in
     let found = c.in-Ok.ensures in
-    let kind_is = ap (λ (h : Head). if h.id is "DSD " then plain else coded) has.sound ∙ sym parts.sound.kind_is ∙ ap kind_seen c.requires.kind in
-    let none = has.left ∙ ap (λ k. kind_fault k xs) kind_is
+    let left = kind_left parts c.requires.kind xs told in
+    let none = left.1
     ∙ plain_by_parts xs p.prop.body.items (heads_of p) (head_seen p.prop_head) (head_seen p.sound.head) shape p.chunks.size p.chunks.end
     has.long has.ends has.chunks has.prop_is has.body has.sound parts.shape
     ∙ found.accepted in
     form_is_accepted xs none
     ∙ ap Ok
-    (ap (λ k. form_of_kind k xs) kind_is
+    (ap (λ k. form_of_kind k xs) left.0
     ∙ same_form (form_of_kind plain xs) _ refl (channels_of xs p.prop.body.items shape has.body parts.shape)
     (ap multiple has.body ∙ sym (multiple_back shape (channel_count p.prop.body.items) (multiple p.prop.body.items) parts.shape))
     has.ends

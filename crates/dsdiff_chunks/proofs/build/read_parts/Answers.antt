@@ -1,14 +1,24 @@
 -- Each step is asked where the steps before it found no fault.
-use Rattle.std.proofs.Common.{◌+◌, List, map, refl, sym, ap, ◌∙◌, subst, arith}
-use Rattle.dsdiff_spec.specs.Parts.{compression}
-use Rattle.dsdiff_spec.specs.Rules.{opening_fault, local_fault, form_fault}
+use Rattle.std.proofs.Common.{◌≡◌, ℕ, ◌+◌, List, map, Option, Some, None, refl, sym, ap, ◌∙◌, subst, arith}
+use Rattle.dsdiff_spec.specs.Faults.{◌otherwise◌}
+use Rattle.dsdiff_spec.specs.Parts.{compression, kind, prop, prop_head, top_level}
+use Rattle.dsdiff_spec.specs.Rules.{opening_fault, local_fault, form_fault, sound_fault, kind_fault}
 use Rattle.dsdiff_chunks.specs.declared.lists.ChunkHead.{ChunkHead}
 use Rattle.dsdiff_chunks.specs.Kinds.{kind_seen}
 use Rattle.dsdiff_chunks.specs.Seen.{head_seen}
-use Rattle.dsdiff_chunks.specs.Steps.{IsTheSound}
+use Rattle.dsdiff_chunks.specs.Steps.{AreChunks, IsTheSound}
 use Rattle.dsdiff_chunks.proofs.Chain.{at_opening, at_version, at_props, the_prop, the_body, at_prop, past_prop, at_sound, past_sound, the_sound}
 use Rattle.dsdiff_chunks.proofs.Stopping.{Stops-in}
+use Rattle.dsdiff_chunks.proofs.build.read_parts.Given.{Over}
 use Rattle.dsdiff_chunks.proofs.build.read_parts.Goals as goal
+use Rattle.dsdiff_chunks.proofs.build.read_parts.Goals.{After-find_sound-arg-1}
+
+-- the opening has no fault, and its chunks are those of the slice
+opened : {bytes : Option (List ℕ)} {known : Option ℕ} {size end : ℕ} {heads slice : List ChunkHead} → AreChunks bytes known size end (map head_seen heads) →
+    slice ≡ heads → (xs : List ℕ) → bytes ≡ Some xs → (opening_fault xs ≡ None) × ((top_level xs).heads ≡ map head_seen slice)
+opened chunks same xs told =
+    let o = chunks.told xs told in
+    (o.rules, o.chunks ∙ sym (ap (map head_seen) same))
 
 pub returns-in-Err-clause-stops : goal.returns-in-Err-clause-stops
 returns-in-Err-clause-stops g c =
@@ -23,18 +33,16 @@ returns-in-Err-check_version-clause-stops g c =
     (g.S.Source.faults c.read_chunks.new.source) _
     c.in-Err-check_version.fault c.in-Ok.ensures.bytes c.in-Ok.ensures.later
     (λ xs f told e.
-    let opened = c.in-Ok.ensures.chunks.told xs (c.in-Ok.ensures.bytes ∙ told) in
-    let top = opened.chunks ∙ sym (ap (map head_seen) c.as_slice-heads.ensures.value) in
-    at_version xs heads f opened.rules top e)
+    let o = opened c.in-Ok.ensures.chunks c.as_slice-heads.ensures.value xs (c.in-Ok.ensures.bytes ∙ told) in
+    at_version xs heads f o.0 o.1 e)
     c.in-Err-check_version.ensures.stops
 
 pub returns-in-Err-find_prop-clause-stops : goal.returns-in-Err-find_prop-clause-stops
 returns-in-Err-find_prop-clause-stops g c xs told =
     let heads = map head_seen c.as_slice-heads.result.now in
     let there = c.in-Ok.ensures.bytes ∙ told in
-    let opened = c.in-Ok.ensures.chunks.told xs there in
-    let top = opened.chunks ∙ sym (ap (map head_seen) c.as_slice-heads.ensures.value) in
-    at_props xs heads c.in-Err-find_prop.fault opened.rules top (c.in-Ok-check_version.ensures.accepted xs there) c.in-Err-find_prop.ensures.refused
+    let o = opened c.in-Ok.ensures.chunks c.as_slice-heads.ensures.value xs there in
+    at_props xs heads c.in-Err-find_prop.fault o.0 o.1 (c.in-Ok-check_version.ensures.accepted xs there) c.in-Err-find_prop.ensures.refused
 
 pub returns-in-Err-read_body_of_prop-clause-stops : goal.returns-in-Err-read_body_of_prop-clause-stops
 returns-in-Err-read_body_of_prop-clause-stops g c =
@@ -45,9 +53,8 @@ returns-in-Err-read_body_of_prop-clause-stops g c =
     c.in-Err-read_body_of_prop.fault (version.same_bytes ∙ c.in-Ok.ensures.bytes) (omega (arith, version.later, c.in-Ok.ensures.later))
     (λ xs f told e.
     let there = c.in-Ok.ensures.bytes ∙ told in
-    let opened = c.in-Ok.ensures.chunks.told xs there in
-    let top = opened.chunks ∙ sym (ap (map head_seen) c.as_slice-heads.ensures.value) in
-    at_prop xs heads (head_seen c.in-Ok-find_prop.head) f opened.rules top (c.in-Ok-check_version.ensures.accepted xs there)
+    let o = opened c.in-Ok.ensures.chunks c.as_slice-heads.ensures.value xs there in
+    at_prop xs heads (head_seen c.in-Ok-find_prop.head) f o.0 o.1 (c.in-Ok-check_version.ensures.accepted xs there)
     c.in-Ok-find_prop.ensures.found c.in-Ok-find_prop.ensures.most e)
     c.in-Err-read_body_of_prop.ensures.stops
 
@@ -59,23 +66,30 @@ pub returns-clause-size_stays : goal.returns-clause-size_stays
 returns-clause-size_stays g c n known =
     c.in-Ok-read_body_of_prop.ensures.source.same_size ∙ c.in-Ok-check_version.ensures.source.same_size ∙ c.in-Ok.ensures.size_stays n known
 
-pub returns-in-Err-find_sound-clause-stops : goal.returns-in-Err-find_sound-clause-stops
-returns-in-Err-find_sound-clause-stops g c xs told =
+-- what a PROP that is accepted leaves: the rules on the sound, the chunks, its head, and its body
+prop_found : (g : Over) (c : After-find_sound-arg-1 g) (xs : List ℕ) → g.S.Source.bytes c.args.source.now ≡ Some xs →
+    (form_fault xs ≡ (sound_fault xs otherwise kind_fault (kind xs) xs)) × ((top_level xs).heads ≡ map head_seen c.as_slice-heads.result.now)
+    × (prop_head xs ≡ head_seen c.in-Ok-find_prop.head) × (prop xs ≡ c.in-Ok-read_body_of_prop.prop.body.items)
+prop_found g c xs told =
     let heads = map head_seen c.as_slice-heads.result.now in
     let head = head_seen c.in-Ok-find_prop.head in
-    let found = c.in-Ok-find_prop.ensures.found in
+    let found = c.in-Ok-find_prop.ensures in
     let there = c.in-Ok.ensures.bytes ∙ told in
-    let opened = c.in-Ok.ensures.chunks.told xs there in
-    let top = opened.chunks ∙ sym (ap (map head_seen) c.as_slice-heads.ensures.value) in
-    let version = c.in-Ok-check_version.ensures.accepted xs there in
-    let prop = c.in-Ok-read_body_of_prop.ensures in
-    let body = prop.read xs (c.in-Ok-check_version.ensures.source.same_bytes ∙ there) in
-    let left = past_prop xs heads head opened.rules top version found c.in-Ok-find_prop.ensures.most
-    (sym (ap (local_fault (head.place + 12)) body) ∙ prop.rules) in
-    at_sound xs heads head.place _ c.in-Err-find_sound.fault left top
-    (ap (λ h. h.place) (the_prop xs heads head top found))
-    (ap compression (the_body xs heads head top found ∙ sym body) ∙ sym prop.type_is)
-    c.in-Err-find_sound.ensures.refused
+    let o = opened c.in-Ok.ensures.chunks c.as_slice-heads.ensures.value xs there in
+    let read = c.in-Ok-read_body_of_prop.ensures in
+    let body = read.read xs (c.in-Ok-check_version.ensures.source.same_bytes ∙ there) in (
+      past_prop xs heads head o.0 o.1 (c.in-Ok-check_version.ensures.accepted xs there) found.found found.most
+          (sym (ap (local_fault (head.place + 12)) body) ∙ read.rules),
+      o.1,
+      the_prop xs heads head o.1 found.found,
+      the_body xs heads head o.1 found.found ∙ sym body,
+    )
+
+pub returns-in-Err-find_sound-clause-stops : goal.returns-in-Err-find_sound-clause-stops
+returns-in-Err-find_sound-clause-stops g c xs told =
+    let p = prop_found g c.before.before.before.before xs told in
+    at_sound xs (map head_seen c.as_slice-heads.result.now) c.in-Ok-find_prop.head.place _ c.in-Err-find_sound.fault p.0 p.1
+    (ap (λ h. h.place) p.2) (ap compression p.3 ∙ sym c.in-Ok-read_body_of_prop.ensures.type_is) c.in-Err-find_sound.ensures.refused
 
 pub returns-clause-parts : goal.returns-clause-parts
 returns-clause-parts g c =
@@ -83,7 +97,6 @@ returns-clause-parts g c =
     let heads = map head_seen c.as_slice-heads.result.now in
     let slice = c.as_slice-heads.ensures.value in
     let head = head_seen c.in-Ok-find_prop.head in
-    let found = c.in-Ok-find_prop.ensures.found in
     let prop = c.in-Ok-read_body_of_prop.ensures in
     let version = c.in-Ok-check_version.ensures in
     let sound = c.in-Ok-find_sound.ensures in
@@ -109,20 +122,15 @@ returns-clause-parts g c =
       told = λ xs told.
           let there = sym (prop.source.same_bytes ∙ version.source.same_bytes) ∙ told in
           let opened = chunks.told xs there in
-          let top = opened.chunks ∙ sym (ap (map head_seen) slice) in
-          let body = prop.read xs (version.source.same_bytes ∙ there) in
-          let left = past_prop xs heads head opened.rules top (version.accepted xs there) found c.in-Ok-find_prop.ensures.most
-          (sym (ap (local_fault (head.place + 12)) body) ∙ prop.rules) in
+          let p = prop_found g c.before.before xs (sym c.in-Ok.ensures.bytes ∙ there) in
           record {
-            left = past_sound xs heads head.place c.in-Ok-read_body_of_prop.prop.fields.compression left top
-                (ap (λ h. h.place) (the_prop xs heads head top found))
-                (ap compression (the_body xs heads head top found ∙ sym body) ∙ sym prop.type_is)
-                sound.accepted;
+            left = past_sound xs heads head.place c.in-Ok-read_body_of_prop.prop.fields.compression p.0 p.1 (ap (λ h. h.place) p.2)
+                (ap compression p.3 ∙ sym prop.type_is) sound.accepted;
             long = opened.long;
             ends = opened.ends;
             chunks = opened.chunks;
-            prop_is = the_prop xs heads head top found;
-            body = the_body xs heads head top found ∙ sym body;
-            sound = the_sound xs heads (head_seen c.in-Ok-find_sound.sound.head) top sound.sound.found;
+            prop_is = p.2;
+            body = p.3;
+            sound = the_sound xs heads (head_seen c.in-Ok-find_sound.sound.head) p.1 sound.sound.found;
           };
     }

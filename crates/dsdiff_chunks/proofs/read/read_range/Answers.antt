@@ -3,31 +3,32 @@ use Rattle.std.proofs.Common.{rules, ◌≡◌, ◌+◌, ◌-◌, ◌<◌, ◌�
 use Rattle.std.proofs.lemmas.List.{length-drop}
 use Rattle.dsdiff_chunks.proofs.Pieces.{front_more}
 use Rattle.dst_streams.proofs.Told.{HoldsFrom-later}
+use Rattle.dsdiff_chunks.proofs.read.read_range.Given.{Over}
 use Rattle.dsdiff_chunks.proofs.read.read_range.Goals as goal
 
 pub overflow_add-from : goal.overflow_add-from
 overflow_add-from g c = omega (arith, c.requires.fits, c.loop-place.auto.out)
 
+-- what was read is some bytes, and fits into what is left of out
+read_some : (g : Over) (c : goal.In_ok-count g) → (0 < c.in_ok-count.count) × (c.loop-place.place + c.in_ok-count.count ≤ length c.loop-place.out)
+read_some g c =
+    let count = c.in_ok-count.ensures.count c.requires.inside.0 (c.loop-place.invariant.known ∙ c.requires.inside.1) in
+    let out = c.loop-place.auto.out in
+    (count.below (omega (arith, c.requires.inside.2)), omega (arith, count.within, length-drop c.loop-place.place c.loop-place.out))
+
 pub overflow_add-place : goal.overflow_add-place
 overflow_add-place g c =
-    let count = c.in_ok-count.ensures.count c.requires.inside.0 (c.loop-place.invariant.known ∙ c.requires.inside.1) in
-    let within = count.within in
-    omega (arith, length-drop c.loop-place.place c.loop-place.out)
+    omega (arith, read_some g c)
 
 pub loop-place-smaller : goal.loop-place-smaller
 loop-place-smaller g c =
-    let count = c.in_ok-count.ensures.count c.requires.inside.0 (c.loop-place.invariant.known ∙ c.requires.inside.1) in
-    let within = count.within in
-    let below : c.args.from + c.loop-place.place < c.requires.inside.0 = omega (arith, c.requires.inside.2) in
-    let some = count.below below in
-    omega (arith, c.loop-place.auto.out)
+    omega (arith, read_some g c)
 
 pub loop-place-preserved : goal.loop-place-preserved
 loop-place-preserved g c =
-    let count = c.in_ok-count.ensures.count c.requires.inside.0 (c.loop-place.invariant.known ∙ c.requires.inside.1) in
-    let within = count.within in
+    let some = read_some g c in
     record {
-      within = omega (arith, length-drop c.loop-place.place c.loop-place.out);
+      within = omega arith;
       bytes = search rules;
       known = search rules;
       loan = search rules;
