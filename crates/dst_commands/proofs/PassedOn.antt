@@ -22,7 +22,9 @@ use Rattle.dsdiff_spec.specs.Pieces.{decoded_size, opening}
 use Rattle.dsdiff_spec.proofs.PassedOn.{passed, passed_more, passed_in_front}
 use Rattle.dsdiff_spec.proofs.Progress.{BeginsWith}
 use Rattle.dsdiff_chunks.specs.Lawful.{IsLawful, IsOriginIfAny}
+use Rattle.dsdiff_chunks.specs.Forms.{coded_seen}
 use Rattle.dsdiff_chunks.specs.Seen.{head_seen}
+use Rattle.dsdiff_chunks.specs.declared.form.CodedForm.{CodedForm}
 use Rattle.dsdiff_chunks.proofs.LawfulForms.{coded_parts}
 use Rattle.dsdiff_chunks.specs.declared.lists.ChunkHead.{ChunkHead}
 use Rattle.dst_commands.specs.declared.chunks.Side.{Side}
@@ -231,7 +233,10 @@ pub failed_since : (fault : CopyFault) (source_first source_before source_now si
 failed_since Read a b c d e f le le' h = Rose-earlier a b c le h
 failed_since Write a b c d e f le le' h = Rose-earlier d e f le' h
 
--- the head of a form of the told size
-pub opening_by : (size sound : ℕ) (file : List ℕ) (form : Form) → size ≡ decoded_size sound file form →
-    codes "FRM8" ++ big_bytes 8 size ++ codes "DSD " ≡ opening sound file form
-opening_by size sound file form e = ap (λ n. codes "FRM8" ++ big_bytes 8 n ++ codes "DSD ") e
+-- the head of a form of the told size, of a file whose length is known
+pub opening_by : {size n : ℕ} (sound : ℕ) (file : List ℕ) (form : CodedForm) → n ≡ length file → form.end ≤ n →
+    ((file : List ℕ) → form.end ≤ length file → size ≡ decoded_size sound file (coded_seen form)) →
+    codes "FRM8" ++ big_bytes 8 size ++ codes "DSD " ≡ opening sound file (coded_seen form)
+opening_by sound file form known within size_is =
+    let fits : form.end ≤ length file = omega arith in
+    ap (λ n. codes "FRM8" ++ big_bytes 8 n ++ codes "DSD ") (size_is file fits)
