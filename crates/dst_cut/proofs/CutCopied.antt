@@ -9,7 +9,7 @@ use Rattle.dsdiff_chunks.specs.Forms.{coded_seen}
 use Rattle.dst_commands.proofs.Writing.{adds_same, adds_then, stops_same, stops_then}
 use Rattle.dst_cut.specs.CutLayout.{begins, ends}
 use Rattle.dst_cut.specs.declared.cut_form.CutForm.{CutForm}
-use Rattle.dst_cut.proofs.CutPlaces.{AreCutOut, are_cut_out, length-between}
+use Rattle.dst_cut.proofs.CutPlaces.{cut_out, length-between}
 
 pub copied_whole : (piece : List ℕ) (n : ℕ) (old new : Option (List ℕ)) (room left : Option ℕ) → length piece ≡ n → new ≡ and_then old piece →
     ((m : ℕ) → room ≡ Some m → n ≤ m → left ≡ Some (m - n)) → Adds piece old new room left
@@ -36,9 +36,6 @@ call_then (Ok u) a b old mid new room half left p q = adds_then a b old mid new 
 call_then (Err fault) a b old mid new room half left p q = stops_then (Unit {0}) a b old mid new room half p q
 
 -- ---- the frames of a form that ends within the n bytes of its file, by the places where they begin and end
-pub cut_out : (cut : CutForm) → AreCutOut (coded_seen cut.form) cut.index cut.first cut.last
-cut_out cut = are_cut_out (coded_seen cut.form) cut.index cut.first cut.last cut.form.lawful cut.fits cut.order cut.there
-
 module _ (file : List ℕ) (cut : CutForm) (n : ℕ) (within : cut.form.end ≤ n) (known : n ≡ length file) (from to : ℕ)
     (begins_is : from ≡ begins cut.index cut.first) (ends_is : to ≡ ends cut.index (coded_seen cut.form) cut.last)
   where

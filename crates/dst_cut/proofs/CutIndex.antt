@@ -14,5 +14,9 @@ one_more_entry es k none piece l is =
     ∙ sym (flat_map-append entry_bytes (take k es) (get_or es k none ∷ []))
     ∙ ap index_bytes (sym (take_more es k none l))
 
-pub more_entries : (es : List Entry) (k count : ℕ) → index_bytes (take k es) ++ index_bytes (take count (drop k es)) ≡ index_bytes (take (k + count) es)
-more_entries es k count = sym (flat_map-append entry_bytes (take k es) (take count (drop k es))) ∙ ap index_bytes (sym (take-add k count es))
+pub more_entries : (es : List Entry) (k count : ℕ) {piece : List ℕ} → piece ≡ index_bytes (take count (drop k es)) →
+    index_bytes (take k es) ++ piece ≡ index_bytes (take (k + count) es)
+more_entries es k count is =
+    ap (λ w. index_bytes (take k es) ++ w) is
+    ∙ sym (flat_map-append entry_bytes (take k es) (take count (drop k es)))
+    ∙ ap index_bytes (sym (take-add k count es))

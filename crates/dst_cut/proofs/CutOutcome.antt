@@ -20,7 +20,7 @@ use Rattle.dst_cut.specs.declared.cut.CutFault.{CutFault}
 use Rattle.dst_cut.specs.declared.cut.CutFault.TheVariants.{Write}
 use Rattle.dst_cut.specs.declared.cut_form.CutForm.{CutForm}
 use Rattle.dst_cut.specs.Cutting.{IsCutForm, cut_bytes, of_device}
-use Rattle.dst_cut.proofs.CutPlaces.{are_cut_out}
+use Rattle.dst_cut.proofs.CutPlaces.{cut_out}
 use Rattle.dst_cut.proofs.CutWhole.{cut_is}
 
 pub rules_of_cut : (first last : ℕ) (file : List ℕ) → refusal (words.cut first last) file ≡ form_refusal (words.cut first last) file
@@ -102,5 +102,4 @@ stops_by_device fault answer piece {old} {new} {room} is h =
 pub parts_are : (file : List ℕ) (c : CutForm) → entries file (coded_seen c.form) ≡ c.index → c.form.end ≤ length file →
     whole c.index file (coded_seen c.form) c.first c.last ≡ cut_bytes file c
 parts_are file c is fits =
-    let form = coded_seen c.form in
-    sym (cut_is c.index file form c.first c.last c.order is (are_cut_out form c.index c.first c.last c.form.lawful c.fits c.order c.there) fits)
+    sym (cut_is c.index file (coded_seen c.form) c.first c.last c.order is (cut_out c) fits)

@@ -10,6 +10,8 @@ use Rattle.dsdiff_spec.specs.Walk.{Entry, entry}
 use Rattle.dsdiff_chunks.specs.Lawful.{IsLawful}
 use Rattle.dsdiff_chunks.proofs.LawfulForms.{sound_inside}
 use Rattle.frame_index.specs.Fitting.{IsIndexOf}
+use Rattle.dsdiff_chunks.specs.Forms.{coded_seen}
+use Rattle.dst_cut.specs.declared.cut_form.CutForm.{CutForm}
 use Rattle.dst_cut.specs.CutLayout.{begins, ends, count, is_last, moved, entries_left}
 
 -- ---- later entries stand further behind
@@ -66,6 +68,10 @@ are_cut_out form es first last lawful h order there =
           omega (arith, rises form es h (last + 1 - first) first (last + 1) (omega (arith, order)) next),
           omega (arith, (h.inside (last + 1) next).before),
         )
+
+-- the same of a form of which frames are cut out
+pub cut_out : (cut : CutForm) → AreCutOut (coded_seen cut.form) cut.index cut.first cut.last
+cut_out cut = are_cut_out (coded_seen cut.form) cut.index cut.first cut.last cut.form.lawful cut.fits cut.order cut.there
 
 -- ---- the entries of the frames that are cut out
 pub length-left : (form : Form) (es : List Entry) (first last place : ℕ) → first ≤ last → last < length es →

@@ -8,27 +8,28 @@ use Rattle.dsdiff_spec.proofs.ByteLists.{entry_bytes}
 use Rattle.dsdiff_chunks.specs.Forms.{coded_seen}
 use Rattle.frame_index.specs.Entries.{entry_seen}
 use Rattle.dst_cut.specs.CutLayout.{begins, count, moved, entries_left}
-use Rattle.dst_cut.proofs.CutPlaces.{are_cut_out, length-left, nth_left, none}
+use Rattle.dst_cut.proofs.CutPlaces.{cut_out, length-left, nth_left, none}
 use Rattle.dst_cut.proofs.CutIndex.{one_more_entry}
 use Rattle.dst_cut.proofs.cut_index.fill_entries.Goals as goal
 
-pub overflow_sub-entry : goal.overflow_sub-entry
-overflow_sub-entry c =
+-- the entry lies behind the first one, and within the form
+entry_inside : (c : goal.After-struct_known-1) →
+    (begins c.args.cut.now.index c.args.cut.now.first ≤ c.entry-entry.result.offset) × (c.entry-entry.result.offset ≤ c.args.cut.now.form.end)
+entry_inside c =
     let cut = c.args.cut.now in
-    let a = are_cut_out (coded_seen cut.form) cut.index cut.first cut.last cut.form.lawful cut.fits cut.order cut.there in
+    let a = cut_out cut in
     let here = cut.first + (c.args.k + c.loop-next.next) in
     let within : here < length cut.index = omega (arith, a.long, c.loop-next-test.true, c.requires.there, cut.order) in
     let offset = ap (λ (e : Entry). e.offset) c.entry-entry.ensures in
-    omega (arith, a.from here (omega arith) within, offset, c.begins-from.ensures)
+    (omega (arith, a.from here (omega arith) within, offset), omega (arith, a.to here within, offset))
+
+pub overflow_sub-entry : goal.overflow_sub-entry
+overflow_sub-entry c =
+    omega (arith, entry_inside c, c.begins-from.ensures)
 
 pub overflow_add-place : goal.overflow_add-place
 overflow_add-place c =
-    let cut = c.args.cut.now in
-    let a = are_cut_out (coded_seen cut.form) cut.index cut.first cut.last cut.form.lawful cut.fits cut.order cut.there in
-    let here = cut.first + (c.args.k + c.loop-next.next) in
-    let within : here < length cut.index = omega (arith, a.long, c.loop-next-test.true, c.requires.there, cut.order) in
-    let offset = ap (λ (e : Entry). e.offset) c.entry-entry.ensures in
-    omega (arith, a.to here within, a.most, offset, c.begins-from.ensures, c.requires.place)
+    omega (arith, entry_inside c, (cut_out c.args.cut.now).most, c.begins-from.ensures, c.requires.place)
 
 pub loop-next-preserved : goal.loop-next-preserved
 loop-next-preserved c =
@@ -39,7 +40,7 @@ loop-next-preserved c =
     let old = c.loop-next.buffer in
     let new = c.put_entry.new.bytes in
     let at = 12 * next in
-    let a = are_cut_out (coded_seen cut.form) cut.index cut.first cut.last cut.form.lawful cut.fits cut.order cut.there in
+    let a = cut_out cut in
     let within : k + next < count cut.first cut.last = omega (arith, c.loop-next-test.true, c.requires.there) in
     let es = entries_left cut.index cut.first cut.last place in
     let whole = length-left (coded_seen cut.form) cut.index cut.first cut.last place cut.order a.long in

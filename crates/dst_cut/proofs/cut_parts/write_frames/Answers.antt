@@ -3,7 +3,8 @@ use Rattle.std.proofs.Common.{◌≡◌, ap, arith}
 use Rattle.dsdiff_chunks.specs.declared.copy.CopyFault.{CopyFault}
 use Rattle.dst_commands.proofs.Writing.{adds_same, adds_then, stops_for, stops_first, stops_same, stops_then}
 use Rattle.dst_cut.specs.CutLayout.{padding}
-use Rattle.dst_cut.proofs.CutCopied.{cut_out, frames_copied, frames_short}
+use Rattle.dst_cut.proofs.CutPlaces.{cut_out}
+use Rattle.dst_cut.proofs.CutCopied.{frames_copied, frames_short}
 use Rattle.dst_cut.proofs.cut_parts.write_frames.Goals as goal
 
 pub copy_range-requires-clause-order : goal.copy_range-requires-clause-order
