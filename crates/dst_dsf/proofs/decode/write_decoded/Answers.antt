@@ -10,6 +10,7 @@ use Rattle.dst_dsf.specs.Decoding.{IsFor, IsOpenedAs}
 use Rattle.dst_dsf.proofs.Ending.{head_added, head_cut, ends_at_head, ends_in_rows, ends_unsettled, ends_done}
 use Rattle.dst_dsf.proofs.decode.write_decoded.Goals as goal
 
+-- the parts of the form that the rows and the head need
 opened_for : (file : List ℕ) (o : DsfWalked) → IsShape o.walked.form.channels → IsOpenedAs file (coded_seen o.walked.form) (dsf_seen o.said) →
     IsFor file (coded_seen o.walked.form) (dsf_seen o.said)
 opened_for file o lawful opened =
@@ -25,40 +26,32 @@ opened_for file o lawful opened =
 
 pub returns-in_default-clause-written : goal.returns-in_default-clause-written
 returns-in_default-clause-written g c file told =
-    let form = coded_seen c.args.opened.now.walked.form in
-    let d = dsf_seen c.args.opened.now.said in
     let bytes = g.met.S.Source.told_are_bytes c.args.source.now file told in
     let o = opened_for file c.args.opened.now c.requires.room.jobs.lawful (c.requires.opened file told) in
-    ends_at_head file form d o bytes _ _ _ (head_cut c.in_default.field-0 d _ _ _ _ c.in_default.ensures.sure c.in_default.ensures.written)
+    ends_at_head file _ _ o bytes _ _ _ (head_cut c.in_default.field-0 _ _ _ _ _ c.in_default.ensures.sure c.in_default.ensures.written)
 
 pub returns-in-Err-clause-written : goal.returns-in-Err-clause-written
 returns-in-Err-clause-written g c file told =
-    let form = coded_seen c.args.opened.now.walked.form in
-    let d = dsf_seen c.args.opened.now.said in
     let bytes = g.met.S.Source.told_are_bytes c.args.source.now file told in
     let o = opened_for file c.args.opened.now c.requires.room.jobs.lawful (c.requires.opened file told) in
-    let head = head_added _ d _ _ _ _ c.in-Ok.ensures.sure c.in-Ok.ensures.written in
-    ends_in_rows file form d o bytes c.in-Err.fault _ _ _ _ _ (g.K.Sink.room c.write_rows.new.sink) head (c.in-Err.ensures.written file told)
+    let head = head_added _ (dsf_seen c.args.opened.now.said) _ _ _ _ c.in-Ok.ensures.sure c.in-Ok.ensures.written in
+    ends_in_rows file _ _ o bytes c.in-Err.fault _ _ _ _ _ (g.K.Sink.room c.write_rows.new.sink) head (c.in-Err.ensures.written file told)
 
 pub returns-in_default-finish-clause-written : goal.returns-in_default-finish-clause-written
 returns-in_default-finish-clause-written g c file told =
-    let form = coded_seen c.args.opened.now.walked.form in
-    let d = dsf_seen c.args.opened.now.said in
     let bytes = g.met.S.Source.told_are_bytes c.args.source.now file told in
     let o = opened_for file c.args.opened.now c.requires.room.jobs.lawful (c.requires.opened file told) in
-    let head = head_added _ d _ _ _ _ c.in-Ok.ensures.sure c.in-Ok.ensures.written in
+    let head = head_added _ (dsf_seen c.args.opened.now.said) _ _ _ _ c.in-Ok.ensures.sure c.in-Ok.ensures.written in
     let frames = c.in_default-write_rows.ensures.written file told in
-    ends_unsettled file form d o bytes frames.0 _ _ _ _ _ _ _ frames.1 head frames.2 c.in_default-finish.ensures.written c.in_default-finish.ensures.sure
+    ends_unsettled file _ _ o bytes frames.0 _ _ _ _ _ _ _ frames.1 head frames.2 c.in_default-finish.ensures.written c.in_default-finish.ensures.sure
 
 pub returns-clause-written : goal.returns-clause-written
 returns-clause-written g c file told =
-    let form = coded_seen c.args.opened.now.walked.form in
-    let d = dsf_seen c.args.opened.now.said in
     let bytes = g.met.S.Source.told_are_bytes c.args.source.now file told in
     let o = opened_for file c.args.opened.now c.requires.room.jobs.lawful (c.requires.opened file told) in
-    let head = head_added _ d _ _ _ _ c.in-Ok.ensures.sure c.in-Ok.ensures.written in
+    let head = head_added _ (dsf_seen c.args.opened.now.said) _ _ _ _ c.in-Ok.ensures.sure c.in-Ok.ensures.written in
     let frames = c.in_default-write_rows.ensures.written file told in
-    ends_done file form d o bytes (record { frames = c.args.opened.now.walked.form.frames; bytes = c.sound_size.result }) frames.0 _ _ _ _ _ _ _
+    ends_done file _ _ o bytes (record { frames = c.args.opened.now.walked.form.frames; bytes = c.sound_size.result }) frames.0 _ _ _ _ _ _ _
     frames.1 head frames.2
     c.finish.ensures.written refl c.sound_size.ensures.size
 

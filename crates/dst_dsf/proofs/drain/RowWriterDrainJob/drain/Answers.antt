@@ -1,20 +1,23 @@
 -- What is taken is the part of the sound that is left.
-use Rattle.std.proofs.Common.{◌≡◌, ◌+◌, ◌-◌, ◌++◌, take, length, refl, sym, ap, ap₂, subst, ◌∙◌}
+use Rattle.std.proofs.Common.{◌≡◌, ℕ, List, ◌+◌, ◌-◌, ◌++◌, take, length, refl, sym, ap, ap₂, subst, ◌∙◌}
 use Rattle.std.specs.Prelude.{min}
 use Rattle.dsf_files.specs.Forms.{dsf_seen}
+use Rattle.dst_read.specs.declared.jobs.Job.{Job}
+use Rattle.dst_dsf.specs.declared.rows.RowWriter.{RowWriter}
 use Rattle.dst_dsf.specs.Draining.{part_of}
 use Rattle.dst_dsf.specs.Gathering.{HasTaken, FailsAtRow}
 use Rattle.dst_dsf.proofs.Gathering.{take_least}
 use Rattle.dst_dsf.proofs.drain.RowWriterDrainJob.drain.Goals as goal
 
+-- as many bytes as are left are the part of the sound
+part_taken : {K : Type 0} (s : RowWriter K) (job : Job) {n left count : ℕ} {xs : List ℕ} → n ≡ min left count → left ≡ s.row.size - s.row.taken →
+    count ≡ length xs → xs ≡ job.sound.items → take n xs ≡ part_of s job
+part_taken s job least left long is = take_least _ _ _ (least ∙ ap₂ min left long) ∙ ap (take (s.row.size - s.row.taken)) is
+
 pub returns-in-Ok-clause-took : goal.returns-in-Ok-clause-took
 returns-in-Ok-clause-took g c =
     let s = c.args.self.now in
-    let job = c.args.job.now in
-    let part : take c.min-length.result c.deref.result.now ≡ part_of s job =
-    take_least c.min-length.result (s.row.size - s.row.taken) c.deref.result.now
-    (c.min-length.ensures ∙ ap₂ min c.left-left.ensures (c.len.ensures ∙ sym c.deref.ensures.len))
-    ∙ ap (take (s.row.size - s.row.taken)) c.deref.ensures.value in
+    let part = part_taken s c.args.job.now c.min-length.ensures c.left-left.ensures (c.len.ensures ∙ sym c.deref.ensures.len) c.deref.ensures.value in
     record {
       same = record { lent = c.in-Ok.ensures.lent; form_is = c.in-Ok.ensures.form; size_is = c.in-Ok.ensures.size; later = c.take_sound.ensures.cause.later };
       tail = c.in_default.field-0;
@@ -27,11 +30,7 @@ returns-in-Ok-clause-took g c =
 pub returns-in-Err-take_sound-clause-fault : goal.returns-in-Err-take_sound-clause-fault
 returns-in-Err-take_sound-clause-fault g c =
     let s = c.args.self.now in
-    let job = c.args.job.now in
-    let part : take c.min-length.result c.deref.result.now ≡ part_of s job =
-    take_least c.min-length.result (s.row.size - s.row.taken) c.deref.result.now
-    (c.min-length.ensures ∙ ap₂ min c.left-left.ensures (c.len.ensures ∙ sym c.deref.ensures.len))
-    ∙ ap (take (s.row.size - s.row.taken)) c.deref.ensures.value in
+    let part = part_taken s c.args.job.now c.min-length.ensures c.left-left.ensures (c.len.ensures ∙ sym c.deref.ensures.len) c.deref.ensures.value in
     record {
       same = record {
         lent = c.in-Err-take_sound.ensures.lent;
