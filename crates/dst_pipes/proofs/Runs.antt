@@ -10,18 +10,29 @@ use Rattle.dsdiff_spec.specs.Lines.{decoded_line}
 use Rattle.dsdiff_spec.specs.Outcome.{Answer, done}
 use Rattle.stream_spec.specs.Outcome.{StreamOutcome, told_sound}
 use Rattle.stream_spec.proofs.Lawful.{streams_are_lawful}
+use Rattle.push_decoder.specs.declared.decoder.PushDecoder.{PushDecoder}
 use Rattle.dst_pipes.specs.Steps.{StopsBy, HasCome}
 use Rattle.dst_pipes.specs.Endings.{PipeEnds, LacksRoom}
 use Rattle.dst_pipes.specs.declared.work.Work.{Work}
 use Rattle.dst_pipes.specs.declared.faults.Piped.{Piped}
 use Rattle.dst_pipes.specs.declared.faults.PipeFault.{PipeFault}
 use Rattle.dst_pipes.specs.declared.faults.PipeFault.TheVariants.{Read, Write, Memory, File, Frame}
+use Rattle.dst_pipes.proofs.Waiting.{IsWaiting}
 use Rattle.dst_pipes.proofs.Final.{ends_done, ends_unsettled, ends_at_fault, ends_at_frame, ends_in_writing}
 
-pub flow_moved : (piece rest : List ℕ) (now : Option (List ℕ)) → Some rest ≡ after_piece piece now → (later : List ℕ) × (now ≡ Some later)
+flow_moved : (piece rest : List ℕ) (now : Option (List ℕ)) → Some rest ≡ after_piece piece now → (later : List ℕ) × (now ≡ Some later)
     × (rest ≡ piece ++ later)
 flow_moved piece rest None e = absurd cc
 flow_moved piece rest (Some later) e = (later, refl, cc)
+
+-- the bytes that are taken, the piece that was read, and those that are left are the whole stream
+pub piece_read : {d : PushDecoder} {work : Option Work} {read : ℕ} {old new : Option (List ℕ)} {room left : Option ℕ} {first now later : Option (List ℕ)}
+    (at : IsWaiting d work read old new room left first now) (piece w : List ℕ) → now ≡ after_piece piece later → first ≡ Some w →
+    (rest : List ℕ) × (later ≡ Some rest) × (w ≡ at.taken ++ (piece ++ rest))
+piece_read at piece w moved told =
+    let flow = at.flow w told in
+    let after = flow_moved piece flow.0 _ (sym flow.1 ∙ moved) in
+    (after.0, after.1, flow.2 ∙ ap (λ x. at.taken ++ x) after.2)
 
 pub split_at : (taken piece later : List ℕ) (n : ℕ) → taken ++ (piece ++ later) ≡ (taken ++ take n piece) ++ (drop n piece ++ later)
 split_at taken piece later n =

@@ -1,5 +1,5 @@
 -- What a step leaves, by what its event asks for.
-use Rattle.std.proofs.Common.{◌≡◌, ℕ, ◌+◌, ◌-◌, ◌<◌, List, [], ◌∷◌, ◌++◌, take, Option, Some, None, Result, Ok, Err, refl, sym, ap, subst, ◌∙◌, arith}
+use Rattle.std.proofs.Common.{◌≡◌, ℕ, ◌+◌, ◌-◌, ◌<◌, ◌≤◌, List, [], ◌∷◌, ◌++◌, take, Option, Some, None, Result, Ok, Err, refl, sym, ap, subst, ◌∙◌, arith}
 use Rattle.std.proofs.Common.{length-append, append-nil, append_assoc}
 use Rattle.std.specs.List.{concat}
 use Rattle.std.specs.declared.alloc.AllocError.{AllocError}
@@ -41,6 +41,11 @@ told_of taken answered channels multiple frames d work t = record { taken = take
 
 pub lawful_told : (front : Front) (channels multiple frames : ℕ) (d : PushDecoder) → FrontIsTold front channels multiple frames d → IsLawfulFront front
 lawful_told front channels multiple frames d t = (streams_are_lawful (t.taken ++ [])).front front (events_law d t.taken (begun front []) t.stands []).0
+
+pub few_told : (front : Front) (channels multiple frames : ℕ) (d : PushDecoder) → FrontIsTold front channels multiple frames d → frames ≤ 1000000
+few_told front channels multiple frames d t =
+    let few = (lawful_told front channels multiple frames d t).frames in
+    omega (arith, few, t.told)
 
 pub shape_told : (front : Front) (channels multiple frames : ℕ) (d : PushDecoder) → FrontIsTold front channels multiple frames d →
     IsShape (shape_of channels multiple)

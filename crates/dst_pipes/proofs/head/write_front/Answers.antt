@@ -7,61 +7,43 @@ use Rattle.dst_commands.proofs.Writing.{added, cut_off, adds_same, adds_then, st
 use Rattle.dst_pipes.specs.Heads.{version_bytes, opening_bytes, plain_size}
 use Rattle.dst_pipes.proofs.head.write_front.Goals as goal
 
-opening_is : (prop cmpr : List ℕ) (sound size n : ℕ) → n ≡ length (prop_with prop cmpr) → cmpr ≡ cmpr_plain → size ≡ 4 + 16 + n + 12 + sound →
+-- the head of the form tells the size of what is written behind it
+opening_is : (prop : List ℕ) {cmpr : List ℕ} (sound : ℕ) {size n : ℕ} → n ≡ length (prop_with prop cmpr) → cmpr ≡ cmpr_plain → size ≡ 4 + 16 + n + 12 + sound →
     opening_bytes size ≡ opening_bytes (plain_size prop sound)
-opening_is prop cmpr sound size n e f g = ap opening_bytes (g ∙ ap (λ m. 4 + 16 + m + 12 + sound) (e ∙ ap (λ x. length (prop_with prop x)) f))
+opening_is prop sound e f g = ap opening_bytes (g ∙ ap (λ m. 4 + 16 + m + 12 + sound) (e ∙ ap (λ x. length (prop_with prop x)) f))
 
 pub returns-in_default-clause-written : goal.returns-in_default-clause-written
 returns-in_default-clause-written g c =
-    let prop = c.args.prop.now in
-    let sound = c.args.sound in
-    let version = c.args.version.now in
-    let same = opening_is prop c.plain_cmpr-cmpr.result.now sound _ c.prop_length.result c.prop_length.ensures.length c.plain_cmpr-cmpr.ensures refl in
-    stops_first (Unit {0}) (opening_bytes (plain_size prop sound) ++ version_bytes version ++ prop_with prop cmpr_plain)
-    (codes "DSD " ++ big_bytes 8 sound) _ _ _
-    (stops_first (Unit {0}) (opening_bytes (plain_size prop sound) ++ version_bytes version) (prop_with prop cmpr_plain) _ _ _
-    (stops_first (Unit {0}) (opening_bytes (plain_size prop sound)) (version_bytes version) _ _ _
-    (stops_same (Unit {0}) _ (opening_bytes (plain_size prop sound)) _ _ _ same c.in_default.ensures.written)))
+    stops_first (Unit {0}) _ (codes "DSD " ++ big_bytes 8 c.args.sound) _ _ _
+    (stops_first (Unit {0}) _ (prop_with c.args.prop.now cmpr_plain) _ _ _
+    (stops_first (Unit {0}) _ (version_bytes c.args.version.now) _ _ _
+    (stops_same (Unit {0}) _ _ _ _ _ (opening_is _ _ c.prop_length.ensures.length c.plain_cmpr-cmpr.ensures refl) c.in_default.ensures.written)))
 
 pub returns-in_default-write_version-clause-written : goal.returns-in_default-write_version-clause-written
 returns-in_default-write_version-clause-written g c =
-    let prop = c.args.prop.now in
-    let sound = c.args.sound in
-    let version = c.args.version.now in
-    let same = opening_is prop c.plain_cmpr-cmpr.result.now sound _ c.prop_length.result c.prop_length.ensures.length c.plain_cmpr-cmpr.ensures refl in
-    stops_first (Unit {0}) (opening_bytes (plain_size prop sound) ++ version_bytes version ++ prop_with prop cmpr_plain)
-    (codes "DSD " ++ big_bytes 8 sound) _ _ _
-    (stops_first (Unit {0}) (opening_bytes (plain_size prop sound) ++ version_bytes version) (prop_with prop cmpr_plain) _ _ _
-    (stops_then (Unit {0}) (opening_bytes (plain_size prop sound)) (version_bytes version) _ _ _ _ _
-    (adds_same _ (opening_bytes (plain_size prop sound)) _ _ _ _ same c.in-Ok.ensures.written) c.in_default-write_version.ensures.written))
+    stops_first (Unit {0}) _ (codes "DSD " ++ big_bytes 8 c.args.sound) _ _ _
+    (stops_first (Unit {0}) _ (prop_with c.args.prop.now cmpr_plain) _ _ _
+    (stops_then (Unit {0}) _ (version_bytes c.args.version.now) _ _ _ _ _
+    (adds_same _ _ _ _ _ _ (opening_is _ _ c.prop_length.ensures.length c.plain_cmpr-cmpr.ensures refl) c.in-Ok.ensures.written)
+    c.in_default-write_version.ensures.written))
 
 pub returns-in_default-write_prop-clause-written : goal.returns-in_default-write_prop-clause-written
 returns-in_default-write_prop-clause-written g c =
-    let prop = c.args.prop.now in
-    let sound = c.args.sound in
-    let version = c.args.version.now in
-    let same = opening_is prop c.plain_cmpr-cmpr.result.now sound _ c.prop_length.result c.prop_length.ensures.length c.plain_cmpr-cmpr.ensures refl in
-    let of_prop = ap (prop_with prop) c.plain_cmpr-cmpr.ensures in
-    stops_first (Unit {0}) (opening_bytes (plain_size prop sound) ++ version_bytes version ++ prop_with prop cmpr_plain)
-    (codes "DSD " ++ big_bytes 8 sound) _ _ _
-    (stops_then (Unit {0}) (opening_bytes (plain_size prop sound) ++ version_bytes version) (prop_with prop cmpr_plain) _ _ _ _ _
-    (adds_then (opening_bytes (plain_size prop sound)) (version_bytes version) _ _ _ _ _ _
-    (adds_same _ (opening_bytes (plain_size prop sound)) _ _ _ _ same c.in-Ok.ensures.written) c.in-Ok-write_version.ensures.written)
-    (stops_same (Unit {0}) _ (prop_with prop cmpr_plain) _ _ _ of_prop
-    (cut_off _ (prop_with prop c.plain_cmpr-cmpr.result.now) _ _ _ _ c.in_default-write_prop.ensures.sure c.in_default-write_prop.ensures.written)))
+    stops_first (Unit {0}) _ (codes "DSD " ++ big_bytes 8 c.args.sound) _ _ _
+    (stops_then (Unit {0}) _ (prop_with c.args.prop.now cmpr_plain) _ _ _ _ _
+    (adds_then _ (version_bytes c.args.version.now) _ _ _ _ _ _
+    (adds_same _ _ _ _ _ _ (opening_is _ _ c.prop_length.ensures.length c.plain_cmpr-cmpr.ensures refl) c.in-Ok.ensures.written)
+    c.in-Ok-write_version.ensures.written)
+    (stops_same (Unit {0}) _ _ _ _ _ (ap (prop_with c.args.prop.now) c.plain_cmpr-cmpr.ensures)
+    (cut_off _ _ _ _ _ _ c.in_default-write_prop.ensures.sure c.in_default-write_prop.ensures.written)))
 
 pub returns-clause-written : goal.returns-clause-written
 returns-clause-written g c =
-    let prop = c.args.prop.now in
-    let sound = c.args.sound in
-    let version = c.args.version.now in
-    let same = opening_is prop c.plain_cmpr-cmpr.result.now sound _ c.prop_length.result c.prop_length.ensures.length c.plain_cmpr-cmpr.ensures refl in
-    let of_prop = ap (prop_with prop) c.plain_cmpr-cmpr.ensures in
-    then_appended c.write_head.result (opening_bytes (plain_size prop sound) ++ version_bytes version ++ prop_with prop cmpr_plain)
-    (codes "DSD " ++ big_bytes 8 sound) _ _ _ _ _ _
-    (adds_then (opening_bytes (plain_size prop sound) ++ version_bytes version) (prop_with prop cmpr_plain) _ _ _ _ _ _
-    (adds_then (opening_bytes (plain_size prop sound)) (version_bytes version) _ _ _ _ _ _
-    (adds_same _ (opening_bytes (plain_size prop sound)) _ _ _ _ same c.in-Ok.ensures.written) c.in-Ok-write_version.ensures.written)
-    (adds_same _ (prop_with prop cmpr_plain) _ _ _ _ of_prop
-    (added _ (prop_with prop c.plain_cmpr-cmpr.result.now) _ _ _ _ c.in-Ok-write_prop.ensures.sure c.in-Ok-write_prop.ensures.written)))
+    then_appended c.write_head.result _ (codes "DSD " ++ big_bytes 8 c.args.sound) _ _ _ _ _ _
+    (adds_then _ (prop_with c.args.prop.now cmpr_plain) _ _ _ _ _ _
+    (adds_then _ (version_bytes c.args.version.now) _ _ _ _ _ _
+    (adds_same _ _ _ _ _ _ (opening_is _ _ c.prop_length.ensures.length c.plain_cmpr-cmpr.ensures refl) c.in-Ok.ensures.written)
+    c.in-Ok-write_version.ensures.written)
+    (adds_same _ _ _ _ _ _ (ap (prop_with c.args.prop.now) c.plain_cmpr-cmpr.ensures)
+    (added _ _ _ _ _ _ c.in-Ok-write_prop.ensures.sure c.in-Ok-write_prop.ensures.written)))
     c.write_head.ensures.written c.write_head.ensures.sure

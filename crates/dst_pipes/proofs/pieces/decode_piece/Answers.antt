@@ -1,16 +1,16 @@
+-- What the loop over the steps of a piece leaves, by what the last step says of the rest.
 use Rattle.std.proofs.Common.{◌≡◌, ◌+◌, ◌++◌, take, None, Ok, ap, subst, ◌∙◌, arith}
 use Rattle.dsdiff_spec.specs.Streams.{stream}
 use Rattle.push_decoder.proofs.Short.{rest_of, and_more}
 use Rattle.dst_pipes.specs.Steps.{Waits, GoesOn, HasCome}
-use Rattle.dst_pipes.proofs.Moved.{stops_moved, whole_piece}
-use Rattle.dst_pipes.proofs.Runs.{split_at}
+use Rattle.dst_pipes.proofs.Moved.{of_step, step_stays, stops_moved, whole_piece}
 use Rattle.dst_pipes.proofs.pieces.decode_piece.Goals as goal
 
 pub returns-in-Err-clause-ends : goal.returns-in-Err-clause-ends
 returns-in-Err-clause-ends g c taken answered has works old room wrote =
     let goes = c.loop-taken.invariant.goes taken answered has works old room wrote in
     let m = c.loop-taken.start in
-    let ends = c.in-Err.ensures.ends (taken ++ take m c.args.piece.now) goes.answered goes.stands goes.works old room goes.wrote in
+    let ends = of_step c.in-Err.ensures.ends goes in
     stops_moved c.in-Err.fault taken c.args.piece.now m old _ room _ (rw (rest_of c.args.piece.now m) at ends)
 
 pub loop-taken-smaller : goal.loop-taken-smaller
@@ -30,15 +30,14 @@ loop-taken-preserved g c = record {
   goes = λ taken answered has works old room wrote.
       let goes = c.loop-taken.invariant.goes taken answered has works old room wrote in
       let m = c.loop-taken.start in
-      let ends = rw c.in-Again.is at (c.in-Ok.ensures.ends (taken ++ take m c.args.piece.now) goes.answered goes.stands goes.works old room goes.wrote) in
+      let ends = rw c.in-Again.is at (of_step c.in-Ok.ensures.ends goes) in
       subst (λ p. GoesOn p c.decode_step.new.decoder c.decode_step.new.work old (g.K.Sink.written c.decode_step.new.sink) room
       (g.K.Sink.room c.decode_step.new.sink))
       (and_more taken c.args.piece.now m c.in-Ok.taken.0) (rw (rest_of c.args.piece.now m) at ends);
   no_front = λ taken more answered has works old room wrote none.
-      let goes = c.loop-taken.invariant.goes taken answered has works old room wrote in
       let m = c.loop-taken.start in
-      let step = c.in-Ok.ensures.no_front (taken ++ take m c.args.piece.now) more goes.answered goes.stands goes.works in
-      (rw (rest_of c.args.piece.now m) at step) (subst (λ w. (stream w).front ≡ None) (split_at taken c.args.piece.now more m) none)
+      step_stays taken c.args.piece.now more m (c.loop-taken.invariant.goes taken answered has works old room wrote)
+      (rw (rest_of c.args.piece.now m) at c.in-Ok.ensures.no_front) none
       ∙ c.loop-taken.invariant.no_front taken more answered has works old room wrote none;
 }
 
@@ -46,7 +45,7 @@ pub returns-in-More-clause-ends : goal.returns-in-More-clause-ends
 returns-in-More-clause-ends g c taken answered has works old room wrote =
     let goes = c.loop-taken.invariant.goes taken answered has works old room wrote in
     let m = c.loop-taken.start in
-    let ends = rw c.in-More.is at (c.in-Ok.ensures.ends (taken ++ take m c.args.piece.now) goes.answered goes.stands goes.works old room goes.wrote) in
+    let ends = rw c.in-More.is at (of_step c.in-Ok.ensures.ends goes) in
     let moved = rw (rest_of c.args.piece.now m) at ends in
     subst (λ p. Waits p c.decode_step.new.decoder c.decode_step.new.work old (g.K.Sink.written c.decode_step.new.sink) room
     (g.K.Sink.room c.decode_step.new.sink))
@@ -56,7 +55,7 @@ pub returns-in-End-clause-ends : goal.returns-in-End-clause-ends
 returns-in-End-clause-ends g c taken answered has works old room wrote =
     let goes = c.loop-taken.invariant.goes taken answered has works old room wrote in
     let m = c.loop-taken.start in
-    let ends = rw c.in-End.is at (c.in-Ok.ensures.ends (taken ++ take m c.args.piece.now) goes.answered goes.stands goes.works old room goes.wrote) in (
+    let ends = rw c.in-End.is at (of_step c.in-Ok.ensures.ends goes) in (
       m + c.in-Ok.taken.0,
       subst (λ p. HasCome p c.decode_step.new.work old (g.K.Sink.written c.decode_step.new.sink) room (g.K.Sink.room c.decode_step.new.sink))
           (and_more taken c.args.piece.now m c.in-Ok.taken.0) (rw (rest_of c.args.piece.now m) at ends),
@@ -64,24 +63,21 @@ returns-in-End-clause-ends g c taken answered has works old room wrote =
 
 pub returns-in-Err-clause-no_front : goal.returns-in-Err-clause-no_front
 returns-in-Err-clause-no_front g c taken more answered has works old room wrote none =
-    let goes = c.loop-taken.invariant.goes taken answered has works old room wrote in
     let m = c.loop-taken.start in
-    let step = c.in-Err.ensures.no_front (taken ++ take m c.args.piece.now) more goes.answered goes.stands goes.works in
-    (rw (rest_of c.args.piece.now m) at step) (subst (λ w. (stream w).front ≡ None) (split_at taken c.args.piece.now more m) none)
+    step_stays taken c.args.piece.now more m (c.loop-taken.invariant.goes taken answered has works old room wrote)
+    (rw (rest_of c.args.piece.now m) at c.in-Err.ensures.no_front) none
     ∙ c.loop-taken.invariant.no_front taken more answered has works old room wrote none
 
 pub returns-in-More-clause-no_front : goal.returns-in-More-clause-no_front
 returns-in-More-clause-no_front g c taken more answered has works old room wrote none =
-    let goes = c.loop-taken.invariant.goes taken answered has works old room wrote in
     let m = c.loop-taken.start in
-    let step = c.in-Ok.ensures.no_front (taken ++ take m c.args.piece.now) more goes.answered goes.stands goes.works in
-    (rw (rest_of c.args.piece.now m) at step) (subst (λ w. (stream w).front ≡ None) (split_at taken c.args.piece.now more m) none)
+    step_stays taken c.args.piece.now more m (c.loop-taken.invariant.goes taken answered has works old room wrote)
+    (rw (rest_of c.args.piece.now m) at c.in-Ok.ensures.no_front) none
     ∙ c.loop-taken.invariant.no_front taken more answered has works old room wrote none
 
 pub returns-in-End-clause-no_front : goal.returns-in-End-clause-no_front
 returns-in-End-clause-no_front g c taken more answered has works old room wrote none =
-    let goes = c.loop-taken.invariant.goes taken answered has works old room wrote in
     let m = c.loop-taken.start in
-    let step = c.in-Ok.ensures.no_front (taken ++ take m c.args.piece.now) more goes.answered goes.stands goes.works in
-    (rw (rest_of c.args.piece.now m) at step) (subst (λ w. (stream w).front ≡ None) (split_at taken c.args.piece.now more m) none)
+    step_stays taken c.args.piece.now more m (c.loop-taken.invariant.goes taken answered has works old room wrote)
+    (rw (rest_of c.args.piece.now m) at c.in-Ok.ensures.no_front) none
     ∙ c.loop-taken.invariant.no_front taken more answered has works old room wrote none

@@ -1,3 +1,4 @@
+-- The answers while the stream is read in pieces, at its end, and where the flow or a piece fails.
 use Rattle.std.proofs.Common.{◌≡◌, [], ◌++◌, take, drop, None, Err, refl, ap, sym, subst, ◌∙◌, arith, append-nil, append_assoc, length-append}
 use Rattle.std.proofs.lemmas.List.{length-take}
 use Rattle.dst_spec.specs.Bits.{AreBytes}
@@ -10,8 +11,8 @@ use Rattle.push_decoder.proofs.Pieces.{events_law}
 use Rattle.dst_pipes.specs.Endings.{IsStoppedShort, PipeEnds}
 use Rattle.dst_pipes.proofs.Waiting.{nothing_due}
 use Rattle.dst_pipes.proofs.Final.{ends_in_reading, ends_cut_off}
-use Rattle.dst_pipes.proofs.Runs.{flow_moved, split_at, piece_stops, told_most, finished, write_alone}
-use Rattle.dst_pipes.proofs.NoFront.{none_begun, no_work}
+use Rattle.dst_pipes.proofs.Runs.{piece_read, split_at, piece_stops, told_most, finished, write_alone}
+use Rattle.dst_pipes.proofs.NoFront.{none_begun, no_work_yet}
 use Rattle.dst_pipes.proofs.pipe.run.Goals as goal
 
 pub loop-read-init : goal.loop-read-init
@@ -62,12 +63,10 @@ finish-requires g c =
 pub returns-in-Ok-true-clause-ends : goal.returns-in-Ok-true-clause-ends
 returns-in-Ok-true-clause-ends g c w told =
     let at = c.loop-read.invariant.waiting in
-    let flow = at.flow w told in
     let piece = take c.in-Ok.count c.next.new.out in
     let ends = rw c.in-Ok-true.field-0-test at (c.in-Ok-true.ensures.ends at.taken at.waits.answered at.waits.stands at.waits.works _ _ at.waits.wrote) in
-    let moved = flow_moved piece flow.0 _ (sym flow.1 ∙ c.in-Ok.ensures.moved) in
-    let same : w ≡ (at.taken ++ take ends.0 piece) ++ (drop ends.0 piece ++ moved.0) =
-    flow.2 ∙ ap (λ x. at.taken ++ x) moved.2 ∙ split_at at.taken piece moved.0 ends.0 in
+    let moved = piece_read at piece w c.in-Ok.ensures.moved told in
+    let same : w ≡ (at.taken ++ take ends.0 piece) ++ (drop ends.0 piece ++ moved.0) = moved.2 ∙ split_at at.taken piece moved.0 ends.0 in
     let bytes = g.met.F.Flow.told_are_bytes c.args.flow.now w told in
     subst (λ v. PipeEnds c.finish.result v (g.K.Sink.written c.args.sink.now) (g.K.Sink.written c.finish.new.sink) (g.K.Sink.room c.args.sink.now)) (sym same)
     (finished c.finish.result (at.taken ++ take ends.0 piece) (drop ends.0 piece ++ moved.0) _ _ _ _ _ _ ends.1 (subst AreBytes same bytes)
@@ -77,15 +76,13 @@ returns-in-Ok-true-clause-ends g c w told =
 pub returns-in-Err-clause-ends : goal.returns-in-Err-clause-ends
 returns-in-Err-clause-ends g c w told =
     let at = c.loop-read.invariant.waiting in
-    let flow = at.flow w told in
     let piece = take c.in-Ok.count c.next.new.out in
     let ends = c.in-Err.ensures.ends at.taken at.waits.answered at.waits.stands at.waits.works _ _ at.waits.wrote in
-    let moved = flow_moved piece flow.0 _ (sym flow.1 ∙ c.in-Ok.ensures.moved) in
-    let same : w ≡ at.taken ++ (piece ++ moved.0) = flow.2 ∙ ap (λ x. at.taken ++ x) moved.2 in
+    let moved = piece_read at piece w c.in-Ok.ensures.moved told in
     let bytes = g.met.F.Flow.told_are_bytes c.args.flow.now w told in
     subst (λ v. PipeEnds (Err c.in-Err.fault) v (g.K.Sink.written c.args.sink.now) (g.K.Sink.written c.decode_piece.new.sink)
-    (g.K.Sink.room c.args.sink.now)) (sym same)
-    (piece_stops c.in-Err.fault at.taken piece moved.0 _ _ _ _ (subst AreBytes same bytes) ends)
+    (g.K.Sink.room c.args.sink.now)) (sym moved.2)
+    (piece_stops c.in-Err.fault at.taken piece moved.0 _ _ _ _ (subst AreBytes moved.2 bytes) ends)
 
 pub loop-read-preserved : goal.loop-read-preserved
 loop-read-preserved g c =
@@ -98,9 +95,8 @@ loop-read-preserved g c =
         waits = ends;
         count = c.taken-read.ensures.count (at.taken ++ piece) ends.answered ends.stands;
         flow = λ w told.
-            let flow = at.flow w told in
-            let moved = flow_moved piece flow.0 _ (sym flow.1 ∙ c.in-Ok.ensures.moved) in
-            (moved.0, moved.1, flow.2 ∙ ap (λ x. at.taken ++ x) moved.2 ∙ sym (append_assoc at.taken piece moved.0));
+            let moved = piece_read at piece w c.in-Ok.ensures.moved told in
+            (moved.0, moved.1, moved.2 ∙ sym (append_assoc at.taken piece moved.0));
       };
       most = c.taken-read.ensures.most;
       flow_later = omega (arith, c.in-Ok.ensures.cause.later, c.loop-read.invariant.flow_later);
@@ -124,38 +120,26 @@ loop-read-smaller g c =
 -- ---- no front comes
 pub returns-in_default-clause-no_front : goal.returns-in_default-clause-no_front
 returns-in_default-clause-no_front g c w told none =
-    let at = c.loop-read.invariant.waiting in
-    let flow = at.flow w told in
-    c.loop-read.invariant.untouched
-    (no_work at.waits.answered _ (at.taken ++ flow.0) (events_law c.loop-read.decoder at.taken at.waits.answered at.waits.stands flow.0) at.waits.works
-    (subst (λ v. (stream v).front ≡ None) flow.2 none))
+    c.loop-read.invariant.untouched (no_work_yet c.loop-read.invariant.waiting w told none)
 
 pub returns-then-count-eq0-clause-no_front : goal.returns-then-count-eq0-clause-no_front
 returns-then-count-eq0-clause-no_front g c w told none =
-    let at = c.loop-read.invariant.waiting in
-    let flow = at.flow w told in
-    c.loop-read.invariant.untouched
-    (no_work at.waits.answered _ (at.taken ++ flow.0) (events_law c.loop-read.decoder at.taken at.waits.answered at.waits.stands flow.0) at.waits.works
-    (subst (λ v. (stream v).front ≡ None) flow.2 none))
+    c.loop-read.invariant.untouched (no_work_yet c.loop-read.invariant.waiting w told none)
 
 pub returns-in-Ok-true-clause-no_front : goal.returns-in-Ok-true-clause-no_front
 returns-in-Ok-true-clause-no_front g c w told none =
     let at = c.loop-read.invariant.waiting in
-    let flow = at.flow w told in
     let piece = take c.in-Ok.count c.next.new.out in
     let ends = rw c.in-Ok-true.field-0-test at (c.in-Ok-true.ensures.ends at.taken at.waits.answered at.waits.stands at.waits.works _ _ at.waits.wrote) in
-    let moved = flow_moved piece flow.0 _ (sym flow.1 ∙ c.in-Ok.ensures.moved) in
+    let moved = piece_read at piece w c.in-Ok.ensures.moved told in
     absurd (none_begun at.taken piece moved.0 ends.0 ends.1.front ends.1.frames ends.1.begins
-    (subst (λ v. (stream v).front ≡ None) (flow.2 ∙ ap (λ x. at.taken ++ x) moved.2) none))
+    (subst (λ v. (stream v).front ≡ None) moved.2 none))
 
 pub returns-in-Err-clause-no_front : goal.returns-in-Err-clause-no_front
 returns-in-Err-clause-no_front g c w told none =
     let at = c.loop-read.invariant.waiting in
-    let flow = at.flow w told in
     let piece = take c.in-Ok.count c.next.new.out in
-    let moved = flow_moved piece flow.0 _ (sym flow.1 ∙ c.in-Ok.ensures.moved) in
+    let moved = piece_read at piece w c.in-Ok.ensures.moved told in
     c.in-Err.ensures.no_front at.taken moved.0 at.waits.answered at.waits.stands at.waits.works _ _ at.waits.wrote
-    (subst (λ v. (stream v).front ≡ None) (flow.2 ∙ ap (λ x. at.taken ++ x) moved.2) none)
-    ∙ c.loop-read.invariant.untouched
-    (no_work at.waits.answered _ (at.taken ++ flow.0) (events_law c.loop-read.decoder at.taken at.waits.answered at.waits.stands flow.0) at.waits.works
-    (subst (λ v. (stream v).front ≡ None) flow.2 none))
+    (subst (λ v. (stream v).front ≡ None) moved.2 none)
+    ∙ c.loop-read.invariant.untouched (no_work_yet at w told none)

@@ -1,18 +1,20 @@
+-- The head that is written is that of the front, and the work that begins is of its form.
 use Rattle.std.proofs.Common.{◌≡◌, ℕ, ◌*◌, ◌≤◌, List, [], length, ap, ap₂, sym, subst, ◌∙◌, arith}
 use Rattle.std.proofs.Math.Nat.{mul-le-mul}
-use Rattle.dst_spec.specs.Sample.{sound_bytes}
+use Rattle.dst_spec.specs.Sample.{Shape, sound_bytes}
 use Rattle.dsdiff_spec.specs.Streams.{Front, shape_in}
 use Rattle.dsdiff_chunks.specs.Lawful.{IsPropBody}
 use Rattle.dst_commands.proofs.Writing.{adds_same, stops_same}
 use Rattle.dst_pipes.specs.Heads.{head_with, head_of}
-use Rattle.dst_pipes.proofs.Stepping.{lawful_told, shape_told}
+use Rattle.dst_pipes.proofs.Stepping.{lawful_told, few_told, shape_told}
 use Rattle.dst_pipes.proofs.steps.begin.Goals as goal
 
-head_told : (front : Front) (version prop : List ℕ) (sound : ℕ) → version ≡ front.version → prop ≡ front.prop →
-    sound ≡ front.frames * sound_bytes (shape_in front.prop) →
-    head_with version prop sound ≡ head_of front
-head_told front version prop sound a b c =
-    ap (λ v. head_with v prop sound) a ∙ ap (λ p. head_with front.version p sound) b ∙ ap (head_with front.version front.prop) c
+-- the head that is written is that of the front
+head_told : {channels : Shape} {frames bytes : ℕ} (front : Front) (version prop : List ℕ) → version ≡ front.version → prop ≡ front.prop →
+    channels ≡ shape_in front.prop → frames ≡ front.frames → bytes ≡ sound_bytes channels →
+    head_with version prop (frames * bytes) ≡ head_of front
+head_told {channels} {frames} {bytes} front version prop a b c d e =
+    ap₂ (λ v p. head_with v p (frames * bytes)) a b ∙ ap (head_with front.version front.prop) (ap₂ (λ n m. n * m) d (e ∙ ap sound_bytes c))
 
 pub unreachable-requires : goal.unreachable-requires
 unreachable-requires g c =
@@ -33,30 +35,20 @@ write_front-requires-clause-prop g c =
 
 pub write_front-requires-clause-most : goal.write_front-requires-clause-most
 write_front-requires-clause-most g c =
-    let t = c.requires.head in
-    let lawful = lawful_told t.0 _ _ _ _ t.1 in
-    let frames = lawful.frames in
-    let told = t.1.told in
-    let few : c.from.result ≤ 1000000 = omega (arith, frames, told, c.from.ensures) in
+    let few : c.from.result ≤ 1000000 = omega (arith, few_told _ _ _ _ _ c.requires.head.1, c.from.ensures) in
     let short : c.sound_bytes.result ≤ 112896 = omega (arith, c.sound_bytes.ensures.most) in
     let all = mul-le-mul few short in
     omega (arith, all)
 
 pub returns-in-Ok-write_front-clause-fewer : goal.returns-in-Ok-write_front-clause-fewer
 returns-in-Ok-write_front-clause-fewer g c =
-    let t = c.requires.head in
-    let lawful = lawful_told t.0 _ _ _ _ t.1 in
-    let frames = lawful.frames in
-    let told = t.1.told in
-    omega (arith, frames, told, c.in-Ok.ensures.told)
+    omega (arith, few_told _ _ _ _ _ c.requires.head.1, c.in-Ok.ensures.told)
 
 pub returns-in-Ok-write_front-clause-begun : goal.returns-in-Ok-write_front-clause-begun
 returns-in-Ok-write_front-clause-begun g c front told =
     let shape = c.in-Some.ensures.value ∙ told.shape in
-    let sound : c.from.result * c.sound_bytes.result ≡ front.frames * sound_bytes (shape_in front.prop) =
-    ap₂ (λ a b. a * b) (c.from.ensures ∙ told.told) (c.sound_bytes.ensures.bytes ∙ ap sound_bytes shape) in
-    let head = head_told front c.version.result.now c.prop.result.now _ (c.version.ensures told.taken front [] told.stands)
-    (c.prop.ensures told.taken front [] told.stands) sound in (
+    let head = head_told front _ _ (c.version.ensures told.taken front [] told.stands) (c.prop.ensures told.taken front [] told.stands) shape
+    (c.from.ensures ∙ told.told) c.sound_bytes.ensures.bytes in (
       record {
         channels = c.in-Ok.ensures.channels ∙ shape;
         scratch = c.in-Ok.ensures.scratch ∙ shape;
@@ -70,8 +62,6 @@ returns-in-Ok-write_front-clause-begun g c front told =
 pub returns-in-Err-write_front-clause-begun : goal.returns-in-Err-write_front-clause-begun
 returns-in-Err-write_front-clause-begun g c front told =
     let shape = c.in-Some.ensures.value ∙ told.shape in
-    let sound : c.from.result * c.sound_bytes.result ≡ front.frames * sound_bytes (shape_in front.prop) =
-    ap₂ (λ a b. a * b) (c.from.ensures ∙ told.told) (c.sound_bytes.ensures.bytes ∙ ap sound_bytes shape) in
-    let head = head_told front c.version.result.now c.prop.result.now _ (c.version.ensures told.taken front [] told.stands)
-    (c.prop.ensures told.taken front [] told.stands) sound in
+    let head = head_told front _ _ (c.version.ensures told.taken front [] told.stands) (c.prop.ensures told.taken front [] told.stands) shape
+    (c.from.ensures ∙ told.told) c.sound_bytes.ensures.bytes in
     stops_same (Unit {0}) _ _ _ _ _ head c.in-Err-write_front.ensures.written
