@@ -60,7 +60,7 @@ head_is n a b some h =
     ap (λ f. part k f (min b ((k + 1) * n) - f)) at ∙ ap (part k a) count
 
 -- the bytes end in that frame
-pub one_touched : (n a b : ℕ) → 0 < n → a < b → b ≤ a / n * n + n → touched n a b ≡ a / n ∷ []
+one_touched : (n a b : ℕ) → 0 < n → a < b → b ≤ a / n * n + n → touched n a b ≡ a / n ∷ []
 one_touched n a b some h fits =
     let k = a / n in
     let here = lies_in n a some in
@@ -152,5 +152,11 @@ pub count_is : (n a b : ℕ) → 0 < n → a ≤ b → counts_of (parts_between 
 count_is n a b some order = count_within n (b - a) a b some order (omega arith)
 
 -- bytes that fit behind a place in its frame end in that frame
-pub ends_in_frame : (n a count : ℕ) → 0 < n → a % n + count ≤ n → a + count ≤ a / n * n + n
+ends_in_frame : (n a count : ℕ) → 0 < n → a % n + count ≤ n → a + count ≤ a / n * n + n
 ends_in_frame n a count some fits = let here = lies_in n a some in omega (arith, here.begins, here.rest)
+
+-- so that they touch that frame alone
+pub part_touched : (n from count : ℕ) → 0 < count → from % n + count ≤ n → touched n from (from + count) ≡ from / n ∷ []
+part_touched n from count any fits =
+    let some : 0 < n = omega (arith, any, fits) in
+    one_touched n from (from + count) some (omega (arith, any)) (ends_in_frame n from count some fits)
