@@ -1,5 +1,5 @@
 -- The row is one of those that are held, or is put at the next place.
-use Rattle.std.proofs.Common.{◌≡◌, ◌+◌, ◌*◌, ◌<◌, ◌≤◌, ◌++◌, [], length, get_or, map, take, drop, ap, sym, subst, subst₂, ◌∙◌, arith}
+use Rattle.std.proofs.Common.{◌≡◌, ℕ, List, ◌∷◌, ◌+◌, ◌*◌, ◌<◌, ◌≤◌, ◌++◌, [], length, get_or, map, take, drop, ap, sym, subst, subst₂, ◌∙◌, arith}
 use Rattle.std.specs.List.{SwappedAt, Contains}
 use Rattle.std.proofs.lemmas.List.Elements.{Contains-get_or}
 use Rattle.std.proofs.lemmas.List.Edits.{length-swap}
@@ -98,7 +98,8 @@ invariant_of-self-2 c =
     let many = v.many in
     let q = put c in
     let filled : AreFilled p.channels p.sound.items c.provide-place.new.rows c.max-self-inside.result =
-    subst₂ (λ xs n. AreFilled p.channels xs c.provide-place.new.rows n) c.as_slice.ensures.value (sym c.max-self-inside.ensures) c.provide-place.ensures.filled in
+    subst₂ (λ xs n. AreFilled p.channels xs c.provide-place.new.rows n) c.as_slice.ensures.value (sym c.max-self-inside.ensures)
+    c.provide-place.ensures.filled in
     record {
       is_shape = v.is_shape;
       whole = v.whole;
@@ -152,27 +153,24 @@ returns-clause-there c = λ room there.
     ∙ sym (seen-at p.rows.items p.held k row asked q.4 (omega (arith, lt, q.2))) ∙ ap (λ w. get_or w.rows k asked) c.self.view_is ∙ there.2 in
     absurd (c.provide-place.ensures.first k row (omega (arith, lt, q.2, here)) is)
 
+-- rows that stay, as many as are in front of the next place, have the one that is asked for behind them
+one-behind : (c : goal.After-self-3-1) (old : List Predicted) → length old ≡ c.next_place-held.result →
+    let new = map predicted (take (c.next_place-held.result + 1) c.swap.new.self.items) in
+    ((k : ℕ) (other : Predicted) → k < length old → get_or new k other ≡ get_or old k other) →
+    new ≡ old ++ record { channel = c.args.channel; filter = c.args.filter.now } ∷ []
+one-behind c old long stay =
+    let new = map predicted (take (c.next_place-held.result + 1) c.swap.new.self.items) in
+    let more = seen-length c.swap.new.self.items (c.next_place-held.result + 1) (omega (arith, (put c).5)) in
+    one-more old new (record { channel = c.args.channel; filter = c.args.filter.now }) (omega (arith, more, long)) stay
+    (λ other. ap (λ n. get_or new n other) long ∙ returns-clause-is c other)
+
 pub returns-clause-made : goal.returns-clause-made
 returns-clause-made c = λ room absent.
-    let next = c.next_place-held.result in
-    let new = c.swap.new.self.items in
-    let q = put c in
-    let here = next-behind c room in
-    let after = map predicted (take (next + 1) new) in
-    let more = seen-length new (next + 1) (omega (arith, q.5)) in
-    one-more c.args.self.now.rows after (record { channel = c.args.channel; filter = c.args.filter.now }) (omega (arith, more, q.2, here))
-    (λ k other lt. returns-clause-stay c room k other lt) (λ other. ap (λ n. get_or after n other) (q.2 ∙ sym here) ∙ returns-clause-is c other)
+    one-behind c c.args.self.now.rows ((put c).2 ∙ sym (next-behind c room)) (λ k other lt. returns-clause-stay c room k other lt)
 
 pub returns-clause-full : goal.returns-clause-full
 returns-clause-full c = λ full.
-    let next = c.next_place-held.result in
-    let new = c.swap.new.self.items in
     let many = c.self.invariant.many in
     let shape = ap (λ w. w.channels.channels) c.self.view_is in
-    let q = put c in
-    let none : c.len.result ≤ c.self.inside.held = omega (arith, full, q.2) in
-    let first : next ≡ 0 = c.next_place-held.ensures.first none in
-    let after = map predicted (take (next + 1) new) in
-    let more = seen-length new (next + 1) (omega (arith, q.5)) in
-    one-more [] after (record { channel = c.args.channel; filter = c.args.filter.now }) (omega (arith, more, first)) (λ k other lt. absurd (omega (arith, lt)))
-    (λ other. ap (λ n. get_or after n other) (sym first) ∙ returns-clause-is c other)
+    let none : c.len.result ≤ c.self.inside.held = omega (arith, full, (put c).2) in
+    one-behind c [] (sym (c.next_place-held.ensures.first none)) (λ k other lt. absurd (omega (arith, lt)))
