@@ -1,3 +1,4 @@
+-- The correlations of the channels, one by one and joined.
 use Rattle.std.proofs.Common.{◌≡◌, ◌+◌, ◌<◌, ◌≤◌, ◌≢◌, ℤ, pos, ◌+ℤ◌, List, [], ◌∷◌, length, map, get_or, set, get_or-set_other, get_or-set_same}
 use Rattle.std.proofs.Common.{length-set, inl, inr, ap, sym, ◌∙◌, subst, arith}
 use Rattle.std.proofs.lemmas.Bool.{cases_lt}
@@ -33,10 +34,9 @@ pub add_lags-requires-clause-joint : goal.add_lags-requires-clause-joint
 add_lags-requires-clause-joint c = λ k. elim (cases_lt k 129) [
   | inl h ↦
       let f = c.args.channels in
-      let sound = c.args.sound.now in
       let n = c.loop-c.c in
       let is = c.loop-c.invariant.joint k h in
-      let most = joint-most f sound (range_with_len 0 n) k in
+      let most = joint-most f c.args.sound.now (range_with_len 0 n) k in
       let long = length-range_with_len 0 n in
       let few : n ≤ 6 = let six : f.channels ≤ 6 = c.count-c-end.ensures.shape.most in omega (arith, c.count-c-end.ensures.count) in
       let product = mul-le (length (range_with_len 0 n)) (samples f) 6 150528 (omega arith) (shape_most f c.count-c-end.ensures.shape) in
@@ -82,11 +82,10 @@ loop-c-preserved c =
 
 pub returns-clause-joint : goal.returns-clause-joint
 returns-clause-joint c =
-    let f = c.args.channels in
-    let sound = c.args.sound.now in
-    let all : c.loop-c.c ≡ f.channels = omega (arith, c.count-c-end.ensures.count) in
-    fill_by_all (λ k. joint_correlation f sound (channels_of f) k) c.loop-c.joint 129 (pos 0) c.loop-c.invariant.whole
-    (λ k h. c.loop-c.invariant.joint k h ∙ ap (λ n. joint_correlation f sound (range_with_len 0 n) k) all)
+    let joint = joint_correlation c.args.channels c.args.sound.now in
+    let all : c.loop-c.c ≡ c.args.channels.channels = omega (arith, c.count-c-end.ensures.count) in
+    fill_by_all (joint (channels_of c.args.channels)) c.loop-c.joint 129 (pos 0) c.loop-c.invariant.whole
+    (λ k h. c.loop-c.invariant.joint k h ∙ ap (λ n. joint (range_with_len 0 n) k) all)
 
 pub returns-clause-lawful : goal.returns-clause-lawful
 returns-clause-lawful c =
