@@ -47,14 +47,10 @@ pub returns-in-None-clause-none : goal.returns-in-None-clause-none
 returns-in-None-clause-none c =
     next-is c.before None c.in-None.ensures.none
 
--- the point of solving, seen from the end
-abbrev at_solve : goal.After-fit → After-solve
-at_solve c = c.before.before.before.before.before
-
 pub returns-in-Some-clause-some : goal.returns-in-Some-clause-some
 returns-in-Some-clause-some c =
     let rows = c.args.rows.now in
     let moves = c.in-Some.moves in
-    next-is (at_solve c) (Some (take (length rows) moves)) c.in-Some.ensures.some
+    next-is c.before.before.before.before.before (Some (take (length rows) moves)) c.in-Some.ensures.some
     ∙ ap (λ t. Some (fitted rows t)) (target-cut c.args.filter.now moves (length rows) c.in-Some.ensures.rest ∙ sym c.target.ensures.target)
     ∙ ap Some (sym c.fit.ensures)

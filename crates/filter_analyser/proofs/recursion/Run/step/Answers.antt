@@ -18,10 +18,7 @@ returns-then-unsigned_abs-clause-state c =
 
 -- what the code makes of the state, with the error as it falls
 abbrev next-state : After-has_large → State
-next-state c = record {
-  error = fallen c.self.inside.error c.next_value-next_value.result;
-  values = take (c.self.inside.steps + 1) c.move_values.new.next;
-}
+next-state c = record { error = fallen c.self.inside.error c.next_value-next_value.result; values = take (c.self.inside.steps + 1) c.move_values.new.next }
 
 -- it is the next state, and the old one stays where a value is too great; the value that is added is small
 next-made : (c : After-has_large) → (nat_abs c.next_value-next_value.result < 2 ^ 24)
@@ -53,8 +50,7 @@ at_test c = c.before.before.before.before.before.before.before.before
 pub returns-clause-state : goal.returns-clause-state
 returns-clause-state c =
     let r = c.self.inside in
-    let tested = at_test c in
-    let made = next-made tested in
+    let made = next-made (at_test c) in
     let fell = fallen-held (record { error = r.error; values = take r.steps r.values }) c.next_value-next_value.result c.fallen-self-inside.result
     c.self.invariant.1 made.0 c.fallen-self-inside.ensures.fallen c.fallen-self-inside.ensures.least c.fallen-self-inside.ensures.most in
-    rw (fell, c.copy_first.ensures.first) (sym (made.1 ∙ ap (λ b. cond b c.args.self.now (next-state tested)) c.if-has_large.false))
+    rw (fell, c.copy_first.ensures.first) (sym (made.1 ∙ ap (λ b. cond b c.args.self.now (next-state (at_test c))) c.if-has_large.false))
