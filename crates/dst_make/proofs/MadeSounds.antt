@@ -10,7 +10,7 @@ use Rattle.dsdiff_spec.specs.Form.{shape_of}
 use Rattle.dsdiff_spec.specs.Made.{fver, prop_of, made, made_samples, made_sound, plain_form}
 use Rattle.dsdiff_spec.specs.Written.{chunk, cmpr_plain}
 use Rattle.dsdiff_spec.proofs.MadeLengths.{prop_is_long, sound_is_long, sound_chunk}
-use Rattle.sound_maker.specs.Making.{frame_of, maker_after}
+use Rattle.sound_maker.specs.Making.{Maker, frame_of, maker_after}
 use Rattle.sound_maker.proofs.Making.{one_frame_more}
 use Rattle.dst_streams.specs.Told.{and_then, IsCutShort, IsSure}
 use Rattle.dst_commands.specs.Writing.{Adds, Stops}
@@ -41,15 +41,19 @@ behind_frames start k (suc more) f =
           ∙ append_assoc (made_sound start k f) before.0 frame,
     )
 
+-- the frame that the maker gives, behind the frames before it
+pub with_frame : (start k : ℕ) (f : Shape) {maker : Maker} {frame : List ℕ} → maker ≡ maker_after start k f → frame ≡ frame_of maker →
+    made_sound start k f ++ frame ≡ made_sound start (k + 1) f
+with_frame start k f is e = ap (λ w. made_sound start k f ++ w) (e ∙ ap frame_of is) ∙ sym (one_frame_more start k f)
+
 -- a sink that stops in a frame
 pub stops_in_frame : (start k frames : ℕ) (f : Shape) (old new : Option (List ℕ)) (room : Option ℕ) → k < frames →
-    Stops (Unit {0}) (made_sound start k f ++ frame_of (maker_after start k f)) old new room → Stops (Unit {0}) (made_sound start frames f) old new room
+    Stops (Unit {0}) (made_sound start (k + 1) f) old new room → Stops (Unit {0}) (made_sound start frames f) old new room
 stops_in_frame start k frames f old new room below s =
     let rest = behind_frames start (k + 1) (frames - (k + 1)) f in
     let all : k + 1 + (frames - (k + 1)) ≡ frames = omega arith in
-    let here = stops_same (Unit {0}) _ (made_sound start (k + 1) f) old new room (sym (one_frame_more start k f)) s in
     stops_same (Unit {0}) (made_sound start (k + 1) f ++ rest.0) (made_sound start frames f) old new room (sym rest.1 ∙ ap (λ n. made_sound start n f) all)
-    (stops_first (Unit {0}) (made_sound start (k + 1) f) rest.0 old new room here)
+    (stops_first (Unit {0}) (made_sound start (k + 1) f) rest.0 old new room s)
 
 -- ---- the file around it
 -- the pieces in front of the sound: the numbers in them, and the ids of the channels
