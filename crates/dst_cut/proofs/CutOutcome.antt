@@ -59,27 +59,28 @@ bytes_are file first last c is =
     ∙ ap (λ n. cutting.cut file (coded_seen c.form) n last) (sym is.first_is)
     ∙ ap (λ n. cutting.cut file (coded_seen c.form) c.first n) (sym is.last_is)
 
-pub cut_outcome : (file : List ℕ) (first last : ℕ) (c : CutForm) (frames : ℕ) → refusal (words.cut first last) file ≡ None →
+pub cut_outcome : (file : List ℕ) (first last : ℕ) (c : CutForm) (frames : ℕ) → form_refusal (words.cut first last) file ≡ None →
     IsCutForm first last file c → frames ≡ c.last + 1 - c.first →
     OutcomeOf (words.cut first last) file (done (cut_bytes file c) (cut_line frames ∷ []))
 cut_outcome file first last c frames none is e =
     let line : last + 1 - first ≡ frames = ap (λ n. n + 1 - first) (sym is.last_is) ∙ ap (λ n. c.last + 1 - n) (sym is.first_is) ∙ sym e in
     subst (λ w. OutcomeOf (words.cut first last) file (done w (cut_line frames ∷ []))) (bytes_are file first last c is)
     (subst (λ n. OutcomeOf (words.cut first last) file (done (cutting.cut file (accepted file) first last) (cut_line n ∷ []))) line
-    (is_outcome file first last none))
+    (is_outcome file first last (rules_of_cut first last file ∙ none)))
 
 -- ---- a device that failed
 pub cut_stopped : (P : Type 0) (file : List ℕ) (first last : ℕ) (c : CutForm) (old new : Option (List ℕ)) (room : Option ℕ) →
-    refusal (words.cut first last) file ≡ None → IsCutForm first last file c →
+    form_refusal (words.cut first last) file ≡ None → IsCutForm first last file c →
     Stops P (cut_bytes file c) old new room → (o : Answer) × OutcomeOf (words.cut first last) file o × IsCutShort old o.out new
 cut_stopped P file first last c old new room none is s =
     (done (cut_bytes file c) (cut_line (c.last + 1 - c.first) ∷ []), cut_outcome file first last c (c.last + 1 - c.first) none is refl, s.cut)
 
 pub cut_lacks : (P : Type 0) (file : List ℕ) (first last : ℕ) (c : CutForm) (old new : Option (List ℕ)) (room : Option ℕ) →
-    refusal (words.cut first last) file ≡ None → IsCutForm first last file c → P →
+    form_refusal (words.cut first last) file ≡ None → IsCutForm first last file c → P →
     Stops P (cut_bytes file c) old new room → (o : Answer) → OutcomeOf (words.cut first last) file o → Lacks room (length o.out)
 cut_lacks P file first last c old new room none is p s o h =
-    let out : o.out ≡ cut_bytes file c = ap (λ (a : Answer). a.out) (only_outcome file first last o none h) ∙ bytes_are file first last c is in
+    let out : o.out ≡ cut_bytes file c = ap (λ (a : Answer). a.out) (only_outcome file first last o (rules_of_cut first last file ∙ none) h)
+    ∙ bytes_are file first last c is in
     subst (λ w. Lacks room (length w)) (sym out) (s.lacks p)
 
 pub cut_nothing : (file : List ℕ) (first last : ℕ) (told : Option (List ℕ)) → (o : Answer) × OutcomeOf (words.cut first last) file o

@@ -39,21 +39,17 @@ returns-clause-refused g c file told fault e =
 pub returns-in-Ok-write_cut-clause-cut : goal.returns-in-Ok-write_cut-clause-cut
 returns-in-Ok-write_cut-clause-cut g c file told =
     let cut = c.in-Ok.cut in
-    let is = c.in-Ok.ensures.opened file told in
-    let none = rules_of_cut c.args.first c.args.last file ∙ c.in-Ok.ensures.accepted file told in (
+    let is = c.in-Ok.ensures.opened file told in (
       cut_bytes file cut,
-      cut_outcome file c.args.first c.args.last cut c.count.result none is c.count.ensures.count,
+      cut_outcome file c.args.first c.args.last cut c.count.result (c.in-Ok.ensures.accepted file told) is c.count.ensures.count,
       c.in-Ok-write_cut.ensures.written file (c.in-Ok.ensures.bytes ∙ told) is.entries_are,
     )
 
 pub returns-clause-cut_short : goal.returns-clause-cut_short
 returns-clause-cut_short g c e file told =
-    let cut = c.in-Ok.cut in
     let is = c.in-Ok.ensures.opened file told in
-    let none = rules_of_cut c.args.first c.args.last file ∙ c.in-Ok.ensures.accepted file told in
-    let ends = c.in-Err-write_cut.ensures.written file (c.in-Ok.ensures.bytes ∙ told) is.entries_are in
-    cut_stopped (c.in-Err-write_cut.fault ≡ Write) file c.args.first c.args.last cut (g.K.Sink.written c.args.sink.now)
-    (g.K.Sink.written c.write_cut.new.sink) (g.K.Sink.room c.args.sink.now) none is ends
+    cut_stopped (c.in-Err-write_cut.fault ≡ Write) file c.args.first c.args.last c.in-Ok.cut _ _ _ (c.in-Ok.ensures.accepted file told) is
+    (c.in-Err-write_cut.ensures.written file (c.in-Ok.ensures.bytes ∙ told) is.entries_are)
 
 -- the fault is that of the sink
 of_fault : (a b : CutFault) → ◌≡◌ {A = Result Cut CutFault} (Err a) (Err b) → a ≡ b
@@ -61,12 +57,9 @@ of_fault a b e = cc
 
 pub returns-clause-sure : goal.returns-clause-sure
 returns-clause-sure g c e file told =
-    let cut = c.in-Ok.cut in
     let is = c.in-Ok.ensures.opened file told in
-    let none = rules_of_cut c.args.first c.args.last file ∙ c.in-Ok.ensures.accepted file told in
-    let ends = c.in-Err-write_cut.ensures.written file (c.in-Ok.ensures.bytes ∙ told) is.entries_are in
-    cut_lacks (c.in-Err-write_cut.fault ≡ Write) file c.args.first c.args.last cut (g.K.Sink.written c.args.sink.now)
-    (g.K.Sink.written c.write_cut.new.sink) (g.K.Sink.room c.args.sink.now) none is (of_fault c.in-Err-write_cut.fault Write e) ends
+    cut_lacks (c.in-Err-write_cut.fault ≡ Write) file c.args.first c.args.last c.in-Ok.cut _ _ _ (c.in-Ok.ensures.accepted file told) is (of_fault _ _ e)
+    (c.in-Err-write_cut.ensures.written file (c.in-Ok.ensures.bytes ∙ told) is.entries_are)
 
 pub returns-in-Ok-write_cut-clause-given : goal.returns-in-Ok-write_cut-clause-given
 returns-in-Ok-write_cut-clause-given g c file told =
