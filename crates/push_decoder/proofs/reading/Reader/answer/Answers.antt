@@ -1,3 +1,4 @@
+-- What is due of the bytes that are taken, at each stage.
 use Rattle.std.proofs.Common.{rules, [], ◌<◌, ◌≡◌, ◌∙◌, ap, sym, refl, true, arith}
 use Rattle.dsdiff_chunks.specs.Seen.{head_seen}
 use Rattle.push_decoder.specs.declared.stage.Stage.TheVariants.{Opened, FrameWhole, Ended, Refused}
@@ -13,9 +14,8 @@ use Rattle.push_decoder.proofs.reading.Reader.answer.Goals as goal
 pub returns-in-Opened-clause-event : goal.returns-in-Opened-clause-event
 returns-in-Opened-clause-event c taken answered has piece count =
     let i = c.self.inside in
-    let old : HasRead (reading i.stage i.taken i.part i.frame i.version i.prop) taken answered = rw (← c.self.view_is) at has in
     let here : HasRead (reading (Opened c.in-Opened.sound c.in-Opened.place) i.taken i.part i.frame i.version i.prop) taken answered =
-    rw c.in-Opened.is at old in (
+    rw (← c.self.view_is, c.in-Opened.is) at has in (
       front_with c.in-Opened.sound i.version i.prop.bytes,
       opened_event c.in-Opened.sound c.in-Opened.place i.taken i.part i.frame i.prop i.version taken answered here,
       here.tells,
@@ -25,9 +25,8 @@ returns-in-Opened-clause-event c taken answered has piece count =
 pub returns-in-Opened-clause-read : goal.returns-in-Opened-clause-read
 returns-in-Opened-clause-read c taken answered has =
     let i = c.self.inside in
-    let old : HasRead (reading i.stage i.taken i.part i.frame i.version i.prop) taken answered = rw (← c.self.view_is) at has in
     let here : HasRead (reading (Opened c.in-Opened.sound c.in-Opened.place) i.taken i.part i.frame i.version i.prop) taken answered =
-    rw c.in-Opened.is at old in
+    rw (← c.self.view_is, c.in-Opened.is) at has in
     let kept : IsReader (reading (Opened c.in-Opened.sound c.in-Opened.place) i.taken i.part i.frame i.version i.prop) =
     rw c.in-Opened.is at c.self.invariant in
     opened_read c.in-Opened.sound c.in-Opened.place i.taken i.part i.frame i.prop i.version taken answered c.sound_at-self-inside.result here
@@ -38,9 +37,8 @@ pub returns-in-FrameWhole-clause-event : goal.returns-in-FrameWhole-clause-event
 returns-in-FrameWhole-clause-event c taken answered has piece count =
     let i = c.self.inside in
     let h = head_seen c.in-FrameWhole.head in
-    let old : HasRead (reading i.stage i.taken i.part i.frame i.version i.prop) taken answered = rw (← c.self.view_is) at has in
     let here : HasRead (reading (FrameWhole c.in-FrameWhole.sound c.in-FrameWhole.head) i.taken i.part i.frame i.version i.prop) taken answered =
-    rw c.in-FrameWhole.is at old in
+    rw (← c.self.view_is, c.in-FrameWhole.is) at has in
     let kept : IsReader (reading (FrameWhole c.in-FrameWhole.sound c.in-FrameWhole.head) i.taken i.part i.frame i.version i.prop) =
     rw c.in-FrameWhole.is at c.self.invariant in (
       frame_is_due taken i.frame.bytes i.version i.prop.bytes answered c.in-FrameWhole.sound h c.frame_past-self-inside.result here.at_stage here.goes_on
@@ -53,9 +51,8 @@ pub returns-in-FrameWhole-clause-read : goal.returns-in-FrameWhole-clause-read
 returns-in-FrameWhole-clause-read c taken answered has =
     let i = c.self.inside in
     let h = head_seen c.in-FrameWhole.head in
-    let old : HasRead (reading i.stage i.taken i.part i.frame i.version i.prop) taken answered = rw (← c.self.view_is) at has in
     let here : HasRead (reading (FrameWhole c.in-FrameWhole.sound c.in-FrameWhole.head) i.taken i.part i.frame i.version i.prop) taken answered =
-    rw c.in-FrameWhole.is at old in
+    rw (← c.self.view_is, c.in-FrameWhole.is) at has in
     let kept : IsReader (reading (FrameWhole c.in-FrameWhole.sound c.in-FrameWhole.head) i.taken i.part i.frame i.version i.prop) =
     rw c.in-FrameWhole.is at c.self.invariant in
     frame_read i.taken i.part i.frame i.prop i.version taken i.frame.bytes answered c.in-FrameWhole.sound h c.frame_past-self-inside.result here.at_stage
@@ -68,8 +65,7 @@ returns-in-FrameWhole-clause-read c taken answered has =
 pub returns-in-Ended-clause-event : goal.returns-in-Ended-clause-event
 returns-in-Ended-clause-event c taken answered has piece count =
     let i = c.self.inside in
-    let old : HasRead (reading i.stage i.taken i.part i.frame i.version i.prop) taken answered = rw (← c.self.view_is) at has in
-    let here : HasRead (reading Ended i.taken i.part i.frame i.version i.prop) taken answered = rw c.in-Ended.is at old in
+    let here : HasRead (reading Ended i.taken i.part i.frame i.version i.prop) taken answered = rw (← c.self.view_is, c.in-Ended.is) at has in
     ended_event i.taken i.part i.frame i.prop i.version taken answered here
 
 pub returns-in-Ended-clause-read : goal.returns-in-Ended-clause-read
@@ -78,8 +74,8 @@ returns-in-Ended-clause-read c taken answered has = rw (returns-in-Ended-clause-
 pub returns-in-Refused-clause-event : goal.returns-in-Refused-clause-event
 returns-in-Refused-clause-event c taken answered has piece count =
     let i = c.self.inside in
-    let old : HasRead (reading i.stage i.taken i.part i.frame i.version i.prop) taken answered = rw (← c.self.view_is) at has in
-    let here : HasRead (reading (Refused c.in-Refused.fault) i.taken i.part i.frame i.version i.prop) taken answered = rw c.in-Refused.is at old in
+    let here : HasRead (reading (Refused c.in-Refused.fault) i.taken i.part i.frame i.version i.prop) taken answered =
+    rw (← c.self.view_is, c.in-Refused.is) at has in
     refused_event c.in-Refused.fault i.taken i.part i.frame i.prop i.version taken answered here
 
 pub returns-in-Refused-clause-read : goal.returns-in-Refused-clause-read
