@@ -1,8 +1,7 @@
 -- The loop writes entry by entry.
-use Rattle.std.proofs.Common.{◌+◌, ◌++◌, take, get_or, flat_map, ap, ◌∙◌, arith}
+use Rattle.std.proofs.Common.{◌+◌, ◌++◌, take, flat_map, ap, ◌∙◌, arith}
 use Rattle.std.proofs.lemmas.List.{take_all}
 use Rattle.std.proofs.lemmas.List.Sums.{sum_by_more}
-use Rattle.byteorder.specs.Endian.{big_bytes}
 use Rattle.dsdiff_spec.specs.Written.{dsti}
 use Rattle.dsdiff_spec.proofs.ByteLists.{entry_bytes}
 use Rattle.dst_commands.proofs.Writing.{added, cut_off, adds_same, adds_then, stops_same, stops_first, stops_then, stops_in}
@@ -22,21 +21,17 @@ returns-in_default-write_entry-clause-written g c =
     let sizes = c.args.sizes.now in
     let i = c.loop-size.size-index in
     let first = c.args.first in
-    let front = dsti_head sizes ++ flat_map entry_bytes (entries_by first (take i sizes)) in
-    let entry = big_bytes 8 (c.loop-size.place + 12) ++ big_bytes 4 (get_or sizes i 0) in
     stops_in (Unit {0}) (dsti (entries_by first sizes)) (dsti_head sizes ++ flat_map entry_bytes (entries_by first (take (i + 1) sizes))) _ _ _
     (begins_with_entries first sizes (i + 1))
     (stops_same (Unit {0}) _ _ _ _ _ (head_and_more first sizes i 0 c.loop-size.place c.loop-size-test.true c.loop-size.invariant.place)
-    (stops_then (Unit {0}) front entry _ _ _ _ _ c.loop-size.invariant.written
-    (cut_off _ entry _ _ _ _ c.in_default-write_entry.ensures.sure c.in_default-write_entry.ensures.written)))
+    (stops_then (Unit {0}) _ _ _ _ _ _ _ c.loop-size.invariant.written
+    (cut_off _ _ _ _ _ _ c.in_default-write_entry.ensures.sure c.in_default-write_entry.ensures.written)))
 
 pub loop-size-preserved : goal.loop-size-preserved
 loop-size-preserved g c =
     let sizes = c.args.sizes.now in
     let i = c.loop-size.size-index in
     let first = c.args.first in
-    let front = dsti_head sizes ++ flat_map entry_bytes (entries_by first (take i sizes)) in
-    let entry = big_bytes 8 (c.loop-size.place + 12) ++ big_bytes 4 (get_or sizes i 0) in
     record {
       place = omega (arith, c.loop-size.invariant.place, c.chunk_size-place.ensures, sum_by_more chunk_size sizes i 0 c.loop-size-test.true);
       most = omega (arith, c.loop-size.invariant.most, c.chunk_size-place.ensures, c.type_inv.sizes i);
@@ -44,8 +39,8 @@ loop-size-preserved g c =
       faults = omega (arith, c.loop-size.invariant.faults, c.in-Ok-write_entry.ensures.cause.later);
       written =
           adds_same _ _ _ _ _ _ (head_and_more first sizes i 0 c.loop-size.place c.loop-size-test.true c.loop-size.invariant.place)
-          (adds_then front entry _ _ _ _ _ _ c.loop-size.invariant.written
-          (added _ entry _ _ _ _ c.in-Ok-write_entry.ensures.sure c.in-Ok-write_entry.ensures.written));
+          (adds_then _ _ _ _ _ _ _ _ c.loop-size.invariant.written
+          (added _ _ _ _ _ _ c.in-Ok-write_entry.ensures.sure c.in-Ok-write_entry.ensures.written));
     }
 
 pub returns-clause-written : goal.returns-clause-written
