@@ -1,8 +1,8 @@
 -- The next frame lies in the source, and has room in the job.
-use Rattle.std.proofs.Common.{◌≡◌, ◌<◌, max, length, take, vec_capacity, refl, ap, sym, ◌∙◌, arith}
+use Rattle.std.proofs.Common.{◌≡◌, ◌<◌, max, length, take, vec_capacity, refl, ap, ◌∙◌, arith}
 use Rattle.dsdiff_spec.specs.Walk.{Entry, frame_at}
 use Rattle.frame_index.specs.Entries.{entry_seen}
-use Rattle.dst_read.proofs.Framing.{lent_whole}
+use Rattle.std.proofs.lemmas.List.{with_items_is}
 use Rattle.dst_read.proofs.Once.{next_left}
 use Rattle.dst_read.proofs.Shapes.{can_read, refilled}
 use Rattle.dst_read.proofs.feed.StoredFramesFeedJob.fill.Goals as goal
@@ -35,10 +35,9 @@ returns-clause-job_shape g c =
     c.entry-entry.ensures in
     let frame = c.lengthen.new.frame in
     let size = c.entry-entry.result.size in
-    let same : length c.read_frame.new.frame ≡ length frame.items = c.read_frame.ensures.long ∙ ap length c.deref_mut.ensures.value in
-    let whole = lent_whole frame.len _ c.read_frame.new.frame frame.items refl (sym c.deref_mut.ensures.len ∙ ap length c.deref_mut.ensures.value) same in
+    let whole = with_items_is frame c.read_frame.new.frame (c.read_frame.ensures.long ∙ c.deref_mut.ensures.len) in
     let long : length c.read_frame.new.frame ≡ max (length job.frame.items) size =
-    omega (arith, same, c.lengthen.ensures.long, frame.ok.0, job.frame.ok.0) in
+    omega (arith, c.read_frame.ensures.long, c.deref_mut.ensures.len, c.lengthen.ensures.long, job.frame.ok.0) in
     refilled known self job (entry_seen c.entry-entry.result) size _ (vec_capacity frame) c.requires can (omega arith) (ap length whole ∙ long)
     c.lengthen.ensures.room
 
@@ -51,10 +50,9 @@ returns-in-Err-clause-job_shape g c =
     c.entry-entry.ensures in
     let frame = c.lengthen.new.frame in
     let size = c.entry-entry.result.size in
-    let same : length c.read_frame.new.frame ≡ length frame.items = c.read_frame.ensures.long ∙ ap length c.deref_mut.ensures.value in
-    let whole = lent_whole frame.len _ c.read_frame.new.frame frame.items refl (sym c.deref_mut.ensures.len ∙ ap length c.deref_mut.ensures.value) same in
+    let whole = with_items_is frame c.read_frame.new.frame (c.read_frame.ensures.long ∙ c.deref_mut.ensures.len) in
     let long : length c.read_frame.new.frame ≡ max (length job.frame.items) size =
-    omega (arith, same, c.lengthen.ensures.long, frame.ok.0, job.frame.ok.0) in
+    omega (arith, c.read_frame.ensures.long, c.deref_mut.ensures.len, c.lengthen.ensures.long, job.frame.ok.0) in
     refilled known self job (entry_seen c.entry-entry.result) job.size _ (vec_capacity frame) c.requires can (omega (arith, can.has.short))
     (ap length whole ∙ long) c.lengthen.ensures.room
 
@@ -66,8 +64,7 @@ returns-clause-given g c =
     let next : self.next < length index = omega (arith, c.if-self-length.false, c.length.ensures.length) in
     let size = ap (λ (e : Entry). e.size) c.entry-entry.ensures in
     let frame = c.lengthen.new.frame in
-    let same : length c.read_frame.new.frame ≡ length frame.items = c.read_frame.ensures.long ∙ ap length c.deref_mut.ensures.value in
-    let whole = lent_whole frame.len _ c.read_frame.new.frame frame.items refl (sym c.deref_mut.ensures.len ∙ ap length c.deref_mut.ensures.value) same in
+    let whole = with_items_is frame c.read_frame.new.frame (c.read_frame.ensures.long ∙ c.deref_mut.ensures.len) in
     λ given. record {
       same = record {
         lent = refl;
