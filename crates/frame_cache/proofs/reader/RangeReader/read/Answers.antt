@@ -1,5 +1,5 @@
 -- Frame by frame the buffer is filled; a frame that can't be had leaves what was wanted before it.
-use Rattle.std.proofs.Common.{rules, ◌≡◌, ℕ, ◌+◌, ◌-◌, ◌*◌, ◌/◌, ◌<◌, ◌≤◌, List, [], ◌∷◌, ◌++◌, length, take, Some, Err, Result, refl, ap, sym, subst}
+use Rattle.std.proofs.Common.{◌≡◌, ◌+◌, ◌-◌, ◌*◌, ◌/◌, ◌<◌, ◌++◌, length, take, Err, ap, sym, subst}
 use Rattle.std.proofs.Common.{◌∙◌, arith}
 use Rattle.std.specs.Prelude.{min, max}
 use Rattle.std.specs.List.{range_with_len}
@@ -56,21 +56,18 @@ front-requires g c =
 pub overflow_mul-frame : goal.overflow_mul-frame
 overflow_mul-frame g c =
     let at = c.end_of_touched-end.ensures.each c.loop-frame.frame c.loop-frame.auto.frame c.loop-frame-test.true in
-    let small = size_is_small c.args.self.now c.frame_bytes-bytes.result c.frame_bytes-bytes.ensures.together c.frame_bytes-bytes.ensures.bytes
-    c.frame_bytes-bytes.ensures.most in
+    let small = size_is_small _ _ c.frame_bytes-bytes.ensures.together c.frame_bytes-bytes.ensures.bytes c.frame_bytes-bytes.ensures.most in
     omega (arith, at.0, small, c.requires.within)
 
 pub copy_part-requires-clause-fits : goal.copy_part-requires-clause-fits
 copy_part-requires-clause-fits g c =
-    let small = size_is_small c.args.self.now c.frame_bytes-bytes.result c.frame_bytes-bytes.ensures.together c.frame_bytes-bytes.ensures.bytes
-    c.frame_bytes-bytes.ensures.most in
+    let small = size_is_small _ _ c.frame_bytes-bytes.ensures.together c.frame_bytes-bytes.ensures.bytes c.frame_bytes-bytes.ensures.most in
     omega (arith, small, c.requires.within, c.loop-frame.invariant.long)
 
 pub copy_part-requires-clause-sound_fits : goal.copy_part-requires-clause-sound_fits
 copy_part-requires-clause-sound_fits g c =
     let at = c.end_of_touched-end.ensures.each c.loop-frame.frame c.loop-frame.auto.frame c.loop-frame-test.true in
-    let small = size_is_small c.args.self.now c.frame_bytes-bytes.result c.frame_bytes-bytes.ensures.together c.frame_bytes-bytes.ensures.bytes
-    c.frame_bytes-bytes.ensures.most in
+    let small = size_is_small _ _ c.frame_bytes-bytes.ensures.together c.frame_bytes-bytes.ensures.bytes c.frame_bytes-bytes.ensures.most in
     let same = ap (λ (x : Reader). sound_bytes x.shape) (c.in-Ok.ensures.wanted.same ∙ ap (λ (x : Reader). record x { kept = c.bring.new.self.kept })
     c.loop-frame.invariant.wanted.same) in
     omega (arith, at.0, small, c.requires.within, c.front.ensures.long, same, c.frame_bytes-bytes.ensures.bytes, c.frame_bytes-bytes.ensures.most)
