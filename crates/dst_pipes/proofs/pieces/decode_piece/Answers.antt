@@ -1,6 +1,5 @@
 -- What the loop over the steps of a piece leaves, by what the last step says of the rest.
-use Rattle.std.proofs.Common.{◌≡◌, ◌+◌, ◌++◌, take, None, Ok, ap, subst, ◌∙◌, arith}
-use Rattle.dsdiff_spec.specs.Streams.{stream}
+use Rattle.std.proofs.Common.{◌+◌, Ok, ap, subst, ◌∙◌, arith}
 use Rattle.push_decoder.proofs.Short.{rest_of, and_more}
 use Rattle.dst_pipes.specs.Steps.{Waits, GoesOn, HasCome}
 use Rattle.dst_pipes.proofs.Moved.{of_step, step_stays, stops_moved, whole_piece}
