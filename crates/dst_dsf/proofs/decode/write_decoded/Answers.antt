@@ -1,5 +1,5 @@
 -- The head, the rows, and the sink is settled.
-use Rattle.std.proofs.Common.{◌≡◌, ℕ, ◌≤◌, List, refl, sym, ap, subst, ◌∙◌, arith}
+use Rattle.std.proofs.Common.{◌≡◌, ℕ, List, refl, ap, arith}
 use Rattle.dst_spec.specs.Sample.{Shape, IsShape}
 use Rattle.dsdiff_chunks.specs.Forms.{coded_seen}
 use Rattle.dsf_files.specs.Forms.{dsf_seen}

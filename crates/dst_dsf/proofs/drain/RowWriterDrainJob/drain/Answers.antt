@@ -1,5 +1,5 @@
 -- What is taken is the part of the sound that is left.
-use Rattle.std.proofs.Common.{◌≡◌, ℕ, List, ◌+◌, ◌-◌, ◌++◌, take, length, refl, sym, ap, ap₂, subst, ◌∙◌}
+use Rattle.std.proofs.Common.{◌≡◌, ℕ, List, ◌+◌, ◌-◌, ◌++◌, take, length, sym, ap, ap₂, subst, ◌∙◌}
 use Rattle.std.specs.Prelude.{min}
 use Rattle.dsf_files.specs.Forms.{dsf_seen}
 use Rattle.dst_read.specs.declared.jobs.Job.{Job}
