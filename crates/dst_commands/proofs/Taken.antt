@@ -102,6 +102,13 @@ one_more_taken side form xs j d is l =
 pub taken_if : (side : Side) (form : Form) (h : Head) → goes side form h ≡ true → taken_of side form h ≡ whole_end form h - h.place
 taken_if side form h is = ap (λ b. if b then whole_end form h - h.place else 0) is
 
+-- a chunk that goes is taken whole
+pub one_gone_taken : (side : Side) (form : Form) (xs : List ChunkHead) (j : ℕ) (d : ChunkHead) → form.chunks ≡ map head_seen xs → j < length xs →
+    goes side form (head_seen (get_or xs j d)) ≡ true → taken side form (drop j form.chunks)
+    ≡ whole_end form (head_seen (get_or xs j d)) - (head_seen (get_or xs j d)).place + taken side form (drop (j + 1) form.chunks)
+one_gone_taken side form xs j d is l is_gone =
+    one_more_taken side form xs j d is l ∙ ap (λ n. n + taken side form (drop (j + 1) form.chunks)) (taken_if side form (head_seen (get_or xs j d)) is_gone)
+
 -- both sides of the sound and the sound are no more than the form
 pub parts_of_form : (form : Form) → IsLawful form → bytes_on Before form + form.sound.size + bytes_on Behind form ≤ form.end
 parts_of_form form lawful = omega (arith, sound_inside form lawful)

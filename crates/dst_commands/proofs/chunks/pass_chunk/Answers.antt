@@ -20,22 +20,19 @@ write_prop-requires g c =
 
 pub returns-in-Ok-clause-appended : goal.returns-in-Ok-clause-appended
 returns-in-Ok-clause-appended g c file fits =
-    let is = passed_prop file (form_of c.args.passed.now) (head_seen c.args.head.now)
-    (cmpr_of c.args.passed.now) c.prop.result.now c.in-Some.cmpr.now c.in-Some.ensures c.prop.ensures in
+    let is = passed_prop file (form_of c.args.passed.now) (head_seen c.args.head.now) _ _ _ c.in-Some.ensures c.prop.ensures in
     let more = ap length is in
     omega (arith, c.in-Ok.ensures.appended, more)
 
 pub returns-in-Ok-clause-written : goal.returns-in-Ok-clause-written
 returns-in-Ok-clause-written g c file told =
-    let is = passed_prop file (form_of c.args.passed.now) (head_seen c.args.head.now)
-    (cmpr_of c.args.passed.now) c.prop.result.now c.in-Some.cmpr.now c.in-Some.ensures c.prop.ensures in
+    let is = passed_prop file (form_of c.args.passed.now) (head_seen c.args.head.now) _ _ _ c.in-Some.ensures c.prop.ensures in
     adds_same (prop_with c.prop.result.now c.in-Some.cmpr.now) (bytes_of file c.args.passed.now (head_seen c.args.head.now)) _ _ _ _ is
     (added _ (prop_with c.prop.result.now c.in-Some.cmpr.now) _ _ _ _ c.in-Ok.ensures.sure c.in-Ok.ensures.written)
 
 pub returns-in-Err-clause-written : goal.returns-in-Err-clause-written
 returns-in-Err-clause-written g c file told =
-    let is = passed_prop file (form_of c.args.passed.now) (head_seen c.args.head.now)
-    (cmpr_of c.args.passed.now) c.prop.result.now c.in-Some.cmpr.now c.in-Some.ensures c.prop.ensures in
+    let is = passed_prop file (form_of c.args.passed.now) (head_seen c.args.head.now) _ _ _ c.in-Some.ensures c.prop.ensures in
     stops_same (CopyFault.Write ≡ CopyFault.Write) (prop_with c.prop.result.now c.in-Some.cmpr.now)
     (bytes_of file c.args.passed.now (head_seen c.args.head.now)) _ _ _ is
     (stops_for (Unit {0}) (CopyFault.Write ≡ CopyFault.Write) _ _ _ _ (λ e. tt {0})

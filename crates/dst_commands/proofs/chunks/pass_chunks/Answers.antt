@@ -7,7 +7,7 @@ use Rattle.dst_commands.specs.Passing.{form_of, bytes_of, all_of}
 use Rattle.dst_commands.proofs.Writing.{adds_same, adds_then, stops_same, stops_then, stops_in}
 use Rattle.dsdiff_chunks.proofs.LawfulForms.{head_inside}
 use Rattle.dst_commands.proofs.PassedOn.{failed_since, lent_is_lawful, passed_to, one_more_passed, one_more_left, passed_all_of, begins_with_some}
-use Rattle.dst_commands.proofs.Taken.{one_more_taken, taken_if, taken_on_side}
+use Rattle.dst_commands.proofs.Taken.{one_more_taken, one_gone_taken, taken_on_side}
 use Rattle.dst_commands.proofs.chunks.pass_chunks.Goals as goal
 
 abbrev none : ChunkHead
@@ -53,12 +53,9 @@ loop-head-preserved g c = record {
   source_later = omega (arith, c.in_default.ensures.source_later, c.loop-head.invariant.source_later);
   sink_later = omega (arith, c.in_default.ensures.sink_later, c.loop-head.invariant.sink_later);
   given =
-      let form = form_of c.args.passed.now in
-      let head = head_seen (get_or c.heads-head-items.result.now c.loop-head.head-index none) in
-      let more = one_more_taken c.args.side form c.heads-head-items.result.now c.loop-head.head-index none (sym c.heads-head-items.ensures)
-      c.loop-head-test.true in
-      let own = taken_if c.args.side form head (sym c.passes.ensures ∙ c.if-not-passes.false) in
-      omega (arith, c.loop-head.invariant.given, c.in_default.ensures.given, more, own);
+      let more = one_gone_taken c.args.side (form_of c.args.passed.now) c.heads-head-items.result.now c.loop-head.head-index none
+      (sym c.heads-head-items.ensures) c.loop-head-test.true (sym c.passes.ensures ∙ c.if-not-passes.false) in
+      omega (arith, c.loop-head.invariant.given, c.in_default.ensures.given, more);
   appended = λ file fits.
       let p = c.args.passed.now in
       let head = get_or c.heads-head-items.result.now c.loop-head.head-index none in
@@ -90,12 +87,10 @@ returns-in-Err-clause-written g c file told =
 pub returns-in-Err-clause-given : goal.returns-in-Err-clause-given
 returns-in-Err-clause-given g c =
     let form = form_of c.args.passed.now in
-    let head = head_seen (get_or c.heads-head-items.result.now c.loop-head.head-index none) in
-    let more = one_more_taken c.args.side form c.heads-head-items.result.now c.loop-head.head-index none (sym c.heads-head-items.ensures)
-    c.loop-head-test.true in
-    let own = taken_if c.args.side form head (sym c.passes.ensures ∙ c.if-not-passes.false) in
+    let more = one_gone_taken c.args.side form c.heads-head-items.result.now c.loop-head.head-index none (sym c.heads-head-items.ensures)
+    c.loop-head-test.true (sym c.passes.ensures ∙ c.if-not-passes.false) in
     let most = taken_on_side c.args.side form (lent_is_lawful c.args.passed.now.form) in
-    omega (arith, c.loop-head.invariant.given, c.in-Err.ensures.given, more, own, most)
+    omega (arith, c.loop-head.invariant.given, c.in-Err.ensures.given, more, most)
 
 pub returns-in-Err-clause-cause : goal.returns-in-Err-clause-cause
 returns-in-Err-clause-cause g c = failed_since c.in-Err.fault _ _ _ _ _ _ c.loop-head.invariant.source_later c.loop-head.invariant.sink_later
