@@ -1,7 +1,7 @@
 -- Frames that are decoded one after the other, and the one at which it stops.
-use Rattle.std.proofs.Common.{◌≡◌, ℕ, zero, suc, ◌+◌, ◌-◌, ◌*◌, ◌<◌, ◌≤◌, List, [], ◌∷◌, ◌++◌, length, take, get_or, Option, refl, ap, sym, subst, ◌∙◌}
+use Rattle.std.proofs.Common.{◌≡◌, ℕ, zero, suc, ◌+◌, ◌-◌, ◌*◌, ◌<◌, ◌≤◌, List, [], ◌∷◌, ◌++◌, length, take, drop, get_or, Option, refl, ap, sym, subst, ◌∙◌}
 use Rattle.std.proofs.Common.{arith}
-use Rattle.std.proofs.lemmas.List.{length-map}
+use Rattle.std.proofs.lemmas.List.{length-map, drop_all, take_all, append-nil}
 use Rattle.dst_spec.specs.Sample.{Shape, IsShape}
 use Rattle.dst_spec.specs.Means.{Means}
 use Rattle.dst_spec.proofs.Unique.{tail_law}
@@ -108,3 +108,9 @@ stops_at_sound P file form index k n sounds sound old mid new room half o l size
     (part_of_sound file form index k n sounds sound o l size before.decoded)
     (stops_then P (sound_of form sounds) (take n sound) old mid new room half before.adds
     (stops_for (Unit {0}) P (take n sound) mid new half (λ e. tt {0}) stops))
+
+-- a buffer that was lent whole is the one that came back
+pub lent_whole : (n : ℕ) (xs new old : List ℕ) → xs ≡ take n (new ++ drop (length new) old) → n ≡ length old → length new ≡ length old → xs ≡ new
+lent_whole n xs new old is count same =
+    let rest : drop (length new) old ≡ [] = ap (λ m. drop m old) same ∙ drop_all (length old) old (omega arith) in
+    is ∙ ap (λ ys. take n (new ++ ys)) rest ∙ ap (take n) (append-nil new) ∙ take_all n new (omega arith)
