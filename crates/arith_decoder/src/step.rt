@@ -1,5 +1,5 @@
 // One symbol, without a branch.
-ghost use Rattle.std.specs.Prelude.{◌≡◌, ◌+◌, ◌*◌, ◌/◌, ◌%◌, ◌^◌, ◌<◌, ◌≤◌, ℕ};
+ghost use Rattle.std.specs.Prelude.{◌≡◌, ◌*◌, ◌/◌, ◌%◌, ◌^◌, ◌<◌, ◌≤◌, ℕ};
 ghost use Rattle.arith_core.specs.Range.{IsRange};
 ghost use Rattle.arith_decoder.specs.Registers.{IsCut, IsStep, due, value_below};
 

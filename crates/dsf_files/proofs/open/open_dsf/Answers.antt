@@ -1,4 +1,4 @@
-use Rattle.std.proofs.Common.{◌≡◌, ◌<◌, length, Some, ap, sym, ◌∙◌, arith}
+use Rattle.std.proofs.Common.{◌≡◌, ◌<◌, length, Some, ap, ◌∙◌, arith}
 use Rattle.dsdiff_spec.specs.declared.faults.FileFault.TheVariants.{DsfForm}
 use Rattle.dsf_files.proofs.Heads.{short_is_refused, fault_by_head, said_by}
 use Rattle.dsf_files.proofs.open.open_dsf.Goals as goal
