@@ -1,10 +1,12 @@
 -- The parts of some bytes: the first one, and those of the rest; they are the bytes, one part after the other.
-use Rattle.std.proofs.Common.{◌≡◌, inl, inr, ℕ, zero, suc, ◌+◌, ◌-◌, ◌*◌, ◌/◌, ◌%◌, ◌<◌, ◌≤◌, List, [], ◌∷◌, ◌++◌, map, refl, sym, ap, ap₂, ◌∙◌, arith, eq-eqb}
+use Rattle.std.proofs.Common.{◌≡◌, inl, inr, ℕ, zero, suc, ◌+◌, ◌-◌, ◌*◌, ◌/◌, ◌%◌, ◌<◌, ◌≤◌, List, [], ◌∷◌, ◌++◌, length, take, map}
+use Rattle.std.proofs.Common.{refl, sym, ap, ap₂, ◌∙◌, arith, eq-eqb}
 use Rattle.std.specs.Prelude.{min, max, if◌then◌else◌}
 use Rattle.std.specs.List.{range_with_len}
 use Rattle.std.proofs.Math.Nat.{div-add-mod, lt-div-mul-add, div-mul-le_self, le-div_iff_mul-le}
 use Rattle.std.proofs.lemmas.Nat.{div-mul-add}
 use Rattle.std.proofs.lemmas.Bool.{ne_eqb, cases_lt}
+use Rattle.std.proofs.lemmas.List.{length-take-le}
 use Rattle.std.proofs.lemmas.List.Sums.{sum_by-cons}
 use Rattle.dsdiff_spec.specs.Bytes.{bytes_at, between}
 use Rattle.dsdiff_spec.specs.Ranges.{touched}
@@ -104,6 +106,13 @@ first_part n a b some h = elim (cases_lt (a / n * n + n) b) [ inl over ↦ more_
 -- the first part has bytes, and ends with the bytes or before
 pub first_fits : (n a b : ℕ) → 0 < n → a < b → (0 < first_count n a b) × (a + first_count n a b ≤ b)
 first_fits n a b some h = let here = lies_in n a some in (omega (arith, here.begins, here.ends, here.rest), omega arith)
+
+-- and lies in a buffer of a whole sound
+pub first_taken : (n a b : ℕ) {count : ℕ} (buffer : List ℕ) → 0 < n → a < b → count ≡ first_count n a b → length buffer ≡ n →
+    (0 < count) × (a + count ≤ b) × (length (take count buffer) ≡ count)
+first_taken n a b {count} buffer some h is long =
+    let fits = first_fits n a b some h in
+    (omega (arith, fits.0), omega (arith, fits.1), length-take-le count buffer (omega arith))
 
 -- ---- all parts are the bytes, and as many
 nothing_between : (sound : List ℕ) (n a b : ℕ) → a ≡ b → bytes_of sound (parts_between n a b) ≡ between sound a b

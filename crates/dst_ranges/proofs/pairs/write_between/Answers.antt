@@ -1,8 +1,7 @@
 -- One part more is written, or it stops there.
-use Rattle.std.proofs.Common.{◌≡◌, ◌/◌, ◌∷◌, [], length, take, drop, refl, ◌∙◌, arith, length-append, length-drop}
-use Rattle.std.proofs.lemmas.List.{length-take-le}
+use Rattle.std.proofs.Common.{◌/◌, ◌∷◌, [], length, drop, refl, ◌∙◌, arith, length-append, length-drop}
 use Rattle.dst_ranges.specs.Parts.{part}
-use Rattle.dst_ranges.proofs.Geometry.{first_count, first_fits}
+use Rattle.dst_ranges.proofs.Geometry.{first_taken}
 use Rattle.dst_ranges.proofs.Underway.{at_first, one_more, all_done, stopped_there, wrote_as, stopped_as, part_as}
 use Rattle.dst_ranges.proofs.pairs.write_between.Goals as goal
 
@@ -24,13 +23,11 @@ returns-in-Err-clause-stops g c =
     let l = c.loop-place in
     let n = length c.args.buffer.now in
     let count = c.min-count.result in
-    let is : count ≡ first_count n l.place c.args.end = c.min-count.ensures in
-    let fits = first_fits n l.place c.args.end c.requires.some c.loop-place-test.true in
-    let long : length (take count l.buffer) ≡ count = length-take-le count l.buffer (omega (arith, is, l.invariant.long)) in
-    stopped_there c.in-Err.fault c.args.reader.now l.reader n c.args.from l.place c.args.end count _ _ _ _ _ _ _ _ c.requires.some c.loop-place-test.true is
-    l.invariant.underway
+    let taken = first_taken n l.place c.args.end l.buffer c.requires.some c.loop-place-test.true c.min-count.ensures l.invariant.long in
+    stopped_there c.in-Err.fault c.args.reader.now l.reader n c.args.from l.place c.args.end count _ _ _ _ _ _ _ _ c.requires.some c.loop-place-test.true
+    c.min-count.ensures l.invariant.underway
     (stopped_as c.in-Err.fault l.reader _ (part (l.place / n) l.place count ∷ []) _ _ _ _ _
-    (part_as c.args.reader.now l.reader n l.place _ count l.invariant.underway.wrote.wanted.same c.requires.buffer long) l.invariant.bytes
+    (part_as c.args.reader.now l.reader n l.place _ count l.invariant.underway.wrote.wanted.same c.requires.buffer taken.2) l.invariant.bytes
     c.in-Err.ensures.stops)
 
 pub loop-place-preserved : goal.loop-place-preserved
@@ -38,30 +35,28 @@ loop-place-preserved g c =
     let l = c.loop-place in
     let n = length c.args.buffer.now in
     let count = c.min-count.result in
-    let is : count ≡ first_count n l.place c.args.end = c.min-count.ensures in
-    let fits = first_fits n l.place c.args.end c.requires.some c.loop-place-test.true in
-    let long : length (take count l.buffer) ≡ count = length-take-le count l.buffer (omega (arith, is, l.invariant.long)) in
+    let taken = first_taken n l.place c.args.end l.buffer c.requires.some c.loop-place-test.true c.min-count.ensures l.invariant.long in
     record {
       bytes = c.in-Ok.ensures.bytes ∙ l.invariant.bytes;
       known = c.in-Ok.ensures.stays ∙ l.invariant.known;
       later = omega (arith, c.in-Ok.ensures.source_later, l.invariant.later);
       sink_later = omega (arith, c.in-Ok.ensures.sink_later, l.invariant.sink_later);
       least = omega (arith, l.invariant.least);
-      most = omega (arith, fits.1, is);
+      most = omega (arith, taken.1);
       long = omega (
         arith,
         length-append c.write_part.new.room (drop count l.buffer),
         length-drop count l.buffer,
         c.write_part.auto.room,
-        long,
+        taken.2,
         l.invariant.long,
-        is,
+        c.min-count.ensures,
       );
-      unchanged = λ e. absurd (omega (arith, e, fits.0, is, l.invariant.least));
+      unchanged = λ e. absurd (omega (arith, e, taken.0, l.invariant.least));
       underway = one_more c.args.reader.now l.reader c.write_part.new.reader n c.args.from l.place c.args.end count _ _ _ _ _ _ _ _ _ _ c.requires.some
-          c.loop-place-test.true is l.invariant.underway
+          c.loop-place-test.true c.min-count.ensures l.invariant.underway
           (wrote_as l.reader c.write_part.new.reader _ (part (l.place / n) l.place count ∷ []) _ _ _ _ _ _ _ _
-          (part_as c.args.reader.now l.reader n l.place _ count l.invariant.underway.wrote.wanted.same c.requires.buffer long) l.invariant.bytes
+          (part_as c.args.reader.now l.reader n l.place _ count l.invariant.underway.wrote.wanted.same c.requires.buffer taken.2) l.invariant.bytes
           c.in-Ok.ensures.wrote);
     }
 
