@@ -1,5 +1,5 @@
 -- What slots hold after the last one came to the front with another frame, and while they are made.
-use Rattle.std.proofs.Common.{◌≡◌, ℕ, suc, ◌+◌, ◌-◌, ◌<◌, Bool, true, false, List, [], ◌∷◌, ◌++◌, length, take, nat_eq, Some, None}
+use Rattle.std.proofs.Common.{◌≡◌, ℕ, suc, ◌+◌, ◌<◌, Bool, true, false, List, [], ◌∷◌, ◌++◌, length, take, nat_eq, Some, None}
 use Rattle.std.proofs.Common.{refl, sym, ap, ◌∙◌, arith, subst, eqb-true, eq-eqb, length-append}
 use Rattle.std.specs.List.{AllByRecursion, IsDistinct}
 use Rattle.std.specs.Map.{keys_of, lookup, lookup_entry, remove_entry, set_value}

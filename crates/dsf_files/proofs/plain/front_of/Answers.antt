@@ -1,7 +1,6 @@
 -- The pieces are the front.
 use Rattle.std.proofs.Common.{◌≡◌, ◌/◌, ℕ, List, length, ap, ◌∙◌, arith}
 use Rattle.dsf_files.specs.Forms.{dsf_seen}
-use Rattle.dsf_files.specs.Standing.{front}
 use Rattle.dsf_files.proofs.Whole.{front_is, length-front}
 use Rattle.dsf_files.proofs.plain.front_of.Goals as goal
 

@@ -1,5 +1,5 @@
 -- What is read is a row in its order, and at the end of the sound a part of a byte is cleared.
-use Rattle.std.proofs.Common.{◌+◌, ◌-◌, ◌/◌, ◌%◌, ap, ap₂, sym, subst, ◌∙◌, inl, inr, arith}
+use Rattle.std.proofs.Common.{◌-◌, ◌/◌, ◌%◌, ap, ap₂, sym, subst, ◌∙◌, inl, inr, arith}
 use Rattle.dsdiff_spec.specs.Bytes.{bytes_at}
 use Rattle.dsdiff_spec.specs.Dsf.{Dsf}
 use Rattle.dsf_files.specs.Rows.{IsCleared}

@@ -2,7 +2,7 @@ use Rattle.std.proofs.Common.{◌≡◌, ◌≢◌, ℕ, ◌+◌, ◌*◌, ◌%�
 use Rattle.std.proofs.Common.{below_more, length-take-le}
 use Rattle.std.proofs.lemmas.Int.{ints}
 use Rattle.std.proofs.lemmas.List.{get_or_default, get_or_append_left, get_or_push, get_or-set_same, get_or-set_other, take_more_set, length-set}
-use Rattle.dsdiff_spec.specs.Made.{Wave, Made, at_time, height}
+use Rattle.dsdiff_spec.specs.Made.{Wave, Made, at_time}
 use Rattle.sound_maker.proofs.Making.{still, channel_added, length-samples}
 use Rattle.sound_maker.proofs.maker.sample_each.Goals as goal
 

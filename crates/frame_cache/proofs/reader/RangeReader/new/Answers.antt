@@ -1,5 +1,5 @@
 -- What was made holds together.
-use Rattle.std.proofs.Common.{◌≡◌, ◌+◌, ◌*◌, ◌≤◌, length, ap, sym, subst, ◌∙◌, arith}
+use Rattle.std.proofs.Common.{◌≡◌, ◌+◌, ◌*◌, ◌≤◌, ap, sym, subst, ◌∙◌, arith}
 use Rattle.dst_spec.specs.Sample.{sound_bytes}
 use Rattle.dsdiff_spec.specs.Form.{sound_bytes_of}
 use Rattle.dsdiff_chunks.specs.Forms.{coded_seen}
