@@ -9,7 +9,7 @@ use Rattle.dsdiff_spec.specs.Bytes.{bytes_at, number_at, ◌is◌}
 use Rattle.dsdiff_spec.specs.Chunks.{Head, body_place}
 use Rattle.dsdiff_spec.specs.Dsf.{Dsf, dsf_said, dsf_in, dsfk_heads, usual_type, is_bad_dsfk, dsfk_fault, octets}
 use Rattle.dsdiff_spec.specs.Faults.{◌when◌}
-use Rattle.dsdiff_spec.specs.Form.{Form, size_of_sound, plain_size, coded}
+use Rattle.dsdiff_spec.specs.Form.{Form, size_of_sound, plain_size}
 use Rattle.dsdiff_spec.specs.declared.faults.FileFault.{FileFault}
 use Rattle.dsdiff_spec.specs.declared.faults.FileFault.TheVariants.{DsfKeptBad}
 use Rattle.chunk_view.proofs.InParts.{number_in_part}

@@ -5,7 +5,7 @@ use Rattle.dst_spec.specs.Bits.{AreBytes}
 use Rattle.dsdiff_spec.specs.Dsf.{dsfk_fault, DsfBefore}
 use Rattle.dsdiff_spec.specs.Form.{Form}
 use Rattle.dsdiff_spec.specs.Parts.{kind}
-use Rattle.dsdiff_spec.specs.Rules.{accepted, form_fault, form_of_kind}
+use Rattle.dsdiff_spec.specs.Rules.{form_fault, form_of_kind}
 use Rattle.dsdiff_spec.specs.Decoded.{frames_of}
 use Rattle.dsdiff_spec.specs.Words.{decode, decode_dsf}
 use Rattle.dsdiff_spec.specs.Refusal.{form_refusal, not_walked, refusal}
