@@ -1,3 +1,4 @@
+-- At first the lanes have nothing, and each turn adds one more of the bytes before a frame.
 use Rattle.std.proofs.Common.{◌≡◌, ℕ, ◌+◌, ◌<◌, [], get_or, drop, replicate, refl, ap, sym, ◌∙◌, arith}
 use Rattle.byte_predictor.specs.Samples.{samples_of}
 use Rattle.byte_predictor.specs.Upward.{upward_sum, far}

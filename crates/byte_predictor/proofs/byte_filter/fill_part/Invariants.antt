@@ -1,3 +1,4 @@
+-- The sums of the bytes so far are right; each coefficient doubles their number.
 use Rattle.std.proofs.Common.{◌≡◌, ℕ, ◌+◌, ◌<◌, ◌^◌, pos, length, get_or, drop}
 use Rattle.byte_predictor.specs.Samples.{rising_bits, signed_sum}
 use Rattle.byte_predictor.proofs.byte_filter.fill_part.Given as goal

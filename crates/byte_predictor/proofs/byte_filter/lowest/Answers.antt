@@ -1,3 +1,4 @@
+-- The coefficients are subtracted one by one, and the sum stays from -2,048 to 2,048.
 use Rattle.std.proofs.Common.{◌≡◌, ◌+◌, ◌≤ℤ◌, pos, neg_ℤ, ◌-ℤ◌, drop, FitsSigned, to_z, rules, arith}
 use mir.Syntax.{w16}
 use Rattle.std.proofs.lemmas.Int.{ints}

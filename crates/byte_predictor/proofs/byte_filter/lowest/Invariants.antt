@@ -1,3 +1,4 @@
+-- The sum is that of the coefficients so far, each at a sample 0.
 use Rattle.std.proofs.Common.{◌≡◌, drop}
 use Rattle.byte_predictor.specs.Samples.{rising_bits, signed_sum}
 use Rattle.byte_predictor.proofs.byte_filter.lowest.Given as goal

@@ -1,3 +1,4 @@
+-- The coefficients so far stand in front of the array.
 use Rattle.std.proofs.Common.{◌≡◌, length, take}
 use Rattle.byte_predictor.proofs.byte_filter.with_zeros.Given as goal
 

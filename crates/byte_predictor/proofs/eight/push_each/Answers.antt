@@ -1,3 +1,4 @@
+-- One frame more takes its sample, and no other one's samples change.
 use Rattle.std.proofs.Common.{◌≡◌, ◌≢◌, ℕ, ◌+◌, ◌*◌, ◌%◌, ◌<◌, length, get_or, set, get_or-set_same, get_or-set_other, length-set, below_more, ◌∙◌, arith}
 use Rattle.byte_predictor.proofs.eight.push_each.Goals as goal
 

@@ -1,3 +1,4 @@
+-- The frames so far have one sample more, and those behind are as they were.
 use Rattle.std.proofs.Common.{◌≡◌, ℕ, ◌+◌, ◌*◌, ◌%◌, ◌<◌, ◌≤◌, length, get_or}
 use Rattle.byte_predictor.proofs.eight.push_each.Given as goal
 

@@ -1,3 +1,4 @@
+-- The top bit of each byte is carried into the next one, and what is carried at the end is the oldest sample.
 use Rattle.std.proofs.Common.{◌≡◌, ◌≢◌, ℕ, ◌+◌, ◌*◌, ◌/◌, ◌%◌, ◌<◌, [], ◌∷◌, ◌++◌, length, get_or, take, set, refl, ap, sym, ◌∙◌, rules, arith}
 use Rattle.std.proofs.lemmas.List.{take_all, take_more, take_more_set, get_or-set_other, length-set}
 use Rattle.dst_spec.specs.Header.{bit_of}

@@ -1,3 +1,4 @@
+-- The samples in front are moved by one place, and the last of them is carried; the bytes behind are as they were.
 use Rattle.std.proofs.Common.{◌≡◌, ℕ, ◌<◌, ◌≤◌, [], ◌∷◌, ◌++◌, length, get_or, take}
 use Rattle.dst_spec.specs.Header.{bit_of}
 use Rattle.byte_predictor.specs.Samples.{samples_of}

@@ -1,3 +1,4 @@
+-- The lanes so far are copied.
 use Rattle.std.proofs.Common.{◌≡◌, ℕ, ◌<◌, length, get_or}
 use Rattle.byte_predictor.proofs.known.first_lanes.Given as goal
 

@@ -1,3 +1,4 @@
+-- The coefficients stand eight places behind, with zeros around them, so each number is in a filter's range.
 use Rattle.std.proofs.Common.{subst, sym, refl, arith}
 use Rattle.dst_spec.specs.Table.{filter_kind, InRange}
 use Rattle.byte_predictor.proofs.Lanes.{zeros-at}

@@ -1,3 +1,4 @@
+-- Eight zeros stand in front, behind them the coefficients so far, and the rest is 0.
 use Rattle.std.proofs.Common.{◌≡◌, ℕ, ◌+◌, ◌<◌, ◌≤◌, pos, length, get_or}
 use Rattle.byte_predictor.proofs.known.shifted_coefs.Given as goal
 

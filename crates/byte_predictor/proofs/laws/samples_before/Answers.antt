@@ -1,3 +1,4 @@
+-- What stands before a frame, before the next sample and in a byte; a filter's sum over such samples is the prediction.
 use Rattle.std.proofs.Common.{pos, refl}
 use Rattle.dst_spec.specs.Sample.{sample}
 use Rattle.byte_predictor.proofs.Before.{before_a_frame, before_next, before_in_a_byte, predicted}

@@ -1,3 +1,4 @@
+-- A filter's sum by the coefficients whose sample is 1, and the same number by what they add upward.
 use Rattle.byte_predictor.proofs.Ones.{signed_sum-ones, upward-ones}
 use Rattle.byte_predictor.proofs.laws.sums.Goals as goal
 

@@ -1,3 +1,4 @@
+-- The first eight places are 0, the others have the coefficients there, so each number is in a filter's range.
 use Rattle.std.proofs.Common.{subst, sym, refl, arith}
 use Rattle.dst_spec.specs.Table.{filter_kind, InRange}
 use Rattle.byte_predictor.proofs.Lanes.{is-far, far-range, zeros-at}

@@ -1,3 +1,4 @@
+-- The coefficients from the ninth on, as far as the loop has passed them, stand at their places, and all else is 0.
 use Rattle.std.proofs.Common.{◌≡◌, ℕ, ◌<◌, ◌≤◌, pos, length, get_or}
 use Rattle.byte_predictor.proofs.row_filter.far_coefs.Given as goal
 

@@ -1,3 +1,4 @@
+-- One coefficient's size more is at most 32,768, so the sum of them fits.
 use Rattle.std.proofs.Common.{◌≡◌, ◌+◌, ◌≤◌, pos, nat_abs, get_or, take, arith}
 use Rattle.std.proofs.lemmas.Int.{ints}
 use Rattle.byte_predictor.specs.Upward.{size_sum}

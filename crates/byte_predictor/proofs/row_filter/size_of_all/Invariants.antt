@@ -1,3 +1,4 @@
+-- The size is that of the coefficients so far, and at most 32,768 for each of them.
 use Rattle.std.proofs.Common.{◌≡◌, ◌*◌, ◌≤◌, take}
 use Rattle.byte_predictor.specs.Upward.{size_sum}
 use Rattle.byte_predictor.proofs.row_filter.size_of_all.Given as goal

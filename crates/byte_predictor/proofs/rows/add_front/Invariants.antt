@@ -1,3 +1,4 @@
+-- The first loop has made the sums so far; the second has written them, and the lanes behind are as they were.
 use Rattle.std.proofs.Common.{◌≡◌, ℕ, ◌+◌, ◌%◌, ◌<◌, ◌≤◌, length, get_or}
 use Rattle.byte_predictor.proofs.rows.add_front.Given as goal
 

@@ -1,3 +1,4 @@
+-- Behind the first sixteen, the lanes so far have the row added; those first ones and the lanes behind are as they were.
 use Rattle.std.proofs.Common.{◌≡◌, ℕ, ◌+◌, ◌%◌, ◌<◌, ◌≤◌, length, get_or}
 use Rattle.byte_predictor.proofs.rows.add_rest.Given as goal
 

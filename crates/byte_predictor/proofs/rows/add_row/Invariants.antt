@@ -1,3 +1,4 @@
+-- The lanes so far have moved on by eight samples, with the row added; those behind are as they were.
 use Rattle.std.proofs.Common.{◌≡◌, ℕ, ◌+◌, ◌%◌, ◌<◌, ◌≤◌, length, get_or}
 use Rattle.byte_predictor.proofs.rows.add_row.Given as goal
 

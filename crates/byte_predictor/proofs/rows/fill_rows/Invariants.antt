@@ -1,3 +1,4 @@
+-- The rows of the bytes so far are right in each lane; each coefficient doubles their number.
 use Rattle.std.proofs.Common.{◌≡◌, ℕ, ◌+◌, ◌<◌, ◌^◌, [], length, get_or, drop}
 use Rattle.byte_predictor.specs.Samples.{rising_bits}
 use Rattle.byte_predictor.specs.Upward.{upward_sum}

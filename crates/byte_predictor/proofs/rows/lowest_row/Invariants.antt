@@ -1,3 +1,4 @@
+-- The lanes so far have what eight samples 0 add.
 use Rattle.std.proofs.Common.{◌≡◌, ℕ, ◌<◌, length, get_or, drop}
 use Rattle.byte_predictor.specs.Samples.{rising_bits}
 use Rattle.byte_predictor.specs.Upward.{upward_sum}

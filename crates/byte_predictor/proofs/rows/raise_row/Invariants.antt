@@ -1,3 +1,4 @@
+-- The lanes so far have the sum of the lower row with their coefficient added.
 use Rattle.std.proofs.Common.{◌≡◌, ℕ, ◌+◌, ◌<◌, pos, ◌+ℤ◌, length, get_or}
 use Rattle.byte_predictor.proofs.rows.raise_row.Given as goal
 

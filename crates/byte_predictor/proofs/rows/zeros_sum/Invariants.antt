@@ -1,3 +1,4 @@
+-- The sum is what the coefficients so far add at samples 0.
 use Rattle.std.proofs.Common.{◌≡◌, drop}
 use Rattle.byte_predictor.specs.Samples.{rising_bits}
 use Rattle.byte_predictor.specs.Upward.{upward_sum}

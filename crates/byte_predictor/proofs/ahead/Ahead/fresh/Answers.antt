@@ -1,3 +1,4 @@
+-- The sums after fifteen of the bytes before a frame take the sixteenth, so that no sample is left out.
 use Rattle.std.proofs.Common.{◌≡◌, ℕ, ◌*◌, ◌<◌, [], length, get_or, drop, replicate, ap, sym, ◌∙◌, arith}
 use Rattle.byte_predictor.specs.Samples.{samples_of}
 use Rattle.byte_predictor.specs.Upward.{upward_sum, far}

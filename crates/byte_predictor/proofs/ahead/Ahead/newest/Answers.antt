@@ -1,3 +1,4 @@
+-- The low byte of the sixteen newest samples has the newest eight.
 use Rattle.std.proofs.Common.{◌%◌, get_or, sym, ap, ◌∙◌}
 use Rattle.std.proofs.lemmas.List.{get_or-take}
 use Rattle.byte_predictor.proofs.Bits.{rising_bits-at}

@@ -1,3 +1,4 @@
+-- The sample joins the newest sixteen and the sums stay as they are: each leaves out one sample more.
 use Rattle.std.proofs.Common.{◌<◌, ◌+◌, ◌*◌, ◌%◌, ◌∷◌, ◌≡◌, take, drop, ap, subst, sym, ◌∙◌, rules, arith}
 use Rattle.dst_spec.specs.Header.{bit_of}
 use Rattle.byte_predictor.specs.Samples.{rising_bits}

@@ -1,3 +1,4 @@
+-- Each lane gets what the newest byte adds by its row, so that no sample is left out.
 use Rattle.std.proofs.Common.{◌≡◌, ℕ, ◌<◌, [], get_or, drop, subst, ap, sym, ◌∙◌, rules, arith}
 use Rattle.byte_predictor.specs.Upward.{upward_sum, far}
 use Rattle.byte_predictor.specs.SumsAhead.{IsAhead}

@@ -1,3 +1,4 @@
+-- The first eight coefficients add what the newest byte looks up, the others what the lane has.
 use Rattle.std.proofs.Common.{◌≡◌, ◌<◌, get_or, drop, subst, ap, sym, ◌∙◌, rules, arith}
 use Rattle.byte_predictor.specs.Upward.{upward_sum, far}
 use Rattle.byte_predictor.specs.SumsAhead.{IsAhead}

@@ -1,3 +1,4 @@
+-- One sample on: it is put in front of the newest ones, and the next lane is taken.
 use Rattle.std.proofs.Common.{◌≡◌, ◌+◌, ◌*◌, ◌%◌, ◌<◌, ◌∷◌, get_or, take, drop, subst, ap, sym, ◌∙◌, rules, arith}
 use Rattle.dst_spec.specs.Header.{bit_of}
 use Rattle.byte_predictor.specs.Samples.{rising_bits}

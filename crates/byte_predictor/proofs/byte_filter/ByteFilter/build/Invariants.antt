@@ -1,3 +1,4 @@
+-- The tables so far have the sums of their eight coefficients, byte by byte.
 use Rattle.std.proofs.Common.{◌≡◌, ℕ, ◌<◌, pos, [], length, get_or}
 use Rattle.byte_predictor.specs.Parts.{part_sum}
 use Rattle.byte_predictor.proofs.byte_filter.ByteFilter.build.Given as goal

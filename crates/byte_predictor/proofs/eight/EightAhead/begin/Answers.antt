@@ -1,3 +1,4 @@
+-- The last byte before a frame goes into the first sixteen lanes, the others lack it still; no other frame changes.
 use Rattle.std.proofs.Common.{◌≡◌, ◌+◌, ◌*◌, ◌<◌, ℕ, List, [], length, get_or, set, drop, replicate, get_or-set_same}
 use Rattle.std.proofs.Common.{get_or-set_other, ap, ap₂, sym, ◌∙◌, arith}
 use Rattle.byte_predictor.specs.Samples.{rising_bits, samples_of}

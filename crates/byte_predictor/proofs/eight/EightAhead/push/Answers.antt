@@ -1,3 +1,4 @@
+-- Each frame has one sample more; in the one whose number is the place, the farther lanes get the byte that they lack.
 use Rattle.std.proofs.Common.{◌≡◌, ◌+◌, ◌/◌, ◌%◌, ◌^◌, ◌<◌, ◌≤◌, ◌∷◌, ℕ, List, [], nat_eq, length, get_or, set, drop, get_or-set_same, get_or-set_other}
 use Rattle.std.proofs.Common.{ap, sym, ◌∙◌, rules, arith}
 use Rattle.dst_spec.specs.Header.{bit_of}

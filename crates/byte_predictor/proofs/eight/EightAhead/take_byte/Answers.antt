@@ -1,3 +1,4 @@
+-- The first sixteen lanes of the frame get the newest byte, the others lack it still; no other frame changes.
 use Rattle.std.proofs.Common.{◌≡◌, ◌+◌, ◌<◌, ℕ, List, [], length, get_or, set, take, drop, get_or-set_same, get_or-set_other, ap, ◌∙◌, rules, arith}
 use Rattle.byte_predictor.specs.Samples.{rising_bits}
 use Rattle.byte_predictor.specs.Upward.{upward_sum, far}

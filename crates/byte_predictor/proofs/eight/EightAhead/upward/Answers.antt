@@ -1,3 +1,4 @@
+-- The newest byte looks up what the first eight coefficients add; the rest is in a lane that is never late.
 use Rattle.std.proofs.Common.{◌≡◌, ◌+◌, ◌%◌, ◌<◌, [], get_or, take, drop, ap, ◌∙◌, rules, arith}
 use Rattle.byte_predictor.specs.Samples.{rising_bits}
 use Rattle.byte_predictor.specs.Upward.{upward_sum, far}

@@ -1,3 +1,4 @@
+-- Sixteen bytes are 128 samples, and each bit of a byte is the sample at its place.
 use Rattle.std.proofs.Common.{◌≡◌, ◌*◌, ◌+◌, ◌<◌, get_or, refl, length, ap, sym, ◌∙◌, arith}
 use Rattle.byte_predictor.specs.Samples.{samples_of}
 use Rattle.byte_predictor.proofs.Bits.{length-samples_of, samples_of-at}

@@ -1,3 +1,4 @@
+-- What is moved in is the newest sample, with 127 of the others behind it: these are the samples before the next place.
 use Rattle.std.proofs.Common.{◌≡◌, ◌+◌, ◌∷◌, take, subst, ap, sym, ◌∙◌, arith}
 use Rattle.dst_spec.specs.Header.{bit_of}
 use Rattle.byte_predictor.specs.Samples.{IsBefore, samples_of}

@@ -1,3 +1,4 @@
+-- At first the lanes have nothing, and each of the sixteen turns adds a byte before a frame.
 use Rattle.std.proofs.Common.{◌≡◌, ◌+◌, [], ◌++◌, get_or, drop, replicate, refl, subst, ap, ◌∙◌, arith, add-one}
 use Rattle.byte_predictor.specs.Samples.{rising_bits, samples_of}
 use Rattle.byte_predictor.specs.Upward.{upward_sum, shifted}

@@ -1,3 +1,4 @@
+-- The lanes have the sums after as many bytes as there were turns.
 use Rattle.std.proofs.Common.{◌≡◌, ℕ, ◌<◌, length, get_or, drop, replicate}
 use Rattle.byte_predictor.specs.Samples.{samples_of}
 use Rattle.byte_predictor.specs.Upward.{upward_sum, shifted}

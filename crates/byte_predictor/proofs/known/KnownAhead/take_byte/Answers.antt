@@ -1,3 +1,4 @@
+-- The byte goes into all lanes that the coefficients reach; the first eight are then for its own samples.
 use Rattle.std.proofs.Common.{◌<◌, ◌++◌, [], get_or, subst, ◌∙◌, rules, arith}
 use Rattle.byte_predictor.specs.Samples.{rising_bits}
 use Rattle.byte_predictor.specs.KnownRows.{HasKnownRows}

@@ -1,3 +1,4 @@
+-- With the coefficient 0 alone, rows of zeros are right.
 use Rattle.byte_predictor.proofs.KnownSums.{known-none}
 use Rattle.byte_predictor.proofs.known.KnownFilter.new.Goals as goal
 

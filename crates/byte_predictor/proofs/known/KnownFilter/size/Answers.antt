@@ -1,3 +1,4 @@
+-- A filter's size is at most 32,768, so it fits sixteen bits; no sum upward is above it.
 use Rattle.std.proofs.Common.{◌≤◌, ◌≡◌, ℕ, ℤ, List, length, subst, ap, ◌∙◌, arith}
 use Rattle.dst_spec.specs.Table.{filter_kind, IsTable}
 use Rattle.byte_predictor.specs.Upward.{size_sum}

@@ -1,3 +1,4 @@
+-- With the coefficient 0 alone, rows of zeros are right.
 use Rattle.byte_predictor.proofs.Lanes.{rows-none}
 use Rattle.byte_predictor.proofs.row_filter.RowFilter.new.Goals as goal
 

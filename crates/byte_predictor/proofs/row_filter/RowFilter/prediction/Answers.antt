@@ -1,3 +1,4 @@
+-- The sum is twice what is added upward less the size, and these are small enough for 32 bits.
 use Rattle.std.proofs.Common.{◌≤◌, ◌≡◌, ◌*◌, ◌-ℤ◌, pos, arith}
 use Rattle.std.proofs.lemmas.Int.{ints}
 use Rattle.byte_predictor.specs.Samples.{signed_sum}
