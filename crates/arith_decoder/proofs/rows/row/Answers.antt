@@ -1,3 +1,4 @@
+-- The columns one behind the other have the factor and the parts of a probability, each 128 places on.
 use Rattle.std.proofs.Common.{◌≡◌}
 use lib.Count.{count_leading_zeros}
 use Rattle.arith_decoder.proofs.Tables.{all_rows, is_row}

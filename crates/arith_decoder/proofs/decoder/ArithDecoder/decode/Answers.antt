@@ -1,3 +1,4 @@
+-- Doubled, and refilled where bits are missing, the registers make one step, by the part and factor from the table.
 use Rattle.std.proofs.Common.{◌≡◌, ◌+◌, ◌-◌, ◌*◌, ◌/◌, ◌^◌, ◌≤◌, ◌<◌, ℕ, Bool, List, [], ◌∷◌, ◌++◌, ◌%◌, get_or, refl, ap, subst, sym, ◌∙◌, arith}
 use Rattle.std.specs.Int.{trailing_zeros, w64}
 use Rattle.dst_spec.specs.Bits.{bits}
