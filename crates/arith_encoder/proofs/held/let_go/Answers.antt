@@ -1,3 +1,4 @@
+-- One block more behind is written, all ones or, turned over by the carry, all zeros; the room is enough for it.
 use Rattle.std.proofs.Common.{◌≡◌, ◌≤◌, if◌then◌else◌, ◌∙◌, arith}
 use Rattle.arith_encoder.proofs.Carrying.{run_more}
 use Rattle.arith_encoder.proofs.held.let_go.Goals as goal

@@ -1,3 +1,4 @@
+-- The block and those behind it so far are written, turned over where there is a carry.
 use Rattle.std.proofs.Common.{◌≡◌, ◌+◌, ◌*◌, ◌++◌}
 use Rattle.dst_spec.specs.Bits.{low_bits}
 use Rattle.arith_encoder.proofs.Carrying.{turned}

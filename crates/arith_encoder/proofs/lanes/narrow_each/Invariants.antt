@@ -1,3 +1,4 @@
+-- The lanes so far have taken their symbol, and those behind are as they were.
 use Rattle.std.proofs.Common.{◌≡◌, ℕ, ◌<◌, ◌≤◌, Bool, length, get_or}
 use Rattle.arith_core.specs.Range.{IsRange}
 use Rattle.arith_encoder.specs.Lanes.{IsStep, TakesStep}

@@ -1,3 +1,4 @@
+-- At first no symbol is taken, and each step takes one more in every lane.
 use Rattle.std.proofs.Common.{◌≤◌, false, [], length, get_or, sym, subst, arith}
 use Rattle.std.proofs.lemmas.List.{take_all}
 use Rattle.dst_spec.proofs.Lists.{get_or-zeros}

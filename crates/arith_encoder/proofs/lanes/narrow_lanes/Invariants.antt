@@ -1,3 +1,4 @@
+-- Each lane has the range and the doublings behind the symbols so far.
 use Rattle.std.proofs.Common.{ℕ, ◌<◌, Bool, List, get_or, take}
 use Rattle.arith_core.specs.Range.{IsRange}
 use Rattle.arith_encoder.specs.Lanes.{AreSteps, Leaves}

@@ -1,3 +1,4 @@
+-- What is chosen by masks is the part of the symbol, and it is doubled until it is a range again.
 use Rattle.std.proofs.Common.{◌≡◌, ℕ, ◌+◌, Bool, true, false, if◌then◌else◌, refl, arith}
 use Rattle.arith_encoder.proofs.Narrowing.{narrow_is, shifts}
 use Rattle.arith_encoder.proofs.narrow.narrow.Goals as goal

@@ -1,3 +1,4 @@
+-- Nothing is written yet, so the number is that of the one bit 0 that is held back.
 use Rattle.arith_encoder.proofs.Leaving.{none_written}
 use Rattle.arith_encoder.proofs.held.Held.new.Goals as goal
 

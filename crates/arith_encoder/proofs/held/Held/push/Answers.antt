@@ -1,3 +1,4 @@
+-- Ones without a carry are held as one block more; else what was held leaves, and the new block can take a carry.
 use Rattle.std.proofs.Common.{◌≡◌, ◌+◌, ◌*◌, ◌%◌, ◌∙◌, ap, sym, arith}
 use lib.Dec.{leb}
 use Rattle.arith_encoder.specs.Leaving.{written, with_held}

@@ -1,3 +1,4 @@
+-- What a symbol makes of range and doublings doesn't depend on the low end, which isn't measured.
 use Rattle.std.proofs.Common.{refl, ap, sym, subst, subst₂, ◌∙◌}
 use Rattle.dst_spec.specs.Interval.{Interval, interval, narrowed}
 use Rattle.dst_spec.specs.Laws.{AreAlike}

@@ -1,3 +1,4 @@
+-- A code has 13 bits and one for each doubling, and the doublings are those that were measured.
 use Rattle.std.proofs.Common.{ap, arith}
 use Rattle.dst_spec.proofs.CodeLengths.{code_bits}
 use Rattle.arith_encoder.proofs.length.CodeLength.bits.Goals as goal
