@@ -1,3 +1,4 @@
+-- The mask is all ones or all zeros, so it lets the first number through or the second.
 use Rattle.arith_lanes.proofs.Masks.{chosen_by_mask}
 use Rattle.arith_lanes.proofs.lane.chosen.Goals as goal
 

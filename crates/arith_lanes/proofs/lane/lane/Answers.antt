@@ -1,3 +1,4 @@
+-- All that counts stays within sixteen bits, so the registers make the step of a single decoder.
 use Rattle.std.proofs.Common.{◌≡◌, ◌+◌, ◌-◌, ◌*◌, ◌/◌, ◌%◌, nat_lt, if◌then◌else◌, refl, ◌∙◌, arith}
 use Rattle.dst_spec.specs.Interval.{scale}
 use Rattle.arith_lanes.proofs.Parting.{IsParted, lane_steps, bounds, kept_below, left_small, by_below, kept_less, twice}

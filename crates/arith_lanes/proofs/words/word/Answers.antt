@@ -1,3 +1,4 @@
+-- The two tables one behind the other have at an entry's place its word, with the mark of the entry.
 use Rattle.std.proofs.Common.{◌≡◌}
 use lib.Count.{count_leading_zeros}
 use Rattle.arith_lanes.proofs.Tables.{all_words, is_word, mark_is}

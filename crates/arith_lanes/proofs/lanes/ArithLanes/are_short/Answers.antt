@@ -1,3 +1,4 @@
+-- A lane is short where its middle and low registers are 0, and one such lane is enough.
 use Rattle.std.proofs.Common.{arith}
 use Rattle.arith_lanes.proofs.Ahead.{longer, shorter}
 use Rattle.arith_lanes.proofs.lanes.ArithLanes.are_short.Goals as goal

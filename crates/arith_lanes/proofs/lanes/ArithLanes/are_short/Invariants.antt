@@ -1,3 +1,4 @@
+-- None of the lanes so far is short, or one of them is.
 use Rattle.std.proofs.Common.{◌≡◌, ℕ, ◌<◌, ◌≤◌, true, false, List}
 use Rattle.arith_lanes.specs.Lanes.{IsLane, ahead_at}
 use Rattle.arith_lanes.proofs.lanes.ArithLanes.are_short.Given as goal

@@ -1,3 +1,4 @@
+-- Twelve bits and the 32 behind them are the registers of a code that begins; no other lane changes.
 use Rattle.std.proofs.Common.{◌≡◌, ◌+◌, ◌/◌, ◌%◌, ap, sym, ◌∙◌, arith}
 use Rattle.dst_spec.specs.Bits.{bits, number_from}
 use Rattle.arith_lanes.proofs.Beginning.{begins, written, written_has, written_others}

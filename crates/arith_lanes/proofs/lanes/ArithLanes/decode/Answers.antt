@@ -1,3 +1,4 @@
+-- One lane more makes its step; in the end each has taken the symbol that it gives.
 use Rattle.std.proofs.Common.{◌≢◌, ℕ, ◌<◌, length, get_or, set, get_or-set_same, get_or-set_other, length-set, below_more, sym, ◌∙◌, subst, subst₂, arith}
 use Rattle.arith_lanes.specs.Lanes.{StepsBy, registers_at, range_at}
 use Rattle.arith_lanes.proofs.Eight.{with_registers, eight_with, registers_same, registers_other}

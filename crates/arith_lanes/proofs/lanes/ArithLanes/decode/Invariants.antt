@@ -1,3 +1,4 @@
+-- The lanes so far have made their step, and those behind are as they were.
 use Rattle.std.proofs.Common.{◌≡◌, ℕ, ◌<◌, ◌≤◌, length, get_or}
 use Rattle.arith_lanes.specs.Lanes.{StepsBy, registers_at}
 use Rattle.arith_lanes.proofs.Eight.{AreEight}

@@ -1,3 +1,4 @@
+-- The zeros of the value tell how many bits are ahead, and so where the used ones end.
 use Rattle.std.proofs.Common.{◌≡◌, ap, ◌∙◌, arith}
 use Rattle.std.specs.Int.{trailing_zeros, w64}
 use Rattle.arith_lanes.specs.Lanes.{registers_at, value_of}

@@ -1,3 +1,4 @@
+-- The registers are those of a code that begins, all of whose bits are 0.
 use Rattle.arith_lanes.proofs.Beginning.{begins_none}
 use Rattle.arith_lanes.proofs.lanes.ArithLanes.new.Goals as goal
 
