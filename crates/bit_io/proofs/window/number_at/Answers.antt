@@ -1,3 +1,4 @@
+-- At most seven bits of a window of 64 are skipped, so the 32 at most that are wanted lie in it.
 use Rattle.std.proofs.Common.{◌≡◌, ◌+◌, ◌-◌, ◌*◌, ◌/◌, ◌%◌, ◌^◌, refl, ap, ◌∙◌, arith}
 use Rattle.std.proofs.Math.Pow.{pow_mono}
 use Rattle.std.proofs.lemmas.Nat.{one_shl, pow_pos, mod_below}

@@ -1,3 +1,4 @@
+-- Eight bytes at once, or byte by byte near the end, where each one comes behind the number so far, within 64 bits.
 use Rattle.std.proofs.Common.{◌≡◌, ◌+◌, ◌*◌, refl, ap, sym, ◌∙◌, arith}
 use Rattle.std.proofs.Math.Pow.{pow_mono}
 use Rattle.dst_spec.specs.Bits.{bits, number_from}

@@ -1,3 +1,4 @@
+-- The window is the number of the bytes so far.
 use Rattle.std.proofs.Common.{◌≡◌, ◌*◌}
 use Rattle.dst_spec.specs.Bits.{bits, number_from}
 use Rattle.bit_io.proofs.window.window_at.Given as goal

@@ -1,3 +1,4 @@
+-- Bytes are made again from their bits, since each is below 256.
 use Rattle.std.proofs.Common.{arith}
 use Rattle.bit_io.proofs.ByteLists.{octets-bits}
 use Rattle.bit_io.proofs.writer.as_octets.Goals as goal

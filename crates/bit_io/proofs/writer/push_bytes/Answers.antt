@@ -1,3 +1,4 @@
+-- The highest eight bits left of the number are one byte more, for which there is capacity.
 use Rattle.std.proofs.Common.{◌≡◌, ◌+◌, ◌-◌, ◌/◌, ◌%◌, ◌^◌, ◌++◌, ◌∷◌, [], vec_len, arith}
 use Rattle.bit_io.proofs.Buffers.{byte_pushed}
 use Rattle.bit_io.proofs.writer.push_bytes.Goals as goal

@@ -1,3 +1,4 @@
+-- The bytes, with the bits left of the number behind them, have the bits of all; and those left grow fewer.
 use Rattle.std.proofs.Common.{◌≡◌, ◌+◌, ◌/◌, ◌%◌, ◌≤◌, ◌++◌, vec_len, vec_capacity}
 use Rattle.dst_spec.specs.Bits.{bits, low_bits}
 use Rattle.bit_io.proofs.writer.push_bytes.Given as goal

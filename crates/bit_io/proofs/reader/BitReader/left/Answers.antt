@@ -1,3 +1,4 @@
+-- Eight bits for each byte less those that are passed are left, and past the end none.
 use Rattle.std.proofs.Common.{arith}
 use Rattle.std.proofs.lemmas.List.{length-drop}
 use Rattle.dst_spec.specs.Bits.{bits}

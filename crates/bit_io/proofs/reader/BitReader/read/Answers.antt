@@ -1,3 +1,4 @@
+-- Where enough are left, the bits in front are those of the number, and behind them is the rest.
 use Rattle.std.proofs.Common.{◌≤◌, ◌++◌, ℕ, List, length, drop, ap₂, sym, ◌∙◌, arith}
 use Rattle.std.proofs.lemmas.List.{drop-drop}
 use Rattle.dst_spec.specs.Bits.{bits, low_bits}

@@ -1,3 +1,4 @@
+-- The number at the place is that in front of the bits that are left.
 use Rattle.std.proofs.Common.{sym, ◌∙◌}
 use Rattle.dst_spec.specs.Bits.{bits}
 use Rattle.bit_io.proofs.Windows.{number_left}

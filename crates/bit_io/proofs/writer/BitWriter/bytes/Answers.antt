@@ -1,3 +1,4 @@
+-- Where the number of bits is a multiple of 8 none are pending, so the whole bytes are all.
 use Rattle.std.proofs.Common.{ap, sym, ◌∙◌}
 use Rattle.dst_spec.specs.Bits.{bits, octets}
 use Rattle.bit_io.proofs.Buffers.{no_pending}

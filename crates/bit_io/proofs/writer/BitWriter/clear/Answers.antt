@@ -1,3 +1,4 @@
+-- Without bytes and pending bits nothing is written, and what it took is room again.
 use Rattle.std.proofs.Common.{arith, refl}
 use Rattle.dst_spec.specs.Bits.{bits, low_bits}
 use Rattle.bit_io.proofs.Buffers.{length-buffer}

@@ -1,3 +1,4 @@
+-- Each whole byte has eight bits, and the pending ones are behind them.
 use Rattle.std.proofs.Common.{arith}
 use Rattle.bit_io.proofs.Buffers.{length-buffer}
 use Rattle.bit_io.proofs.writer.BitWriter.length.Goals as goal

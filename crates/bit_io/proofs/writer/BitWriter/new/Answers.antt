@@ -1,3 +1,4 @@
+-- Without bytes and pending bits nothing is written.
 use Rattle.std.proofs.Common.{refl}
 use Rattle.dst_spec.specs.Bits.{bits, low_bits}
 use Rattle.bit_io.proofs.writer.BitWriter.new.Goals as goal

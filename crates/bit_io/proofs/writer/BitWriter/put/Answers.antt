@@ -1,3 +1,4 @@
+-- The pending bits and those of the value are one number, of which the whole bytes go into the buffer.
 use Rattle.std.proofs.Common.{◌≡◌, ◌+◌, ◌*◌, ◌%◌, ◌^◌, bit_or, arith}
 use Rattle.std.proofs.lemmas.Nat.{one_shl, shl_whole, or_shifted}
 use Rattle.bit_io.proofs.Buffers.{bits_put}

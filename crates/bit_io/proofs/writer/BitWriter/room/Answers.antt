@@ -1,3 +1,4 @@
+-- What is written fits the capacity, so the room is what that has beyond it.
 use Rattle.std.proofs.Common.{arith}
 use Rattle.bit_io.proofs.Buffers.{length-buffer}
 use Rattle.bit_io.proofs.writer.BitWriter.room.Goals as goal
