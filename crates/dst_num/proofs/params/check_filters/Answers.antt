@@ -1,3 +1,4 @@
+-- One filter more keeps its rule, as its coefficients tell.
 use Rattle.std.proofs.Common.{subst, rules}
 use Rattle.std.proofs.lemmas.List.Elements.{All-more}
 use Rattle.dst_spec.specs.Table.{filter_kind, IsTable}

@@ -1,3 +1,4 @@
+-- The filters so far keep their rule.
 use Rattle.std.proofs.Common.{take, All}
 use Rattle.dst_spec.specs.Table.{filter_kind, IsTable}
 use Rattle.dst_num.proofs.params.check_filters.Given as goal

@@ -1,3 +1,4 @@
+-- One probability table more keeps its rule, as its entries tell.
 use Rattle.std.proofs.Common.{ℕ, List, pos, map, subst, rules}
 use Rattle.std.proofs.lemmas.List.Elements.{All-more}
 use Rattle.dst_spec.specs.Table.{prob_kind, IsTable}

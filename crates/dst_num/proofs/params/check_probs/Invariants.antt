@@ -1,3 +1,4 @@
+-- The probability tables so far keep their rule.
 use Rattle.std.proofs.Common.{take, All, map, pos}
 use Rattle.dst_spec.specs.Table.{prob_kind, IsTable}
 use Rattle.dst_num.proofs.params.check_probs.Given as goal

@@ -1,3 +1,4 @@
+-- The bits so far are copied.
 use Rattle.std.proofs.Common.{◌≡◌, take}
 use Rattle.dst_num.proofs.params.copied_bits.Given as goal
 

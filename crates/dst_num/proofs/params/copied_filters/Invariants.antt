@@ -1,3 +1,4 @@
+-- The filters so far are copied.
 use Rattle.std.proofs.Common.{◌≡◌, take}
 use Rattle.dst_num.proofs.params.copied_filters.Given as goal
 

@@ -1,3 +1,4 @@
+-- The count of all elements is at most their number, by the rule of maps.
 use Rattle.std.proofs.Common.{◌≡◌, ap, ◌∙◌, rules, arith}
 use Rattle.std.proofs.lemmas.List.{take_all}
 use Rattle.dst_spec.specs.Map.{element_count}

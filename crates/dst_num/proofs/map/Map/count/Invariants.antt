@@ -1,3 +1,4 @@
+-- The count is that of the elements so far.
 use Rattle.std.proofs.Common.{◌≡◌, take}
 use Rattle.dst_spec.specs.Map.{element_count}
 use Rattle.dst_num.proofs.map.Map.count.Given as goal

@@ -1,3 +1,4 @@
+-- An element above the count breaks the rule; with any other the rest is judged by the count that follows.
 use Rattle.std.proofs.Common.{◌≡◌, ◌+◌, ◌≤◌, get_or, max, refl, rules, arith}
 use Rattle.dst_num.specs.Map.{IsChannelMap}
 use Rattle.dst_num.proofs.MapRules.{numbers_back, numbers_end}

@@ -1,3 +1,4 @@
+-- All elements keep the rule where those ahead keep it from the count on, and only there.
 use Rattle.std.proofs.Common.{drop}
 use Rattle.dst_spec.specs.Map.{Numbers}
 use Rattle.dst_num.proofs.map.Map.new.Given as goal

@@ -1,3 +1,4 @@
+-- The element 0 alone keeps the rule of maps.
 use Rattle.std.proofs.Common.{◌∷◌, [], refl, arith}
 use Rattle.dst_spec.specs.Map.{Numbers}
 use Rattle.dst_num.specs.Map.{IsChannelMap}

@@ -1,3 +1,4 @@
+-- The coefficients so far are in range.
 use Rattle.std.proofs.Common.{take, All}
 use Rattle.dst_spec.specs.Table.{filter_kind, InRange}
 use Rattle.dst_num.proofs.tables.FilterTable.new.Given as goal

@@ -1,3 +1,4 @@
+-- The entries so far are from 1 to 128.
 use Rattle.std.proofs.Common.{◌≤◌, take, All}
 use Rattle.dst_num.proofs.tables.ProbTable.new.Given as goal
 
