@@ -1,3 +1,4 @@
+-- None of the channels so far has the same as this one.
 use Rattle.std.proofs.Common.{ℕ, ◌<◌}
 use Rattle.channel_params.specs.Alike.{AreAlike}
 use Rattle.channel_params.proofs.channel.alike_channel.Given as goal

@@ -1,3 +1,4 @@
+-- The map numbers as many filters as there are, so the number that it has for the channel is one of them.
 use Rattle.std.proofs.Common.{◌≡◌, [], length, subst}
 use Rattle.dst_spec.specs.Header.{Params}
 use Rattle.dst_spec.specs.Guess.{filter_of}

@@ -1,3 +1,4 @@
+-- The map numbers as many probability tables as there are, so the channel's number is one of them.
 use Rattle.std.proofs.Common.{◌≡◌, [], length, subst}
 use Rattle.dst_spec.specs.Header.{Params}
 use Rattle.dst_spec.specs.Guess.{probs_of}

@@ -1,3 +1,4 @@
+-- A frame with a channel has a filter, as the map says, so there is a first one.
 use Rattle.std.proofs.Common.{◌≡◌, ◌<◌, ℤ, pos, [], List, length, get_or, ap, ◌∙◌, w16, SFits, rules, arith}
 use Rattle.std.proofs.lemmas.Int.{to_z-of_z}
 use Rattle.std.proofs.lemmas.List.{get_or_default}

@@ -1,3 +1,4 @@
+-- The low seven of the coefficient's nine bits, turned round, are the number to which the definition adds 1.
 use Rattle.std.proofs.Common.{◌+◌, ap, sym, ◌∙◌, w16, SFits, rules}
 use Rattle.std.proofs.lemmas.Int.{to_z-of_z}
 use Rattle.dst_spec.specs.Bits.{signed_bits}

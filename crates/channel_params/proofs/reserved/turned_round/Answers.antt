@@ -1,3 +1,4 @@
+-- One bit more comes behind those that are turned round, and seven of them are less than 128.
 use Rattle.std.proofs.Common.{◌≡◌, ◌+◌, ◌*◌, ◌/◌, ◌%◌, ap, ◌∙◌, refl, arith}
 use Rattle.std.proofs.lemmas.Nat.{shr-shr}
 use Rattle.channel_params.specs.Reserved.{turned}

@@ -1,3 +1,4 @@
+-- The low bits so far are turned round, and the higher ones are left.
 use Rattle.std.proofs.Common.{◌≡◌, ◌/◌, ◌^◌}
 use Rattle.channel_params.specs.Reserved.{turned}
 use Rattle.channel_params.proofs.reserved.turned_round.Given as goal
