@@ -1,3 +1,4 @@
+-- Each byte gives eight codes more by the sums ahead, none of them above the size; with all bytes the row is whole.
 use Rattle.std.proofs.Common.{◌+◌, ◌-◌, ◌*◌, ◌≡◌, ◌++◌, get_or, drop, refl, ap, sym, ◌∙◌, arith}
 use borrow.Rule.Slice.PartMut.{same_len_mid, mid_len}
 use Rattle.byte_predictor.specs.Samples.{rising_bits}

@@ -1,3 +1,4 @@
+-- The codes of the bytes so far are there, and the sums ahead are those after them.
 use Rattle.std.proofs.Common.{◌≡◌, ◌*◌, length}
 use Rattle.dst_spec.specs.Sample.{Shape}
 use Rattle.frame_predictions.specs.Filling.{IsFilling}

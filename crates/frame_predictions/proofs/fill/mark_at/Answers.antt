@@ -1,3 +1,4 @@
+-- Shifted by its place, the bit of the sample stands in place 7, and from there it is taken as 64 or 0.
 use Rattle.std.proofs.Common.{rules, ◌≡◌, ℕ, zero, suc, ◌-◌, ◌*◌, ◌/◌, ◌%◌, ◌^◌, ◌<◌, ◌==◌, if◌then◌else◌, refl, ap, ◌∙◌, arith}
 use Rattle.frame_predictions.proofs.fill.mark_at.Goals as goal
 

@@ -1,3 +1,4 @@
+-- The samples so far have their codes, by what goes upward to each prediction.
 use Rattle.std.proofs.Common.{◌≡◌, ℕ, ◌-◌, ◌*◌, ◌/◌, ◌%◌, ◌^◌, ◌<◌, ◌==◌, pos, ◌-ℤ◌, length, get_or}
 use Rattle.frame_predictions.specs.Codes.{code_of}
 use Rattle.frame_predictions.proofs.fill.write_byte.Given as goal

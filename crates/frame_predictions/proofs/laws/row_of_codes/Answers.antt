@@ -1,3 +1,4 @@
+-- A row has one code for each sample, each at its place.
 use Rattle.frame_predictions.proofs.Elements.{codes-at, codes-length}
 use Rattle.frame_predictions.proofs.laws.row_of_codes.Goals as goal
 

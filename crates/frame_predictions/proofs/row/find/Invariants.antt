@@ -1,3 +1,4 @@
+-- None of the rows so far is that of the channel with the filter.
 use Rattle.std.proofs.Common.{◌≡◌, ℕ, ◌<◌, get_or}
 use Rattle.frame_predictions.specs.Rows.{predicted}
 use Rattle.frame_predictions.specs.declared.row.Row.{Row}

@@ -1,3 +1,4 @@
+-- Two filters are the same where their coefficients are, and else they aren't.
 use Rattle.std.proofs.Common.{◌≡◌, true, ap, sym, ◌∙◌}
 use Rattle.std.specs.Cmp.Rules.{signed_items}
 use Rattle.frame_predictions.proofs.row.is_of.Goals as goal

@@ -1,3 +1,4 @@
+-- The row that is made is right, so it is filled like those in front of it.
 use Rattle.std.proofs.Common.{ap, sym, ◌∙◌, arith}
 use Rattle.frame_predictions.specs.Codes.{codes}
 use Rattle.frame_predictions.proofs.Rows.{filled-made}

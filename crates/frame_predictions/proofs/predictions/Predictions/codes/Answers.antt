@@ -1,3 +1,4 @@
+-- The row is one of the filled ones, so its codes are right, and such a code is below 128.
 use Rattle.std.proofs.Common.{◌≡◌, ◌<◌, length, get_or, ap, sym, subst, ◌∙◌, arith}
 use Rattle.frame_predictions.specs.Codes.{codes}
 use Rattle.frame_predictions.proofs.Elements.{codes-small}

@@ -1,3 +1,4 @@
+-- The rows so far have one code for each sample of a channel.
 use Rattle.std.proofs.Common.{◌≡◌, length, All}
 use Rattle.frame_predictions.proofs.predictions.Predictions.new.Given as goal
 
