@@ -1,3 +1,4 @@
+-- Where the first run and the rest are done, all jobs are; and all scratches keep their shape.
 use Rattle.std.proofs.Common.{◌≡◌, List, ◌++◌, take, sym, subst}
 use Rattle.std.proofs.lemmas.List.Elements.{All-append, All-set, All-same, All-take}
 use Rattle.std.specs.List.{AllZip}

@@ -1,3 +1,4 @@
+-- The batches so far are worked and drained in the feed's order, each job lowering the bound of those to come.
 use Rattle.std.proofs.Common.{◌≡◌, ◌+◌, ◌≤◌, All, length}
 use Rattle.frame_crew.specs.Runs.{Ran}
 use Rattle.frame_crew.proofs.ordered.run_ordered.Given as goal

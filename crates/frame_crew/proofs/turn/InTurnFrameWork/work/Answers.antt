@@ -1,3 +1,4 @@
+-- The next job is still as it was given, and it is done now; the scratch keeps its shape.
 use Rattle.std.proofs.Common.{◌≡◌, ◌<◌, length, arith}
 use Rattle.std.proofs.lemmas.List.{take_more, take_more_set}
 use Rattle.std.proofs.lemmas.List.Elements.{All-set, AllZip-push}

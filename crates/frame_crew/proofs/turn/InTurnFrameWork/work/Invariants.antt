@@ -1,3 +1,4 @@
+-- The jobs so far are done, and those behind are as they were.
 use Rattle.std.proofs.Common.{◌≡◌, All, take, drop}
 use Rattle.std.specs.List.{AllZip}
 use Rattle.frame_crew.proofs.turn.InTurnFrameWork.work.Given as goal
