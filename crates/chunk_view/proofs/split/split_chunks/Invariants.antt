@@ -1,3 +1,4 @@
+-- The bytes from the place on have the same fault, if any, as all bytes.
 use Rattle.std.proofs.Common.{length, ◌-◌, ◌≡◌, ◌≤◌}
 use Rattle.chunk_view.proofs.Walking.{all_from}
 use Rattle.chunk_view.proofs.split.split_chunks.Given as goal
