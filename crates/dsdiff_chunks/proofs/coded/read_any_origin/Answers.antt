@@ -1,3 +1,4 @@
+-- One `KEPT` alone lies before the end, and what is read of it is what the form says; several are never read.
 use Rattle.std.proofs.Common.{length, map, Some, ap, sym, ◌∙◌, arith}
 use Rattle.dst_spec.specs.Sample.{sound_bytes}
 use Rattle.dsdiff_spec.specs.Rules.{origin_in}

@@ -1,3 +1,4 @@
+-- The first eighteen bytes of the sound have the frame count, and with its size they decide the rules on it.
 use Rattle.std.proofs.Common.{◌∙◌}
 use Rattle.dsdiff_chunks.specs.Seen.{head_seen}
 use Rattle.dsdiff_chunks.proofs.CodedParts.{told_in_part, frte_in_part}

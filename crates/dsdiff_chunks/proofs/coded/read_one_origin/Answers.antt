@@ -1,3 +1,4 @@
+-- A body that is too long is bad whatever it has; any other is judged by its bytes, which are read whole.
 use Rattle.std.proofs.Common.{ap, sym, ◌∙◌, arith}
 use Rattle.dst_spec.specs.Sample.{sound_bytes}
 use Rattle.dsdiff_spec.specs.Chunks.{body_of}

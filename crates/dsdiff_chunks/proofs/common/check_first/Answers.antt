@@ -1,3 +1,4 @@
+-- Where id and size are those of `FVER`, the one byte that is read decides the version.
 use Rattle.std.proofs.Common.{not, sym, ap, ◌∙◌}
 use Rattle.std.proofs.lemmas.Bool.{eq-eqb, ne_eqb, not-false}
 use Rattle.dsdiff_spec.specs.Faults.{◌when◌}

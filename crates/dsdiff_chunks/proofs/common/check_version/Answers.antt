@@ -1,3 +1,4 @@
+-- Where there are chunks, the first of them lies before the end and decides the rule on the version.
 use Rattle.std.proofs.Common.{◌≡◌, ℕ, List, length, sym, arith, subst, Some, None}
 use Rattle.std.specs.Prelude.{OnOk, IfErr}
 use Rattle.std.proofs.lemmas.Bool.{eqb-false}

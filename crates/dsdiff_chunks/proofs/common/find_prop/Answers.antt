@@ -1,3 +1,4 @@
+-- The only `PROP` is one of the chunks, so it lies before the end.
 use Rattle.std.proofs.Common.{map}
 use Rattle.dsdiff_chunks.specs.Seen.{head_seen}
 use Rattle.dsdiff_chunks.proofs.Only.{only_within}

@@ -1,3 +1,4 @@
+-- The range up to the place is written behind what the sink had, and what the source tells is as it was.
 use Rattle.std.proofs.Common.{◌≡◌, ℕ, ◌+◌, ◌-◌, ◌≤◌, List, take, drop, Some}
 use Rattle.dst_streams.specs.Told.{and_then}
 use Rattle.dsdiff_chunks.proofs.copy.copy_range.Given as goal

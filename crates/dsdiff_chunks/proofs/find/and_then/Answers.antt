@@ -1,3 +1,4 @@
+-- One more chunk behind the first makes several, and the first stays what it is.
 use Rattle.std.proofs.Common.{◌≡◌, List, [], ◌∷◌, ◌++◌, ap, subst}
 use Rattle.dsdiff_spec.specs.Chunks.{Head}
 use Rattle.dsdiff_chunks.specs.Found.{FoundAre}

@@ -1,3 +1,4 @@
+-- A chunk with one of the ids comes behind those that were found; any other leaves them as they are.
 use Rattle.std.proofs.Common.{◌≡◌, ◌+◌, ℕ, ◌<◌, Bool, true, false, cond, List, [], ◌∷◌, ◌++◌, length, get_or, map, take, sym, ap, ◌∙◌, subst, append-nil}
 use Rattle.std.specs.Prelude.{◌||◌, bytes_eq, filter}
 use Rattle.std.proofs.lemmas.List.{take_more, map-append}

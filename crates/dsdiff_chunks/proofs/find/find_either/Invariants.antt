@@ -1,3 +1,4 @@
+-- What was found are those of the chunks so far that have one of the ids.
 use Rattle.std.proofs.Common.{map, take}
 use Rattle.std.specs.Prelude.{◌||◌, bytes_eq, filter}
 use Rattle.dsdiff_chunks.specs.Found.{FoundAre}

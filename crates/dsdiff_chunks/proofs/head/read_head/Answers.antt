@@ -1,3 +1,4 @@
+-- The twelve bytes that are read have the head that stands at the place in the file.
 use Rattle.std.proofs.Common.{sym, ◌∙◌}
 use Rattle.chunk_view.proofs.InParts.{head_in_part}
 use Rattle.dsdiff_chunks.proofs.head.read_head.Goals as goal

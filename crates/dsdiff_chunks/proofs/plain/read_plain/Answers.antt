@@ -1,3 +1,4 @@
+-- A fault of the first rules is that of all, and what stops a read stops this step too.
 use Rattle.std.proofs.Common.{ℕ, List, map, ap}
 use Rattle.dsdiff_spec.specs.Faults.{◌otherwise◌}
 use Rattle.dsdiff_chunks.specs.Opening.{space_fault, plain_parts_fault}

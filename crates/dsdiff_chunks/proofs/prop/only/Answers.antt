@@ -1,3 +1,4 @@
+-- The chunk that was found is the only one with its id, until a second one shows that it isn't.
 use Rattle.std.proofs.Common.{rules, ◌≡◌, ◌∷◌, [], ℕ, ◌++◌, length, bytes_eq, map, option_to_list, cond, Bool, true, false, List, Option, Some, None}
 use Rattle.std.proofs.Common.{is_some, IfNone, IfSome, ap, sym, ◌∙◌, arith}
 use Rattle.chunk_view.specs.Placed.{PlacedChunk}

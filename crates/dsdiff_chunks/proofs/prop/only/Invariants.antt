@@ -1,3 +1,4 @@
+-- The chunks with the id are the one that was found, if any, and those with it that are left.
 use Rattle.std.proofs.Common.{◌≡◌, ◌++◌, filter, bytes_eq, map, option_to_list}
 use Rattle.chunk_view.specs.Seen.{seen}
 use Rattle.dsdiff_chunks.proofs.prop.only.Given as goal

@@ -1,3 +1,4 @@
+-- The bytes of `out` up to the place are the source's, which gave no more than these.
 use Rattle.std.proofs.Common.{◌≡◌, ℕ, ◌+◌, ◌-◌, ◌^◌, ◌<◌, ◌≤◌, List, length, take, Some}
 use Rattle.dst_streams.specs.Told.{counted}
 use Rattle.dsdiff_spec.specs.Bytes.{bytes_at}

@@ -1,3 +1,4 @@
+-- A chunk that reaches past the end is refused by its head, and the head that was read is the file's.
 use Rattle.std.proofs.Common.{◌≡◌, false, not, Bool, Some, ap, sym, ◌∙◌}
 use Rattle.dsdiff_spec.specs.Faults.{◌when◌}
 use Rattle.dsdiff_spec.specs.Chunks.{fits}

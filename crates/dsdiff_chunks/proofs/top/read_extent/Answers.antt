@@ -1,3 +1,4 @@
+-- The first sixteen bytes decide whether the head of a file is refused, and else where the form ends.
 use Rattle.std.proofs.Common.{◌∙◌}
 use Rattle.dsdiff_chunks.proofs.Extents.{refused_by_head, extent_by_head}
 use Rattle.dsdiff_chunks.proofs.top.read_extent.Goals as goal

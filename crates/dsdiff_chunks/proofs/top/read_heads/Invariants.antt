@@ -1,3 +1,4 @@
+-- The chunks so far reach from place 16 up to this one, and they stand in front of those that are still to be found.
 use Rattle.std.proofs.Common.{◌≡◌, ℕ, ◌+◌, ◌-◌, ◌*◌, ◌≤◌, List, ◌++◌, map, length, true, Some, vec_capacity}
 use Rattle.std.specs.List.{All}
 use Rattle.dsdiff_spec.specs.Chunks.{Head, chunks_from, fits}

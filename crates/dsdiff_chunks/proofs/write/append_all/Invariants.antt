@@ -1,3 +1,4 @@
+-- The pieces so far are written one behind the other, behind what the sink had.
 use Rattle.std.proofs.Common.{◌≡◌, ℕ, ◌+◌, ◌-◌, ◌≤◌, Some, flat_map, length, take}
 use Rattle.dst_streams.specs.Told.{and_then}
 use Rattle.dsdiff_chunks.proofs.write.append_all.Given as goal

@@ -1,3 +1,4 @@
+-- The size is put behind the four bytes of the id, which stay.
 use Rattle.std.proofs.Common.{refl, ◌∙◌}
 use Rattle.std.proofs.lemmas.List.{drop_at}
 use Rattle.dsdiff_chunks.proofs.Pieces.{put_behind}
