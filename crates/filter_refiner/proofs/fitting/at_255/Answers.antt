@@ -1,3 +1,4 @@
+-- No value is greater than the greatest, so that its part of 255 with 24 fraction bits is in bounds.
 use Rattle.std.proofs.Common.{◌≡◌, ◌≢◌, ◌*◌, ◌^◌, ◌<◌, ◌≤◌, ℤ, pos, ◌*ℤ◌, nat_abs, to_z, of_z, length, map, get_or, set, inl, inr}
 use Rattle.std.proofs.Common.{length-set, get_or-set_other, get_or-set_same, below_more, refl, ap, sym, ◌∙◌, subst, arith}
 use mir.Syntax.{w64}

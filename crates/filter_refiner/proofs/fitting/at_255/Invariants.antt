@@ -1,3 +1,4 @@
+-- The values so far are parts of the greatest, and none is above 255 in size, with 24 fraction bits.
 use Rattle.std.proofs.Common.{◌≡◌, ℕ, ◌*◌, ◌^◌, ◌<◌, ◌≤◌, pos, ◌*ℤ◌, nat_abs, length, get_or}
 use Rattle.std.specs.Int.{int_div_euclid}
 use Rattle.filter_refiner.proofs.fitting.at_255.Given as goal

@@ -1,3 +1,4 @@
+-- A value that takes its share was as at first, and a share is at most 2 ^ 32, so that the difference fits.
 use Rattle.std.proofs.Common.{◌≡◌, ◌≢◌, ◌-◌, ◌^◌, ◌<◌, ◌≤◌, ℤ, pos, ◌-ℤ◌, ◌*ℤ◌, nat_abs, to_z, of_z, length, get_or, inl, inr}
 use Rattle.std.proofs.Common.{length-set, get_or-set_other, get_or-set_same, below_more, ap, ◌∙◌, arith}
 use mir.Syntax.{w64}

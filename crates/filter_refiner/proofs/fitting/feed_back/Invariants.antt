@@ -1,3 +1,4 @@
+-- The values in front have taken their shares of the error, and those behind are as at first.
 use Rattle.std.proofs.Common.{◌≡◌, ℕ, ◌-◌, ◌<◌, ◌≤◌, pos, ◌-ℤ◌, ◌*ℤ◌, length, get_or}
 use Rattle.level_spec.specs.Recursion.{value, whole}
 use Rattle.filter_refiner.proofs.fitting.feed_back.Given as goal

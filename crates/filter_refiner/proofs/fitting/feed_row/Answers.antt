@@ -1,3 +1,4 @@
+-- A place without a row feeds nothing back; else the row has as many values as its place says.
 use Rattle.std.proofs.Common.{◌≡◌, ◌-◌, pos, ◌-ℤ◌, ◌*ℤ◌, to_z, of_z, length, get_or, ap, ◌∙◌, arith}
 use mir.Syntax.{w64}
 use Rattle.level_spec.specs.Recursion.{value, whole}

@@ -1,3 +1,4 @@
+-- The front of the rounded coefficients, without zeros behind, is the filter; where all values are 0 it is a single 0.
 use Rattle.std.proofs.Common.{◌≡◌, ◌<◌, ◌==◌, ℕ, ℤ, pos, true, false, cond, List, [], ◌∷◌, length, take, ap, sym, ◌∙◌, subst, arith}
 use Rattle.std.proofs.lemmas.Bool.Decides.{nat_tests}
 use Rattle.dst_spec.specs.Table.{filter_kind, IsTable}

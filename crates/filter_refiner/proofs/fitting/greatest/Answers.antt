@@ -1,3 +1,4 @@
+-- One value more is compared by its size, and no size is above the bound of all.
 use Rattle.std.proofs.Common.{◌≡◌, ◌^◌, max, ℕ, ℤ, pos, nat_abs, fold, take, get_or, ap, sym, ◌∙◌, arith}
 use Rattle.std.proofs.lemmas.List.{take_all}
 use Rattle.std.proofs.lemmas.List.Sums.{fold_more}

@@ -1,3 +1,4 @@
+-- The greatest size of the values so far is known.
 use Rattle.std.proofs.Common.{◌≡◌, max, nat_abs, fold, take}
 use Rattle.filter_refiner.proofs.fitting.greatest.Given as goal
 

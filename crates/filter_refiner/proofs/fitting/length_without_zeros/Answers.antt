@@ -1,3 +1,4 @@
+-- A place whose coefficient isn't 0 becomes the last one, and the length is at most all places.
 use Rattle.std.proofs.Common.{ℕ, ◌+◌, pos, nat_abs, not, cond, ◌==◌, get_or, refl, ap, sym, ◌∙◌, rules, arith}
 use mir.Syntax.{w16}
 use mir.Val.{SFits}

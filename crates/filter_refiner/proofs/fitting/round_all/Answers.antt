@@ -1,3 +1,4 @@
+-- One value more is rounded, and its row feeds the error back to those before it, as the definition does.
 use Rattle.std.proofs.Common.{◌≡◌, ◌+◌, ◌-◌, ◌++◌, ℤ, pos, ◌-ℤ◌, ◌*ℤ◌, to_z, of_z, get_or, set, drop, length-set}
 use Rattle.std.proofs.Common.{refl, ap, sym, ◌∙◌, arith}
 use mir.Syntax.{w16, w64}

@@ -1,3 +1,4 @@
+-- What rounding the values left gives, with the coefficients behind, is all; no value grows by more than 2 ^ 32 a round.
 use Rattle.std.proofs.Common.{◌≡◌, ℕ, ◌+◌, ◌-◌, ◌*◌, ◌^◌, ◌≤◌, ◌++◌, pos, nat_abs, drop, length, get_or}
 use Rattle.level_spec.specs.Fitting.{fit_down}
 use Rattle.filter_refiner.proofs.fitting.round_all.Given as goal

@@ -1,3 +1,4 @@
+-- The nearest coefficient less the value fits its word, so that cut at 1 either way it is the definition's.
 use Rattle.std.proofs.Common.{◌≡◌, ◌^◌, ◌≤◌, ℤ, pos, negsuc, neg_ℤ, ◌-ℤ◌, ◌*ℤ◌, nat_abs, to_z, of_z, ap, ◌∙◌, arith}
 use mir.Syntax.{w64}
 use Rattle.std.specs.Int.{int_min, int_max}

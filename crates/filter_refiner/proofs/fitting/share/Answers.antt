@@ -1,3 +1,4 @@
+-- By the lemma on shares the product of an error and a value fits, and so does its whole part.
 use Rattle.filter_refiner.proofs.Fitted.{share-is}
 use Rattle.filter_refiner.proofs.fitting.share.Goals as goal
 

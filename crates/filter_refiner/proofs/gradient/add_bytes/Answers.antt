@@ -1,3 +1,4 @@
+-- One byte more adds its eight samples, each of at most 255, to the cells of the half bytes before it.
 use Rattle.std.proofs.Common.{◌≡◌, ◌+◌, ◌*◌, ℕ, pos, ◌+ℤ◌, nat_abs, [], get_or, inl, inr}
 use Rattle.std.proofs.Common.{ap, sym, ◌∙◌, arith}
 use Rattle.std.proofs.lemmas.Int.{ints}

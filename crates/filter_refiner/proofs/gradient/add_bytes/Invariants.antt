@@ -1,3 +1,4 @@
+-- Each cell has what it takes of the bytes so far, at most 255 of each.
 use Rattle.std.proofs.Common.{◌≡◌, ℕ, ◌+◌, ◌*◌, ◌<◌, ◌≤◌, nat_abs, length}
 use Rattle.level_spec.specs.Correlation.{sum_over}
 use Rattle.filter_refiner.specs.Cells.{weighted, taken, in_cell}

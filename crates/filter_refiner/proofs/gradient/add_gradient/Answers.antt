@@ -1,3 +1,4 @@
+-- By the lemma on lags the sums of cells are how the samples agree, and adding them fits.
 use Rattle.std.proofs.Common.{◌≡◌, ◌≢◌, ◌+◌, ◌*◌, ◌^◌, ◌<◌, ◌≤◌, ℤ, pos, ◌+ℤ◌, nat_abs, to_z, of_z, length, get_or, inl, inr}
 use Rattle.std.proofs.Common.{length-set, get_or-set_other, get_or-set_same, below_more, refl, ap, ◌∙◌, arith}
 use mir.Syntax.{w64}

@@ -1,3 +1,4 @@
+-- The lags so far have their sums added, and those to come are as at first.
 use Rattle.std.proofs.Common.{◌≡◌, ℕ, ◌<◌, ◌≤◌, pos, ◌+ℤ◌, length, get_or}
 use Rattle.level_spec.specs.Refining.{weighted_agreement}
 use Rattle.filter_refiner.proofs.gradient.add_gradient.Given as goal

@@ -1,3 +1,4 @@
+-- A lane that is added to was as at first, so that its sum fits; behind the eighth there is nothing to add.
 use Rattle.std.proofs.Common.{◌≡◌, ◌≢◌, ◌^◌, ◌<◌, ◌≤◌, ℤ, pos, ◌+ℤ◌, nat_abs, to_z, of_z, length, get_or, inl, inr}
 use Rattle.std.proofs.Common.{length-set, get_or-set_other, get_or-set_same, below_more, ap, ◌∙◌, arith}
 use mir.Syntax.{w32}

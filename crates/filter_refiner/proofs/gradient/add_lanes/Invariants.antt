@@ -1,3 +1,4 @@
+-- The lanes so far have their samples added, and those to come are as at first.
 use Rattle.std.proofs.Common.{◌≡◌, ℕ, ◌<◌, ◌≤◌, pos, ◌+ℤ◌, length, get_or}
 use Rattle.filter_refiner.proofs.gradient.add_lanes.Given as goal
 

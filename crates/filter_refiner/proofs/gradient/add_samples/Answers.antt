@@ -1,3 +1,4 @@
+-- Of the 16 cells of a half byte the one of its value takes the samples, and the others nothing.
 use Rattle.std.proofs.Common.{◌≡◌, ◌≢◌, ◌+◌, ◌*◌, ◌<◌, ◌≤◌, ℕ, ℤ, pos, ◌+ℤ◌, List, get_or, set, inl, inr}
 use Rattle.std.proofs.Common.{length-set, ap, ◌∙◌, arith}
 use Rattle.std.proofs.lemmas.Bool.{cases_lt}

@@ -1,3 +1,4 @@
+-- The cells of the half bytes so far have taken the samples, and those to come are as at first.
 use Rattle.std.proofs.Common.{◌≡◌, ℕ, ◌*◌, ◌<◌, ◌≤◌, pos, ◌+ℤ◌, length, get_or}
 use Rattle.filter_refiner.specs.Cells.{taken, in_cell}
 use Rattle.filter_refiner.proofs.gradient.add_samples.Given as goal

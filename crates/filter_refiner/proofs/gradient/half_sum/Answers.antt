@@ -1,3 +1,4 @@
+-- One value more of the half byte adds its cell, with the sign of the bit, and the sum fits.
 use Rattle.std.proofs.Common.{◌≡◌, ◌+◌, ◌*◌, ◌/◌, ◌%◌, ◌^◌, ℕ, ◌+ℤ◌, to_z, of_z, ap, sym, ◌∙◌, arith}
 use mir.Syntax.{w64}
 use Rattle.std.proofs.lemmas.Int.{ints}

@@ -1,3 +1,4 @@
+-- The sum is over the values so far, and at most 2 ^ 28 for each.
 use Rattle.std.proofs.Common.{◌≡◌, ◌+◌, ◌*◌, ◌/◌, ◌%◌, ◌^◌, ◌≤◌, nat_abs}
 use Rattle.dst_spec.specs.Guess.{signed}
 use Rattle.level_spec.specs.Correlation.{sum_over}

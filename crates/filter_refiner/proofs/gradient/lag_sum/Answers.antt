@@ -1,3 +1,4 @@
+-- One lane more adds how it agrees with its half byte's bit, and the sum fits.
 use Rattle.std.proofs.Common.{◌≡◌, ◌+◌, ◌-◌, ◌*◌, ◌/◌, ◌%◌, ℕ, ◌+ℤ◌, to_z, of_z, ap, sym, ◌∙◌, arith}
 use mir.Syntax.{w64}
 use Rattle.std.proofs.lemmas.Int.{ints}

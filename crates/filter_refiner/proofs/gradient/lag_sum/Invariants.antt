@@ -1,3 +1,4 @@
+-- The sum is over the lanes so far, and at most 2 ^ 33 for each.
 use Rattle.std.proofs.Common.{◌≡◌, ◌+◌, ◌-◌, ◌*◌, ◌/◌, ◌%◌, ◌^◌, ◌≤◌, nat_abs}
 use Rattle.level_spec.specs.Correlation.{sum_over}
 use Rattle.filter_refiner.specs.Cells.{agreeing, place_before, bytes_before}

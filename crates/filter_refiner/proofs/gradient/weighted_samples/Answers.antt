@@ -1,3 +1,4 @@
+-- The sample of a lane is its bit of the byte, by the weight of its code, and no weight is above 255.
 use Rattle.std.proofs.Common.{◌≡◌, ◌≢◌, ◌+◌, ◌-◌, ◌*◌, ◌/◌, ◌%◌, ◌^◌, ◌<◌, ◌≤◌, nat_lt, cond, ℤ, pos, nat_abs, to_z, of_z, length, get_or, set, inl, inr}
 use Rattle.std.proofs.Common.{length-set, get_or-set_other, get_or-set_same, below_more, refl, ap, sym, ◌∙◌, subst, arith}
 use mir.Syntax.{w32}

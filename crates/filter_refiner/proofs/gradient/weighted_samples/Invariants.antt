@@ -1,3 +1,4 @@
+-- The lanes so far have their weighted samples, and none is above 255 in size.
 use Rattle.std.proofs.Common.{◌≡◌, ℕ, ◌+◌, ◌*◌, ◌<◌, ◌≤◌, pos, nat_abs, length, get_or}
 use Rattle.filter_refiner.specs.Cells.{weighted}
 use Rattle.filter_refiner.proofs.gradient.weighted_samples.Given as goal

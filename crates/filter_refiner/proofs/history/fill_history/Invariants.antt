@@ -1,3 +1,4 @@
+-- The 16 bytes before the frame stand, and behind them the bytes of the channel so far.
 use Rattle.std.proofs.Common.{◌≡◌, ℕ, ◌+◌, ◌*◌, ◌<◌, length, get_or}
 use Rattle.filter_refiner.proofs.history.fill_history.Given as goal
 

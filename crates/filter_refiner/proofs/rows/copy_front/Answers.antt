@@ -1,3 +1,4 @@
+-- What is copied place by place is the front, as long as the values.
 use Rattle.std.proofs.Common.{pos, length, take, length-take, ◌∙◌, arith}
 use Rattle.std.proofs.lemmas.List.{ext_get_or, get_or-take}
 use Rattle.filter_refiner.proofs.rows.copy_front.Goals as goal

@@ -1,3 +1,4 @@
+-- The places so far hold the values.
 use Rattle.std.proofs.Common.{◌≡◌, ℕ, ◌<◌, pos, length, get_or}
 use Rattle.filter_refiner.proofs.rows.copy_front.Given as goal
 

@@ -1,3 +1,4 @@
+-- The probability, scaled by its power of 2, is below 2 with 31 fraction bits, and its digits are those defined.
 use Rattle.std.proofs.Common.{◌≡◌, ◌-◌, ◌*◌, ◌%◌, ◌^◌, ℕ, ap, ◌∙◌, arith}
 use Rattle.level_spec.specs.Size.{digits_after, bits_of}
 use Rattle.filter_refiner.proofs.Logarithms.{scaled}

@@ -1,3 +1,4 @@
+-- The state is that of as many digits as steps, and the digits so far are below that power of 2.
 use Rattle.std.proofs.Common.{◌≡◌, ◌^◌, ◌<◌}
 use Rattle.level_spec.specs.Size.{Logarithm, digits_after}
 use Rattle.filter_refiner.proofs.sizes.digits_of.Given as goal

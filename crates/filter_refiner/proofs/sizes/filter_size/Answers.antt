@@ -1,3 +1,4 @@
+-- The spelled bits and those of the first samples, then place by place what the symbols come to.
 use Rattle.std.proofs.Common.{◌≡◌, ◌+◌, ◌*◌, ◌≤◌, pos, length, map, get_or, ap, ◌∙◌, arith}
 use Rattle.std.proofs.lemmas.Nat.{mul-le}
 use Rattle.dst_spec.specs.Table.{filter_kind, prob_kind}

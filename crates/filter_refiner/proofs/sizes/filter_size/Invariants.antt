@@ -1,3 +1,4 @@
+-- The bits are those of the spellings, the first samples and the places so far, with room for those to come.
 use Rattle.std.proofs.Common.{◌≡◌, ◌+◌, ◌*◌, ◌^◌, ◌≤◌, length, get_or}
 use Rattle.level_spec.specs.Size.{place_bits, sum_below}
 use Rattle.filter_refiner.proofs.sizes.filter_size.Given as goal

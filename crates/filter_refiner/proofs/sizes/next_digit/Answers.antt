@@ -1,3 +1,4 @@
+-- The square of a number below 2 ^ 32 fits; the digit is 1 where the square reaches 2, else 0.
 use Rattle.std.proofs.Common.{◌-◌, ◌^◌, arith}
 use Rattle.std.proofs.lemmas.Nat.{mul-le}
 use Rattle.filter_refiner.proofs.Logarithms.{digit-one, digit-none}

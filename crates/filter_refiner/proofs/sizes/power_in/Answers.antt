@@ -1,3 +1,4 @@
+-- The first power of 2 above the number tells the one below it; behind the last one it is 7.
 use Rattle.std.proofs.Common.{◌≡◌, ◌+◌, ◌^◌, ◌≤◌, refl, sym, subst, arith}
 use Rattle.filter_refiner.proofs.Logarithms.{power-next, power-below, power-is}
 use Rattle.filter_refiner.proofs.sizes.power_in.Goals as goal

@@ -1,3 +1,4 @@
+-- The power of 2 so far isn't above the number, and the next one is known.
 use Rattle.std.proofs.Common.{◌≡◌, ◌+◌, ◌^◌, ◌≤◌}
 use Rattle.filter_refiner.proofs.sizes.power_in.Given as goal
 

@@ -1,3 +1,4 @@
+-- The length ends behind the last entry so far that differs from the one before it, and is at least 2.
 use Rattle.std.proofs.Common.{◌≡◌, ◌-◌, max, not, ◌==◌, get_or}
 use Rattle.level_spec.specs.Scale.{last_place}
 use Rattle.filter_refiner.proofs.sizes.shorten.Given as goal

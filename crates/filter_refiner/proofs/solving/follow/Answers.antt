@@ -1,3 +1,4 @@
+-- A value that follows was as at first and changes by at most 2 ^ 70, so that it fits; the row's own value grows.
 use Rattle.std.proofs.Common.{◌≡◌, ◌≢◌, ◌+◌, ◌-◌, ◌^◌, ◌<◌, ◌≤◌, ℕ, ℤ, pos, ◌+ℤ◌, ◌-ℤ◌, ◌*ℤ◌, nat_abs, to_z, of_z, List, length, get_or, set, inl, inr}
 use Rattle.std.proofs.Common.{length-set, get_or-set_other, get_or-set_same, below_more, ap, sym, ◌∙◌, subst, arith}
 use mir.Syntax.{w64, w128}

@@ -1,3 +1,4 @@
+-- The values in front have followed, and those behind are as at first.
 use Rattle.std.proofs.Common.{◌≡◌, ℕ, ◌-◌, ◌<◌, ◌≤◌, pos, ◌-ℤ◌, ◌*ℤ◌, length, get_or}
 use Rattle.level_spec.specs.Recursion.{value, whole}
 use Rattle.filter_refiner.proofs.solving.follow.Given as goal

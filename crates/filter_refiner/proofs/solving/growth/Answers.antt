@@ -1,3 +1,4 @@
+-- What the row leaves, with 24 more bits, still fits, and is divided by the row's error.
 use Rattle.std.proofs.Common.{◌≡◌, ◌-◌, ◌^◌, ◌≤◌, ℕ, ℤ, pos, ◌-ℤ◌, ◌*ℤ◌, nat_abs, to_z, of_z, List, get_or, ap, ◌∙◌, arith}
 use mir.Syntax.{w64, w128}
 use Rattle.std.specs.Int.{int_div_euclid}

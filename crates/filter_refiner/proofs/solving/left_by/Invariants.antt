@@ -1,3 +1,4 @@
+-- What is left so far is the wanted one, with 24 fraction bits, less the products of the values so far.
 use Rattle.std.proofs.Common.{◌≡◌, ◌-◌, ◌^◌, pos, ◌-ℤ◌, ◌*ℤ◌, length, get_or}
 use Rattle.level_spec.specs.Correlation.{sum_over}
 use Rattle.level_spec.specs.Recursion.{value}

@@ -1,3 +1,4 @@
+-- By the lemma on parts the product of a growth and a value has a whole part that fits.
 use Rattle.filter_refiner.proofs.Growing.{part-is}
 use Rattle.filter_refiner.proofs.solving.part.Goals as goal
 

@@ -1,3 +1,4 @@
+-- One row more lets its value grow and those before follow; a growth above 2 ^ 62 is where solving has no answer.
 use Rattle.std.proofs.Common.{◌≡◌, ◌+◌, ◌-◌, ◌^◌, ◌≤◌, ℕ, pos, ◌+ℤ◌, ◌-ℤ◌, ◌*ℤ◌, nat_abs, to_z, of_z, length, get_or, inl, inr}
 use Rattle.std.proofs.Common.{refl, ap, sym, ◌∙◌, subst, arith}
 use mir.Syntax.{w64, w128}

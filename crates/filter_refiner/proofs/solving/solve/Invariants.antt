@@ -1,3 +1,4 @@
+-- The values so far have grown by the rows so far, those behind are 0, and no growth was above 2 ^ 62.
 use Rattle.std.proofs.Common.{◌≡◌, ℕ, ◌*◌, ◌^◌, ◌<◌, ◌≤◌, pos, nat_abs, length, get_or}
 use Rattle.level_spec.specs.Solving.{growth}
 use Rattle.filter_refiner.proofs.Solved.{grown_by}

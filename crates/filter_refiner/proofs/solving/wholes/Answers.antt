@@ -1,3 +1,4 @@
+-- The shift by 24 bits is the whole part, which fits; behind the last number both are 0.
 use Rattle.std.proofs.Common.{◌≡◌, ◌≢◌, ◌^◌, ◌<◌, ◌≤◌, ℕ, ℤ, pos, nat_abs, to_z, of_z, List, length, get_or, inl, inr}
 use Rattle.std.proofs.Common.{length-set, get_or-set_other, get_or-set_same, below_more, ap, sym, ◌∙◌, arith}
 use mir.Syntax.{w64, w128}

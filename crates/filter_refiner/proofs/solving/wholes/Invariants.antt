@@ -1,3 +1,4 @@
+-- The numbers so far are without their fraction bits.
 use Rattle.std.proofs.Common.{◌≡◌, ℕ, ◌<◌, pos, length, get_or}
 use Rattle.level_spec.specs.Recursion.{whole}
 use Rattle.filter_refiner.proofs.solving.wholes.Given as goal

@@ -1,3 +1,4 @@
+-- By the lemma on pulls the product with the coefficient and the difference fit.
 use Rattle.std.proofs.Common.{◌^◌, pos, ◌-ℤ◌, ◌*ℤ◌, ap, ◌∙◌, arith}
 use Rattle.std.specs.Int.{int_div_euclid}
 use Rattle.std.proofs.lemmas.Int.{ints}

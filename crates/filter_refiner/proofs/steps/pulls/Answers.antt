@@ -1,3 +1,4 @@
+-- One pull more is that of its gradient and its coefficient, and in its bound.
 use Rattle.std.proofs.Common.{◌≡◌, ◌≢◌, ◌^◌, ◌<◌, ◌≤◌, ℤ, pos, nat_abs, to_z, of_z, length, get_or, set, inl, inr}
 use Rattle.std.proofs.Common.{length-set, get_or-set_other, get_or-set_same, below_more, refl, ap, sym, ◌∙◌, subst, arith}
 use mir.Syntax.{w64}

@@ -1,3 +1,4 @@
+-- The pulls so far are known, and none is above 2 ^ 59 in size.
 use Rattle.std.proofs.Common.{◌≡◌, ℕ, ◌^◌, ◌<◌, ◌≤◌, pos, nat_abs, length, get_or}
 use Rattle.level_spec.specs.Refining.{pull}
 use Rattle.filter_refiner.proofs.steps.pulls.Given as goal

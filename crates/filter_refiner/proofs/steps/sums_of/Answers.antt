@@ -1,3 +1,4 @@
+-- One place more adds its agreement and its power, and both sums fit.
 use Rattle.std.proofs.Common.{◌≡◌, ◌+◌, ◌*◌, ℕ, pos, ◌+ℤ◌, ◌-ℤ◌, ◌*ℤ◌, to_z, of_z, get_or, ap, sym, ◌∙◌, arith}
 use mir.Syntax.{w64}
 use Rattle.std.proofs.lemmas.Int.{ints}

@@ -1,3 +1,4 @@
+-- Both sums are over the places so far, and no more than each place can add.
 use Rattle.std.proofs.Common.{◌≡◌, ◌+◌, ◌*◌, ◌^◌, ◌≤◌, pos, nat_abs, get_or, ◌-ℤ◌, ◌*ℤ◌}
 use Rattle.level_spec.specs.Correlation.{sum_over}
 use Rattle.filter_refiner.proofs.steps.sums_of.Given as goal

@@ -1,3 +1,4 @@
+-- The coefficients so far are moved, and none is above 2 ^ 56 in size.
 use Rattle.std.proofs.Common.{◌≡◌, ℕ, ◌^◌, ◌<◌, ◌≤◌, pos, ◌+ℤ◌, ◌*ℤ◌, nat_abs, length, get_or}
 use Rattle.filter_refiner.proofs.steps.target.Given as goal
 

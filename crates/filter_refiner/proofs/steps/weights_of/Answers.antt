@@ -1,3 +1,4 @@
+-- The weight of a right guess and that of a wrong one are put at their two places, and make 256 together.
 use Rattle.std.proofs.Common.{◌≡◌, ◌≢◌, ◌+◌, ◌-◌, ◌<◌, ℕ, length, set}
 use Rattle.std.proofs.Common.{length-set, get_or-set_other, get_or-set_same, below_more, ap, ◌∙◌, arith}
 use Rattle.filter_refiner.proofs.steps.weights_of.Goals as goal

@@ -1,3 +1,4 @@
+-- The weights of the places so far are known, of right guesses and of wrong ones.
 use Rattle.std.proofs.Common.{◌≡◌, ℕ, ◌+◌, ◌<◌, true, false, length, get_or}
 use Rattle.level_spec.specs.Refining.{weight}
 use Rattle.filter_refiner.proofs.steps.weights_of.Given as goal

@@ -1,3 +1,4 @@
+-- The states made of the arrays are as many as the count.
 use Rattle.std.proofs.Common.{length, ap, sym, ◌∙◌}
 use Rattle.filter_refiner.proofs.Keeping.{length-states}
 use Rattle.filter_refiner.proofs.rows.Rows.count.Goals as goal
