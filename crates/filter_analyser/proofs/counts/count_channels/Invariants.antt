@@ -1,3 +1,4 @@
+-- The codes of the channels so far are counted, and the row has a place for each sample of a channel.
 use Rattle.std.proofs.Common.{◌≡◌, ℕ, ◌<◌, ◌==◌, length, get_or, take}
 use Rattle.dst_spec.specs.Sample.{samples}
 use Rattle.level_spec.specs.Counts.{count_from}

@@ -1,3 +1,4 @@
+-- The codes so far are counted, beside what was counted before.
 use Rattle.std.proofs.Common.{◌≡◌, ℕ, ◌+◌, ◌<◌, ◌==◌, length, get_or, take}
 use Rattle.std.specs.List.{count_by}
 use Rattle.filter_analyser.proofs.counts.count_codes.Given as goal

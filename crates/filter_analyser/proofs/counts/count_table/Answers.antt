@@ -1,3 +1,4 @@
+-- The front of the array holds a channel's codes at the rate, and has at least as many as the filter is long.
 use Rattle.std.proofs.Common.{◌≡◌, ℕ, ◌*◌, ◌≤◌, ◌==◌, List, ℤ, length, take, replicate, length-take, ap, sym, ◌∙◌, subst, arith}
 use Rattle.std.proofs.lemmas.List.{length-replicate}
 use Rattle.level_spec.specs.Counts.{count_from}

@@ -1,3 +1,4 @@
+-- The entries of the places so far are known, and the length ends behind the last place that has a sample.
 use Rattle.std.proofs.Common.{◌≡◌, ℕ, ◌+◌, ◌<◌, nat_lt, length, get_or}
 use Rattle.level_spec.specs.Scale.{last_place}
 use Rattle.level_spec.specs.Counts.{entry}

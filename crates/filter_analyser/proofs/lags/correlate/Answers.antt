@@ -1,3 +1,4 @@
+-- With 16 turns all 129 lags are found, and the correlations of one channel are its own.
 use Rattle.std.proofs.Common.{pos, [], ◌∷◌, ◌∙◌, arith}
 use Rattle.std.proofs.lemmas.List.FromFn.{fill_by_all}
 use Rattle.level_spec.specs.Correlation.{joint_correlation}

@@ -1,3 +1,4 @@
+-- The front of the array, as many words as the rate needs, has the samples of the channel.
 use Rattle.std.proofs.Common.{◌≡◌, ℕ, ◌*◌, ◌≤◌, List, ◌++◌, subst, length, take, replicate, length-take, ap, sym, ◌∙◌, arith}
 use Rattle.std.proofs.Math.Seq.{take-append_seam}
 use Rattle.std.proofs.lemmas.List.{length-replicate}

@@ -1,3 +1,4 @@
+-- The first samples, with none so many places before them, are counted where they are 1, and taken off again.
 use Rattle.std.proofs.Common.{◌≡◌, ◌+◌, ◌-◌, ◌*◌, ◌/◌, ◌%◌, ◌^◌, ◌<◌, ◌≢◌, ℤ, pos, ◌-ℤ◌, length, get_or, set, inl, inr, to_z, of_z, ◌*ℤ◌, subst}
 use Rattle.std.proofs.Common.{get_or-set_other, get_or-set_same, length-set, bit_and, cond, refl, ap, sym, ◌∙◌, arith}
 use mir.Syntax.{w64}

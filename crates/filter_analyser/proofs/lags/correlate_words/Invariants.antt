@@ -1,3 +1,4 @@
+-- The lags so far are found and those behind are as at first; the ones of as many first samples are counted.
 use Rattle.std.proofs.Common.{◌≡◌, ℕ, ◌+◌, ◌*◌, ◌<◌, pos, List, length, get_or}
 use Rattle.dst_spec.specs.Sample.{Shape}
 use Rattle.level_spec.specs.Correlation.{correlation}

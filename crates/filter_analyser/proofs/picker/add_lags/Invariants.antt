@@ -1,3 +1,4 @@
+-- The lags so far have their sums, and those to come are as at first.
 use Rattle.std.proofs.Common.{◌≡◌, ℕ, ◌<◌, ◌≤◌, pos, ◌+ℤ◌, length, get_or}
 use Rattle.filter_analyser.proofs.picker.add_lags.Given as goal
 

@@ -1,3 +1,4 @@
+-- The channels so far have their solution of the order.
 use Rattle.std.proofs.Common.{◌≡◌, ℕ, ◌<◌, [], length, get_or}
 use Rattle.filter_analyser.proofs.picker.of_order.Given as goal
 

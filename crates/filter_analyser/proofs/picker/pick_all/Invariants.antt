@@ -1,3 +1,4 @@
+-- Parameters of the orders so far are found, for each channel and then shared, and the sound stays.
 use Rattle.std.proofs.Common.{◌≡◌, ◌++◌, map, take}
 use Rattle.level_spec.specs.Picks.{per_channel, shared, orders}
 use Rattle.filter_analyser.proofs.picker.pick_all.Given as goal

@@ -1,3 +1,4 @@
+-- The channels so far are solved with order 32.
 use Rattle.std.proofs.Common.{◌≡◌, ℕ, ◌<◌, [], ◌∷◌, length, get_or}
 use Rattle.level_spec.specs.Correlation.{correlations}
 use Rattle.level_spec.specs.Recursion.{solution}

@@ -1,3 +1,4 @@
+-- Level 2 has eight picks, so that there is room for three more, which are those of level 3.
 use Rattle.std.proofs.Common.{◌≡◌, ℕ, List, [], ◌∷◌, ◌++◌, length, refl, ap, ◌∙◌, arith}
 use Rattle.dst_spec.specs.Sample.{Shape}
 use Rattle.level_spec.specs.Picks.{refined_shared, refined_own, refined_own_with_one_table, level_picks}

@@ -1,3 +1,4 @@
+-- The channels so far are solved for all orders, and their correlations are added up.
 use Rattle.std.proofs.Common.{◌≡◌, ℕ, ◌<◌, pos, [], ◌∷◌, length, map, get_or}
 use Rattle.std.specs.List.{range_with_len}
 use Rattle.level_spec.specs.Correlation.{joint_correlation, correlations}

@@ -1,3 +1,4 @@
+-- A solution of order 32 needs no correlation behind lag 32, so that zeros may stand there.
 use Rattle.std.proofs.Common.{◌≡◌, ℕ, ◌-◌, ◌<◌, ◌≤◌, ℤ, pos, nat_abs, List, [], ◌∷◌, ◌++◌, length, replicate, inl, inr, ap, sym, ◌∙◌, arith}
 use Rattle.std.proofs.lemmas.Bool.{cases_lt}
 use Rattle.std.proofs.lemmas.List.FromFn.{get_or-map-range_with_len}

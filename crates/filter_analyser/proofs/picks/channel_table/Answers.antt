@@ -1,3 +1,4 @@
+-- The table is made of a channel's counts, which begin at 0.
 use Rattle.std.proofs.Common.{◌∙◌, arith}
 use Rattle.dst_spec.proofs.Lists.{get_or-zeros}
 use Rattle.filter_analyser.proofs.Picking.{table-is}

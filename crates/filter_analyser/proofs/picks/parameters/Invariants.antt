@@ -1,3 +1,4 @@
+-- The half bits so far are 1.
 use Rattle.std.proofs.Common.{◌≡◌, true, replicate}
 use Rattle.filter_analyser.proofs.picks.parameters.Given as goal
 

@@ -1,3 +1,4 @@
+-- One value more is moved by a share of the one as far from the end; behind the last comes the reflection.
 use Rattle.std.proofs.Common.{◌≡◌, ◌+◌, ◌-◌, ◌<◌, ◌≢◌, pos, ◌-ℤ◌, ◌*ℤ◌, to_z, of_z, length, get_or, set, get_or-set_other, get_or-set_same, inl, inr}
 use Rattle.std.proofs.Common.{subst, ap, sym, ◌∙◌, arith}
 use mir.Syntax.{w64}

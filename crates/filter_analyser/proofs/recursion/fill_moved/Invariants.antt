@@ -1,3 +1,4 @@
+-- The values so far are moved, each by a share of the one as far from the end.
 use Rattle.std.proofs.Common.{◌≡◌, ℕ, ◌+◌, ◌-◌, ◌<◌, pos, ◌-ℤ◌, ◌*ℤ◌, get_or}
 use Rattle.level_spec.specs.Recursion.{value, whole}
 use Rattle.filter_analyser.proofs.recursion.fill_moved.Given as goal

@@ -1,3 +1,4 @@
+-- One row more is kept, with as many values as rows before it; where the run stops, later steps leave it as it is.
 use Rattle.std.proofs.Common.{◌≡◌, ℕ, ◌+◌, ◌-◌, ◌^◌, ◌<◌, ◌≤◌, min, ℤ, pos, nat_abs, suc, to_z, of_z, List, [], ◌∷◌, ◌++◌, length, map, take, get_or, refl, ap}
 use Rattle.std.proofs.Common.{sym, ◌∙◌, subst, arith}
 use mir.Syntax.{w64}

@@ -1,3 +1,4 @@
+-- What is left so far is the correlation less the products of the values so far.
 use Rattle.std.proofs.Common.{◌≡◌, ◌-◌, ◌^◌, pos, ◌-ℤ◌, ◌*ℤ◌}
 use Rattle.level_spec.specs.Correlation.{sum_over}
 use Rattle.level_spec.specs.Recursion.{lag, value}

@@ -1,3 +1,4 @@
+-- What is left, with 24 more bits, still fits, and its quotient by the error is the reflection.
 use Rattle.std.proofs.Common.{◌≡◌, ◌+◌, ◌^◌, ◌≤◌, pos, ◌*ℤ◌, nat_abs, to_z, of_z, length, ap, ◌∙◌, arith}
 use mir.Syntax.{w64, w128}
 use Rattle.std.specs.Int.{int_div_euclid}

@@ -1,3 +1,4 @@
+-- By the lemma on shares the part of a number is no greater than the number, so that it fits.
 use Rattle.std.proofs.Common.{◌≡◌, ◌^◌, ◌≤◌, nat_abs, to_z, of_z, ◌∙◌, arith}
 use mir.Syntax.{w64, w128}
 use lib.Signed.{shr_z}

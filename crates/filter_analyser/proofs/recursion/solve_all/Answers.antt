@@ -1,3 +1,4 @@
+-- The run is read four times on its way, at each order with the values of that order.
 use Rattle.std.proofs.Common.{◌≡◌, ℤ, List, [], ◌∷◌, lit≤, ap, ◌∙◌}
 use Rattle.filter_analyser.specs.Run.{padded}
 use Rattle.filter_analyser.proofs.Padding.{padded-solution, begun}

@@ -1,3 +1,4 @@
+-- From its beginning the run goes to the order, and its values are padded with zeros.
 use Rattle.std.proofs.Common.{ap, ◌∙◌, arith}
 use Rattle.filter_analyser.specs.Run.{padded}
 use Rattle.filter_analyser.proofs.Padding.{padded-solution, begun}

@@ -1,3 +1,4 @@
+-- The filters so far are copied.
 use Rattle.std.proofs.Common.{◌≡◌, take}
 use Rattle.filter_analyser.proofs.refined.copies.Given as goal
 

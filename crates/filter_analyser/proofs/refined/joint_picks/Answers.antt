@@ -1,3 +1,4 @@
+-- The parameters have a filter for each channel and one table, and are as lawful as the definition's.
 use Rattle.std.proofs.Common.{sym, ◌∙◌, subst, arith}
 use Rattle.dst_spec.specs.Header.{IsParams}
 use Rattle.level_spec.proofs.RefinedPicks.{IsParams-refined_own_with_one_table}

@@ -1,3 +1,4 @@
+-- The correlations of a channel alone are lawful, so that rows can be kept of them.
 use Rattle.std.proofs.Common.{[], ◌∷◌, sym, subst, arith}
 use Rattle.level_spec.specs.Laws.{AreCorrelations}
 use Rattle.level_spec.proofs.Sizes.{are_correlations}

@@ -1,3 +1,4 @@
+-- The channels so far have their refined filters, and the sound stays.
 use Rattle.std.proofs.Common.{◌≡◌, [], ◌∷◌, map}
 use Rattle.std.specs.List.{range_with_len}
 use Rattle.level_spec.specs.Refining.{refined_from}

@@ -1,3 +1,4 @@
+-- Filters for each channel are refined from the last one of all channels together, over the same sound.
 use Rattle.std.proofs.Common.{◌≡◌, ℕ, List, ℤ, [], ◌∷◌, map, ap, sym, ◌∙◌}
 use Rattle.dst_spec.specs.Sample.{Shape}
 use Rattle.level_spec.specs.Refining.{refined_from}

@@ -1,3 +1,4 @@
+-- The parameters have one filter and its short table over all channels, and are as lawful as the definition's.
 use Rattle.std.proofs.Common.{[], ◌∷◌, ap, sym, ◌∙◌, subst}
 use Rattle.dst_spec.specs.Header.{IsParams}
 use Rattle.level_spec.proofs.RefinedPicks.{IsParams-refined_shared}

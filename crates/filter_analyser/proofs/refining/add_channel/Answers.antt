@@ -1,3 +1,4 @@
+-- The row's codes are those of the filter over the channel, and by their weights the samples agree as defined.
 use Rattle.std.proofs.Common.{◌≡◌, ℕ, pos, ◌+ℤ◌, List, length, get_or, ap, ◌∙◌}
 use Rattle.dst_spec.specs.Sample.{Shape}
 use Rattle.level_spec.specs.Refining.{weighted_agreement}

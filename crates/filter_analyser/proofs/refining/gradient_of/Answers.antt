@@ -1,3 +1,4 @@
+-- How one channel more agrees is added, and six channels stay in the bound.
 use Rattle.std.proofs.Common.{ℕ, ◌+◌, ◌+ℤ◌, nat_abs, List, length, get_or, refl, ap, sym, ◌∙◌, arith}
 use Rattle.std.specs.List.{range_with_len}
 use Rattle.level_spec.specs.Refining.{weighted_agreement, gradient}

@@ -1,3 +1,4 @@
+-- The gradient is over the channels so far, bounded by what each can add, and the sound stays.
 use Rattle.std.proofs.Common.{◌≡◌, ℕ, ◌*◌, ◌<◌, ◌≤◌, pos, nat_abs, length, get_or}
 use Rattle.std.specs.List.{range_with_len}
 use Rattle.level_spec.specs.Refining.{gradient}

@@ -1,3 +1,4 @@
+-- The steps left from here come to what all steps do; the last filter's counts and the least size are known.
 use Rattle.std.proofs.Common.{◌≡◌, ℕ, ◌-◌, ◌*◌, ◌<◌, ◌≤◌, ◌==◌, length, get_or}
 use Rattle.std.specs.List.{range_with_len}
 use Rattle.level_spec.specs.Counts.{count_from}

@@ -1,3 +1,4 @@
+-- A table of counts has at least two entries, so that it can be shortened.
 use Rattle.std.proofs.Common.{◌+◌, length, get_or, ap, arith}
 use Rattle.level_spec.proofs.Refined.{length-table_of}
 use Rattle.filter_analyser.proofs.refining.short_table.Goals as goal

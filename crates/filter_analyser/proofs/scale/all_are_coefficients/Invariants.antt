@@ -1,3 +1,4 @@
+-- The values so far are coefficients at the scale.
 use Rattle.std.proofs.Common.{◌≡◌, true, take}
 use Rattle.std.specs.List.{list_all}
 use Rattle.level_spec.specs.Scale.{coefficient, is_coefficient}

@@ -1,3 +1,4 @@
+-- A value of 40 bits at a scale of at most 8, with the half for rounding, fits, and shifted it is the coefficient.
 use Rattle.std.proofs.Common.{arith}
 use Rattle.std.proofs.lemmas.Int.{ints}
 use Rattle.filter_analyser.proofs.Scaling.{scaled-most, coefficient-is}

@@ -1,3 +1,4 @@
+-- One value more is scaled and bounded, and the front is that of all values.
 use Rattle.std.proofs.Common.{◌≡◌, ◌<◌, ◌≢◌, ℤ, pos, to_z, of_z, length, map, get_or, take, length-take, length-set, get_or-set_other}
 use Rattle.std.proofs.Common.{get_or-set_same, below_more, ap, sym, ◌∙◌, arith}
 use mir.Syntax.{w16, w64}

@@ -1,3 +1,4 @@
+-- The values so far are scaled and bounded.
 use Rattle.std.proofs.Common.{◌≡◌, ℕ, ◌<◌, pos, length, get_or}
 use Rattle.level_spec.specs.Scale.{coefficient, bounded}
 use Rattle.filter_analyser.proofs.scale.coefficients.Given as goal

@@ -1,3 +1,4 @@
+-- Where all values are coefficients the scale is found; else it is one of the lesser ones, and 0 behind the last.
 use Rattle.std.proofs.Common.{◌≡◌, ℕ, suc, ◌+◌, ◌-◌, ◌<◌, true, false, cond, List, ℤ, ap, sym, ◌∙◌, arith}
 use Rattle.std.specs.List.{list_all}
 use Rattle.level_spec.specs.Scale.{coefficient, is_coefficient, scale}

@@ -1,3 +1,4 @@
+-- The scale is one of those left: at none so far were all values coefficients.
 use Rattle.std.proofs.Common.{◌≡◌, ◌-◌}
 use Rattle.level_spec.specs.Scale.{scale}
 use Rattle.filter_analyser.proofs.scale.greatest_scale.Given as goal

@@ -1,3 +1,4 @@
+-- The front of the coefficients at the greatest scale, without zeros behind, is the filter, which is lawful.
 use Rattle.std.proofs.Common.{◌≡◌, ℕ, ◌≤◌, max, ℤ, List, length, map, take, length-take, ap, sym, ◌∙◌, subst, arith}
 use Rattle.std.proofs.lemmas.List.{take-take}
 use Rattle.dst_spec.specs.Table.{filter_kind, IsTable}

@@ -1,3 +1,4 @@
+-- One word more is counted and moved; each count is at most 64 for each word, so that it fits.
 use Rattle.std.proofs.Common.{◌≡◌, ◌+◌, ◌*◌, ◌%◌, length, ap, ◌∙◌, arith}
 use Rattle.std.proofs.lemmas.List.{get_or-replicate}
 use Rattle.filter_analyser.specs.Words.{bit_of, late, tally, differing}

@@ -1,3 +1,4 @@
+-- The samples of the words so far are compared and moved, and the word before is known.
 use Rattle.filter_analyser.proofs.Compared.{Compared}
 use Rattle.filter_analyser.proofs.words.compare.Given as goal
 

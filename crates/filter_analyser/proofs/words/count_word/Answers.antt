@@ -1,3 +1,4 @@
+-- The ones of the exclusive or, at most 64, are the samples that differ.
 use Rattle.std.proofs.Common.{◌≡◌, ℕ, ◌+◌, ◌-◌, ◌/◌, ◌%◌, ◌^◌, ◌<◌, ◌≤◌, ◌≢◌, length, get_or, bit_xor, count_ones, below_more, get_or-set_other}
 use Rattle.std.proofs.Common.{get_or-set_same, length-set, rules, arith}
 use Rattle.std.proofs.lemmas.Nat.{ones-le, xor_lt}

@@ -1,3 +1,4 @@
+-- The places so far have added what differs in this word, and those to come are as at first.
 use Rattle.std.proofs.Common.{◌≡◌, ℕ, ◌+◌, ◌-◌, ◌/◌, ◌%◌, ◌^◌, ◌<◌, ◌≤◌, length, get_or}
 use Rattle.filter_analyser.specs.Words.{passed, tally}
 use Rattle.filter_analyser.proofs.words.count_word.Given as goal

@@ -1,3 +1,4 @@
+-- A sample comes from the word before where it is among the first so many, else from the word itself.
 use Rattle.std.proofs.Common.{◌-◌, ◌/◌, ◌%◌, ◌^◌, ◌<◌, cond, inl, inr, ap, sym, ◌∙◌, rules, arith}
 use Rattle.std.proofs.lemmas.Bool.{cases_lt}
 use Rattle.filter_refiner.proofs.Lengths.{test-true, test-false}

@@ -1,3 +1,4 @@
+-- Sample by sample the bits of the words are those of the channel.
 use Rattle.std.proofs.Common.{◌≡◌, ◌+◌, ◌-◌, ◌*◌, ◌/◌, ◌%◌, ◌^◌, get_or, ap, sym, ◌∙◌, arith}
 use Rattle.filter_analyser.proofs.words.pack.Goals as goal
 

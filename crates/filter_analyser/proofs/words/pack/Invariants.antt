@@ -1,3 +1,4 @@
+-- The words so far have the bits of their eight bytes.
 use Rattle.std.proofs.Common.{◌≡◌, ℕ, ◌+◌, ◌-◌, ◌*◌, ◌/◌, ◌%◌, ◌^◌, ◌<◌, get_or}
 use Rattle.filter_analyser.proofs.words.pack.Given as goal
 

@@ -1,3 +1,4 @@
+-- Eight bits come in at the end, and those before move up without loss.
 use Rattle.std.proofs.Common.{◌≡◌, ℕ, ◌+◌, ◌-◌, ◌*◌, ◌/◌, ◌%◌, ◌^◌, ◌<◌, get_or, bit_or, ap, sym, ◌∙◌, subst, rules, arith}
 use Rattle.filter_analyser.proofs.Bits.{joined, byte-behind, byte-bits}
 use Rattle.filter_analyser.proofs.words.word_at.Goals as goal

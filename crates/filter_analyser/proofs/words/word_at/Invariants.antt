@@ -1,3 +1,4 @@
+-- The bits of the bytes so far stand at the low end of the word, with nothing above them.
 use Rattle.std.proofs.Common.{◌≡◌, ℕ, ◌+◌, ◌-◌, ◌*◌, ◌/◌, ◌%◌, ◌^◌, ◌<◌, get_or}
 use Rattle.filter_analyser.proofs.words.word_at.Given as goal
 

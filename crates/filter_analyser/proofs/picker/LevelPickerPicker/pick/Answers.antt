@@ -1,3 +1,4 @@
+-- At level 0 the cleared candidates are what the level picks: none.
 use Rattle.std.proofs.Common.{ap, sym, ◌∙◌}
 use Rattle.level_spec.specs.Picks.{level_picks}
 use Rattle.filter_analyser.proofs.picker.LevelPickerPicker.pick.Goals as goal

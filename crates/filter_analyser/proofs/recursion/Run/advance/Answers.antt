@@ -1,3 +1,4 @@
+-- One step more is the next state; where one stops, all later steps leave it as it is.
 use Rattle.std.proofs.Common.{◌≡◌, length, ap, sym, ◌∙◌, arith}
 use Rattle.level_spec.specs.Recursion.{step, after}
 use Rattle.level_spec.proofs.Steps.{length-after}

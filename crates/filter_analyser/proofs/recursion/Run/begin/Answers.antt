@@ -1,3 +1,4 @@
+-- The error is the first correlation with 24 fraction bits, which fits.
 use Rattle.std.proofs.Common.{◌≡◌, ℤ, pos, ◌*ℤ◌, to_z, of_z, [], get_or, ap, arith}
 use mir.Syntax.{w64}
 use Rattle.std.proofs.lemmas.Int.{ints}

@@ -1,3 +1,4 @@
+-- The values so far are copied, and all behind them are 0.
 use Rattle.std.proofs.Common.{◌≡◌, ℕ, ◌<◌, ◌≤◌, pos, length, get_or}
 use Rattle.filter_analyser.proofs.recursion.Run.padded.Given as goal
 
