@@ -1,3 +1,4 @@
+-- No frames are no sound; one frame more stands behind those before, and the maker behind it.
 use Rattle.sound_maker.proofs.Making.{nothing_made, one_frame_more, maker_behind_a_frame}
 use Rattle.sound_maker.proofs.laws.in_order.Goals as goal
 

@@ -1,3 +1,4 @@
+-- Each byte is the number of its samples so far, and the moment is as many samples later.
 use Rattle.std.proofs.Common.{◌≡◌, ℕ, ◌^◌, ◌<◌, get_or, take}
 use Rattle.dst_spec.specs.Bits.{number_from}
 use Rattle.dsdiff_spec.specs.Samples.{eight}

@@ -1,3 +1,4 @@
+-- One channel more draws from the generator where the last one left it, and moves its own wave alone.
 use Rattle.std.proofs.Common.{◌≡◌, ◌≢◌, ℕ, ◌+◌, ◌*◌, ◌%◌, ◌<◌, ◌≤◌, w32, to_z, of_z, [], ◌∷◌, ◌++◌, length, get_or, take, set, refl, ap, sym, ◌∙◌, arith}
 use Rattle.std.proofs.Common.{below_more, length-take-le}
 use Rattle.std.proofs.lemmas.Int.{ints}

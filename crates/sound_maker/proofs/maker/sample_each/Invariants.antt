@@ -1,3 +1,4 @@
+-- The channels so far have their samples and next waves, and those to come are as at first.
 use Rattle.std.proofs.Common.{◌≡◌, ℕ, ◌+◌, ◌*◌, ◌%◌, ◌<◌, ◌≤◌, length, get_or, take}
 use Rattle.dsdiff_spec.specs.Made.{at_time}
 use Rattle.sound_maker.proofs.Making.{still}

@@ -1,3 +1,4 @@
+-- The numbers are small, so that their sum fits, and it is brought into the bounds.
 use Rattle.std.proofs.Common.{◌≡◌, ◌+ℤ◌, ◌-ℤ◌, ℤ, w32, to_z, of_z, ap, ◌∙◌, arith}
 use Rattle.std.proofs.lemmas.Int.{ints}
 use Rattle.dsdiff_spec.specs.Made.{bounded}

@@ -1,3 +1,4 @@
+-- All waves are still and the generator is seeded with the number, as at the beginning.
 use Rattle.std.proofs.Common.{◌≡◌, ◌*◌, ◌≤◌, ℕ, List, [], ◌∷◌, take, replicate, ap, ap₂, sym, ◌∙◌, arith}
 use Rattle.rand_pcg.specs.Lcg.{Lcg}
 use Rattle.dst_spec.specs.Sample.{Shape}

@@ -1,3 +1,4 @@
+-- One row more has eight samples of each channel from where the last row ended, and all rows are the frame.
 use Rattle.std.proofs.Common.{◌≡◌, ◌+◌, ◌*◌, ◌<◌, ℕ, ◌++◌, length, get_or, take, take_all, refl, ap, sym, ◌∙◌, arith}
 use Rattle.dst_spec.specs.Bits.{number_from}
 use Rattle.dsdiff_spec.specs.Samples.{eight, sound_of}

@@ -1,3 +1,4 @@
+-- The rows so far are written, and the maker stands behind their samples.
 use Rattle.std.proofs.Common.{◌≡◌, ◌*◌, ◌<◌, ◌≤◌, take}
 use Rattle.dsdiff_spec.specs.Samples.{sound_of}
 use Rattle.sound_maker.specs.Making.{moment, later, sample_from}
