@@ -1,3 +1,4 @@
+-- The error begins at 2 ^ 44 at most, never rises and stays 1 or more; a step stops before a value passes 40 bits.
 use Rattle.std.proofs.Common.{◌^◌, pos, ◌≤ℤ◌, arith}
 use Rattle.std.proofs.lemmas.Int.{ints}
 use Rattle.level_spec.specs.Recursion.{lag}
