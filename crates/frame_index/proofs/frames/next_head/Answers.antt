@@ -1,3 +1,4 @@
+-- A head whose body would pass the end of `DST ` is one that doesn't fit.
 use Rattle.std.proofs.Common.{true, ap, ◌∙◌, arith}
 use Rattle.dsdiff_spec.specs.Chunks.{fits}
 use Rattle.dsdiff_spec.proofs.Steps.{misfit_body}

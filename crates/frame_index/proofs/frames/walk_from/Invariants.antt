@@ -1,3 +1,4 @@
+-- The walk has come to the place, with the entries of the frames found, and less is left of `DST ` each time.
 use Rattle.std.proofs.Common.{◌≡◌, ◌+◌, ◌-◌, ◌*◌, ◌≤◌}
 use Rattle.dsdiff_spec.specs.Chunks.{body_place, body_end}
 use Rattle.dsdiff_chunks.specs.Forms.{coded_seen}

@@ -1,3 +1,4 @@
+-- Indexes of as many entries that are the same one by one are the same.
 use Rattle.std.proofs.Common.{arith}
 use Rattle.std.proofs.lemmas.List.{ext_get_or}
 use Rattle.frame_index.proofs.index.compare.Goals as goal

@@ -1,3 +1,4 @@
+-- The entries so far are the same in both.
 use Rattle.std.proofs.Common.{◌≡◌, ◌<◌, ℕ}
 use Rattle.dsdiff_spec.specs.Walk.{entry}
 use Rattle.frame_index.proofs.index.compare.Given as goal

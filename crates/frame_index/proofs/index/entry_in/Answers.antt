@@ -1,3 +1,4 @@
+-- The bytes from the place on begin with eight of the offset and four of the size.
 use Rattle.std.proofs.Common.{◌≡◌, ◌-◌, ◌*◌, ap, ◌∙◌, refl, length, take, drop}
 use Rattle.byteorder.specs.Endian.{big_number}
 use Rattle.chunk_view.proofs.InParts.{number_behind_place, number_behind_both}

@@ -1,3 +1,4 @@
+-- None of the heads so far is that of a `DSTI`.
 use Rattle.std.proofs.Common.{◌≡◌, map, drop}
 use Rattle.dsdiff_spec.specs.Chunks.{named}
 use Rattle.dsdiff_chunks.specs.Seen.{head_seen}

@@ -1,3 +1,4 @@
+-- The first `DSTI` is one of the form's chunks, so that its body ends where the form does at the latest.
 use Rattle.std.proofs.Common.{map, sym, ap, ◌∙◌, arith}
 use Rattle.dsdiff_spec.specs.Chunks.{named}
 use Rattle.dsdiff_chunks.specs.Forms.{coded_seen}

@@ -1,3 +1,4 @@
+-- The sound lies inside the form, so that the places in it fit their words.
 use Rattle.std.proofs.Common.{arith}
 use Rattle.dsdiff_chunks.specs.Forms.{coded_seen}
 use Rattle.dsdiff_chunks.proofs.LawfulForms.{sound_inside}

@@ -1,3 +1,4 @@
+-- A fault of the index is the frame's; else the entry at its place names a frame, which isn't too long.
 use Rattle.std.proofs.Common.{◌≡◌, ◌+◌, ◌*◌, ap, sym, ◌∙◌, Err, arith}
 use Rattle.dsdiff_spec.specs.Chunks.{Head}
 use Rattle.dsdiff_spec.specs.Walk.{indexed}

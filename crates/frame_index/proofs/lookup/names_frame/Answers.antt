@@ -1,3 +1,4 @@
+-- An entry that lies inside has a head before it within the form, which tells whether it is that of a frame.
 use Rattle.std.proofs.Common.{◌∙◌, sym, arith}
 use Rattle.dsdiff_chunks.specs.Forms.{coded_seen}
 use Rattle.dsdiff_chunks.specs.Seen.{head_seen}

@@ -1,3 +1,4 @@
+-- Twelve bytes that are read alone are the entry that stands at their place.
 use Rattle.std.proofs.Common.{◌∙◌}
 use Rattle.frame_index.proofs.Indexed.{entry_alone}
 use Rattle.frame_index.proofs.lookup.read_entry.Goals as goal

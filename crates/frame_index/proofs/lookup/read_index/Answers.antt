@@ -1,3 +1,4 @@
+-- The bytes behind the head of `DSTI`, twelve for each frame, are its entries in order.
 use Rattle.std.proofs.Common.{length, sym, ap, subst, ◌∙◌}
 use Rattle.dsdiff_chunks.specs.Forms.{coded_seen}
 use Rattle.dsdiff_chunks.specs.Seen.{head_seen}

@@ -1,3 +1,4 @@
+-- There are twelve bytes for each frame, so that those at 12 * k are entry k.
 use Rattle.std.proofs.Common.{◌<◌, length, ap, sym, ◌∙◌, arith}
 use Rattle.frame_index.proofs.Entries.{length-entries_in, entry-entries_in}
 use Rattle.frame_index.specs.Entries.{entries_in}

@@ -1,3 +1,4 @@
+-- Twelve bytes for each frame are as many entries as there are frames.
 use Rattle.std.proofs.Common.{sym}
 use Rattle.frame_index.proofs.Entries.{length-entries_in}
 use Rattle.frame_index.proofs.index.Index.length.Goals as goal
