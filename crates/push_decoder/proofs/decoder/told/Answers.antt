@@ -1,3 +1,4 @@
+-- A frame within a piece is what was taken of it from a place on, and a head tells the same channels and rate.
 use Rattle.std.proofs.Common.{ℕ, ◌*◌, ◌≡◌, ◌+◌, ◌-◌, take, drop, Some, ◌∙◌, ap, sym, arith}
 use Rattle.std.proofs.lemmas.List.{drop-take}
 use Rattle.push_decoder.specs.Events.{frame_came}

@@ -1,3 +1,4 @@
+-- Where the form ends, has too many chunks or no room for a head, the stream comes to that fault.
 use Rattle.std.proofs.Common.{arith}
 use Rattle.push_decoder.specs.Stages.{came_of}
 use Rattle.push_decoder.proofs.FormSteps.{missing_at, too_many_at, overruns_at}

@@ -1,3 +1,4 @@
+-- By what the chunk is: it is refused by its head, begins the sound, has a body that is looked at, or is passed over.
 use Rattle.std.proofs.Common.{rules, ◌≡◌, true, false, sym, ◌∙◌, arith}
 use Rattle.dsdiff_spec.specs.Bytes.{◌is◌}
 use Rattle.dsdiff_chunks.specs.Seen.{head_seen}

@@ -1,3 +1,4 @@
+-- Behind the first chunk the rules on a head are those on later ones.
 use Rattle.std.proofs.Common.{rules, ◌≡◌, sym, ◌∙◌, Some, arith}
 use Rattle.dsdiff_chunks.specs.Seen.{head_seen}
 use Rattle.push_decoder.specs.Stages.{came_of}

@@ -1,3 +1,4 @@
+-- By the id the rules are those on a `PROP`, a `DSD ` or a `DST `.
 use Rattle.std.proofs.Common.{rules, ◌≡◌, true, false, sym, ◌∙◌}
 use Rattle.dsdiff_spec.specs.Bytes.{◌is◌}
 use Rattle.dsdiff_chunks.specs.Seen.{head_seen}

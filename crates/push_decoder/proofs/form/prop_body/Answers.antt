@@ -1,3 +1,4 @@
+-- Behind a body of `PROP` that is accepted the stream goes on with what it tells.
 use Rattle.std.proofs.Common.{◌∙◌}
 use Rattle.dsdiff_chunks.specs.Seen.{head_seen}
 use Rattle.push_decoder.proofs.FormParts.{prop_taken}

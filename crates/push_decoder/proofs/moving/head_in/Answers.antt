@@ -1,3 +1,4 @@
+-- Twelve bytes that stand at a place of the stream are the head of the chunk there.
 use Rattle.std.proofs.Common.{sym, ◌∙◌}
 use Rattle.chunk_view.proofs.InParts.{head_in_part}
 use Rattle.push_decoder.proofs.moving.head_in.Goals as goal

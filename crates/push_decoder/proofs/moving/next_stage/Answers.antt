@@ -1,3 +1,4 @@
+-- The body of `FVER` or `PROP`, or `FRTE`, is the part that is whole, and the stream goes on behind it.
 use Rattle.std.proofs.Common.{◌≡◌, ◌<◌, ap, arith}
 use Rattle.push_decoder.proofs.Moves.{version_goes_on, prop_goes_on, count_goes_on}
 use Rattle.push_decoder.proofs.moving.next_stage.Goals as goal

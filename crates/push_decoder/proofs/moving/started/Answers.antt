@@ -1,3 +1,4 @@
+-- Sixteen bytes that break a rule stop the stream; behind any others the form's chunks are read.
 use Rattle.std.proofs.Common.{sym, ◌∙◌, rules}
 use Rattle.push_decoder.proofs.Starting.{start_refused, start_taken}
 use Rattle.push_decoder.proofs.moving.started.Goals as goal

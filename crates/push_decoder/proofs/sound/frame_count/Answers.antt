@@ -1,3 +1,4 @@
+-- `FRTE` is refused, or taken with its frame count and the channels that `PROP` tells.
 use Rattle.std.proofs.Common.{ap, ◌∙◌, sym}
 use Rattle.std.specs.Prelude.{option_map}
 use Rattle.dsdiff_chunks.specs.Seen.{head_seen}

@@ -1,3 +1,4 @@
+-- A frame whose body came is the next one of the stream, and what stands behind it goes on.
 use Rattle.std.proofs.Common.{ap, ◌∙◌}
 use Rattle.dsdiff_spec.specs.Chunks.{body_of}
 use Rattle.dsdiff_spec.specs.Streams.{with_frame}

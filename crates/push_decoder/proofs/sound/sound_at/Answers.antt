@@ -1,3 +1,4 @@
+-- Where `DST ` ends, has too many chunks or no room for a head, the stream comes to its end or that fault.
 use Rattle.std.proofs.Common.{arith, ◌∙◌}
 use Rattle.push_decoder.proofs.SoundSteps.{counted_at, too_many_at, overruns_at}
 use Rattle.push_decoder.proofs.sound.sound_at.Goals as goal

@@ -1,3 +1,4 @@
+-- By what the chunk is: it is refused by its head, passed over, or a frame, which may be empty.
 use Rattle.std.proofs.Common.{rules, ◌≡◌, false, sym, ◌∙◌, arith}
 use Rattle.dsdiff_spec.specs.Bytes.{◌is◌}
 use Rattle.dsdiff_chunks.specs.Seen.{head_seen}

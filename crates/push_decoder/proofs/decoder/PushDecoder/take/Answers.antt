@@ -1,3 +1,4 @@
+-- The reader's answer is told as a step, and what the reader has read stands when the lent bytes are done with.
 use Rattle.std.proofs.Common.{refl}
 use Rattle.push_decoder.proofs.decoder.PushDecoder.take.Goals as goal
 

@@ -1,3 +1,4 @@
+-- What is due ends as the stage behind it does; a stage that lacks bytes ends inside its chunk.
 use Rattle.std.proofs.Common.{rules, ◌≡◌, ◌+◌, false, ◌∙◌, ap, sym, subst, refl, arith}
 use Rattle.dsdiff_spec.specs.Streams.{Ending, stream}
 use Rattle.push_decoder.specs.declared.stage.Stage.TheVariants.{Opened, FrameWhole}

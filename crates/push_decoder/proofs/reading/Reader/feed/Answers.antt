@@ -1,3 +1,4 @@
+-- Bytes taken one after the other are bytes taken at once, and nothing was due of fewer.
 use Rattle.std.proofs.Common.{◌≡◌, ◌++◌, ℕ, List, take, Some, None, ◌∙◌, ap, sym, subst, arith}
 use Rattle.std.proofs.lemmas.List.{drop-take}
 use Rattle.push_decoder.specs.Events.{frame_came, due, answered_with}

@@ -1,3 +1,4 @@
+-- The reader stands behind the bytes taken of the piece, and those that are left grow fewer.
 use Rattle.std.proofs.Common.{◌-◌, ◌≤◌, ◌++◌, ℕ, List, length, take}
 use Rattle.push_decoder.specs.Events.{Answered}
 use Rattle.push_decoder.specs.Reading.{HasRead}

@@ -1,3 +1,4 @@
+-- A part that is whole moves the reader to the next stage, and what was read stays what was read.
 use Rattle.std.proofs.Common.{◌≡◌, ◌+◌, ◌≤◌, true, length, ◌++◌, ap, ◌∙◌, refl, arith}
 use Rattle.push_decoder.specs.Stages.{lacks, part_start, part_end, version_then, prop_then}
 use Rattle.push_decoder.specs.Reading.{HasRead}

@@ -1,3 +1,4 @@
+-- Up to the end of its part a stage lacks bytes, so that nothing is due of fewer.
 use Rattle.std.proofs.Common.{◌≡◌, ◌+◌, ◌<◌, ◌≤◌, true, arith}
 use Rattle.push_decoder.specs.Stages.{lacks, part_end}
 use Rattle.push_decoder.specs.Reading.{HasRead}

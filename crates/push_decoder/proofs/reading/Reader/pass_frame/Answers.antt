@@ -1,3 +1,4 @@
+-- A frame that lies whole in the bytes is the body behind its head, and what follows is read on behind it.
 use Rattle.std.proofs.Common.{◌≡◌, ◌+◌, ◌≤◌, ◌++◌, take, length, ◌∙◌, ap, sym, refl, arith, length-append, append_assoc}
 use Rattle.std.proofs.lemmas.List.{length-take}
 use Rattle.dsdiff_spec.specs.Streams.{stream}
