@@ -1,3 +1,4 @@
+-- A file shorter than a head is refused; of any other the head and the size decide all rules.
 use Rattle.std.proofs.Common.{◌≡◌, ◌<◌, length, Some, ap, ◌∙◌, arith}
 use Rattle.dsdiff_spec.specs.declared.faults.FileFault.TheVariants.{DsfForm}
 use Rattle.dsf_files.proofs.Heads.{short_is_refused, fault_by_head, said_by}

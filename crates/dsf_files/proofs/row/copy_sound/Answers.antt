@@ -1,3 +1,4 @@
+-- Behind the last channel comes the next octet, so that both are the remainder and the quotient of the place.
 use Rattle.std.proofs.Common.{◌≡◌, ◌≢◌, ◌+◌, ◌*◌, ◌<◌, length, get_or, sym, ap, ap₂, ◌∙◌, arith, below_more, get_or-set_other, get_or-set_same}
 use Rattle.dsf_files.proofs.RowBytes.{place_of_byte}
 use Rattle.dsf_files.proofs.row.copy_sound.Goals as goal

@@ -1,3 +1,4 @@
+-- A row in the front of the room is that of the file, whatever stands behind it.
 use Rattle.std.proofs.Common.{ℕ, arith}
 use Rattle.std.proofs.lemmas.List.{length-take}
 use Rattle.dsf_files.proofs.Reading.{front_of_row}
