@@ -1,3 +1,4 @@
+-- Zeros behind zeros are zeros: 32 at a time, and behind the loop those that are left.
 use Rattle.std.proofs.Common.{rules, ◌+◌, ◌*◌, ◌%◌, ◌∙◌, arith}
 use Rattle.table_code.proofs.Zeros.{zeros_more}
 use Rattle.table_code.proofs.appending.append_zeros.Goals as goal

@@ -1,3 +1,4 @@
+-- So far 32 zeros are written in each turn, and their room is taken.
 use Rattle.std.proofs.Common.{◌≡◌, ◌+◌, ◌*◌, ◌++◌, replicate}
 use Rattle.table_code.proofs.appending.append_zeros.Given as goal
 

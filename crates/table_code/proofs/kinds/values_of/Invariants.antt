@@ -1,3 +1,4 @@
+-- The values so far are the first ones of the table.
 use Rattle.std.proofs.Common.{◌≡◌, take}
 use Rattle.table_code.proofs.kinds.values_of.Given as goal
 

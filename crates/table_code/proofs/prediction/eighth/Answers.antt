@@ -1,3 +1,4 @@
+-- The sum and what is left to add are the weighted sum; both are small for any part of the weights, so it fits.
 use Rattle.std.proofs.Common.{◌≡◌, ◌+◌, ◌<◌, ◌≤◌, rules, pos, ◌+ℤ◌, nat_abs, drop, length, reverse, ap, ◌∙◌, arith}
 use Rattle.std.proofs.lemmas.Int.{ints, to_z-of_z, fits_signed_from_abs}
 use mir.Val.{SFits}

@@ -1,3 +1,4 @@
+-- The sum so far and the terms that are left make the whole weighted sum.
 use Rattle.std.proofs.Common.{◌≡◌, ◌+ℤ◌, drop, reverse}
 use Rattle.dst_spec.specs.Table.{weighted}
 use Rattle.table_code.proofs.prediction.eighth.Given as goal

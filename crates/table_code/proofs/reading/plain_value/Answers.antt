@@ -1,3 +1,4 @@
+-- A number in the upper half of its range spells a negative value, as the kind has a least value below 0.
 use Rattle.std.proofs.Common.{◌≡◌, ◌-◌, ◌^◌, ◌≤◌, ◌<ℤ◌, pos, ◌∙◌, arith}
 use Rattle.std.proofs.lemmas.Int.{ints}
 use Rattle.std.proofs.lemmas.Nat.{one_shl}

@@ -1,3 +1,4 @@
+-- The first bit says whether the values behind it are plain or coded; a fault there is that of the body.
 use Rattle.std.proofs.Common.{◌∙◌}
 use Rattle.std.proofs.lemmas.Result.{err_from_is_err_and, IfOk-weaker, IfErr-weaker}
 use Rattle.dst_spec.specs.Offends.{times, plain_fields, coded_fields, body_fields}

@@ -1,3 +1,4 @@
+-- Reading goes on field by field: the method, the first values, the Rice number, the later values.
 use Rattle.std.proofs.Common.{◌∙◌}
 use Rattle.std.proofs.lemmas.Result.{err_from_is_err_and}
 use Rattle.bit_io.specs.Reading.{left}

@@ -1,3 +1,4 @@
+-- Reading from the first value on comes to reading those that are left behind the ones held so far.
 use Rattle.std.proofs.Common.{◌≡◌, ◌+◌, ◌≤◌, length}
 use Rattle.std.specs.List.{AllByRecursion}
 use Rattle.dst_spec.specs.Table.{InRange}

@@ -1,3 +1,4 @@
+-- The value is the residual less the eighth, refused where the kind has no such value or bits are missing.
 use Rattle.std.proofs.Common.{◌≡◌, ◌∙◌, ℤ, ◌-ℤ◌, reverse, rules, if◌then◌else◌, ap, arith}
 use Rattle.std.proofs.lemmas.Int.{ints, to_z-of_z}
 use mir.Val.{SFits, to_z, of_z}

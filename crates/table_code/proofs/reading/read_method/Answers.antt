@@ -1,3 +1,4 @@
+-- A method is cut short, is the reserved 3, asks for more values than the table has, or keeps its rules.
 use Rattle.std.proofs.lemmas.Result.{err_from_is_err_and}
 use Rattle.dst_spec.specs.Fields.{gives, read}
 use Rattle.dst_spec.specs.Offends.{method_rule}

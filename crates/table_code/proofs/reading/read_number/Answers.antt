@@ -1,3 +1,4 @@
+-- A number without a rule is given where its bits are there, and is cut short where they aren't.
 use Rattle.dst_spec.specs.Fields.{gives, any}
 use Rattle.bit_io.specs.Reading.{left}
 use Rattle.table_code.proofs.FieldSteps.{number_gives, field_cut}

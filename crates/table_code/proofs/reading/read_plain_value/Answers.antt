@@ -1,3 +1,4 @@
+-- The field has the kind's number of bits, and any number of so many bits spells a value of the kind.
 use Rattle.std.proofs.Common.{◌≡◌, ◌∙◌, rules, refl, sym, subst}
 use Rattle.std.proofs.lemmas.Result.{err_from_is_err_and}
 use Rattle.std.proofs.lemmas.Int.{to_z-of_z}

@@ -1,3 +1,4 @@
+-- The values that were read are those of a table as it is spelled, so there always is a table of them.
 use Rattle.std.proofs.Common.{sym, subst}
 use Rattle.dst_spec.specs.Bits.{bits}
 use Rattle.dst_spec.specs.Table.{IsTable}

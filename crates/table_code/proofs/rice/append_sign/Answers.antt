@@ -1,3 +1,4 @@
+-- A positive residual has the sign bit 0, a negative one the bit 1.
 use Rattle.std.proofs.Common.{◌++◌, ◌<ℤ◌, pos, rules, ap, ◌∙◌, arith}
 use Rattle.std.proofs.lemmas.Int.{ints, to_z-of_z}
 use mir.Val.{SFits}

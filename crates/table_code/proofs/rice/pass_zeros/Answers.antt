@@ -1,3 +1,4 @@
+-- A window of 32 bits that isn't 0 holds the one behind the zeros; a window that is 0 is passed whole.
 use Rattle.std.proofs.Common.{◌≡◌, rules, sym, ap, ◌∙◌, drop, drop-drop}
 use Rattle.dst_spec.specs.Bits.{number_from}
 use Rattle.bit_io.specs.Reading.{left}

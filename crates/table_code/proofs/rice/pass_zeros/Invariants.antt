@@ -1,3 +1,4 @@
+-- All the bits passed are zeros, 32 in each window, so the run of zeros is as many and the run that is left.
 use Rattle.std.proofs.Common.{◌≡◌, ◌+◌, ◌*◌, min, length, drop}
 use Rattle.dst_spec.specs.Fields.{zero_run}
 use Rattle.bit_io.specs.Reading.{left}

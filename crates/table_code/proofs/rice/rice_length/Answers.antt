@@ -1,3 +1,4 @@
+-- A residual has its quotient in zeros, a one, the low bits, and a sign where it isn't 0.
 use Rattle.std.proofs.Common.{◌≡◌, nat_abs, rules, arith, ap, ◌∙◌}
 use Rattle.std.proofs.lemmas.Int.{to_z-of_z}
 use mir.Val.{SFits}

@@ -1,3 +1,4 @@
+-- A value and an eighth are small, so their sum is a residual, and it is the next one that the method leaves.
 use Rattle.std.proofs.Common.{◌≡◌, ◌+◌, ℤ, pos, negsuc, ◌+ℤ◌, ◌≤ℤ◌, rules, [], ◌∷◌, ◌++◌, length, length-append, get_or, take, drop, reverse, ap, sym}
 use Rattle.std.proofs.Common.{subst, ◌∙◌, arith, append_assoc}
 use Rattle.std.proofs.lemmas.Int.{ints, to_z-of_z, fits_signed_from_abs}

@@ -1,3 +1,4 @@
+-- The residuals so far, and those of the values that are left, are those of the whole table.
 use Rattle.std.proofs.Common.{◌≡◌, ◌+◌, ◌++◌, length, take, drop, reverse}
 use Rattle.std.specs.List.{AllByRecursion}
 use Rattle.table_code.specs.Choices.{residuals, IsResidual}

@@ -1,3 +1,4 @@
+-- Plain is the first best spelling, then each method tries its own; all three together try every spelling.
 use Rattle.std.proofs.Common.{◌≡◌, refl, sym, ap, ◌∙◌, arith}
 use Rattle.std.specs.List.{fold}
 use Rattle.dst_spec.specs.Table.{plain}

@@ -1,3 +1,4 @@
+-- The best spelling so far is the first of the shortest among plain and the methods tried.
 use Rattle.std.proofs.Common.{◌≡◌}
 use Rattle.std.specs.List.{fold}
 use Rattle.dst_spec.specs.Table.{plain}

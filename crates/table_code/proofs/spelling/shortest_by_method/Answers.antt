@@ -1,3 +1,4 @@
+-- A table too short for the method has no spelling by it; else each Rice number gives one whose length is known.
 use Rattle.std.proofs.Common.{◌≡◌, ◌+◌, ◌*◌, length, ap, ap₂, sym, ◌∙◌, arith}
 use Rattle.std.specs.List.{fold}
 use Rattle.dst_spec.specs.Table.{coded, table_bits}

@@ -1,3 +1,4 @@
+-- The best spelling so far is the first of the shortest among the earlier ones and the Rice numbers tried.
 use Rattle.std.proofs.Common.{◌≡◌}
 use Rattle.std.specs.List.{fold}
 use Rattle.table_code.specs.Spellings.{spelled}

@@ -1,3 +1,4 @@
+-- The method, first values, Rice number and residuals are the body, part by part, and there is room for each.
 use Rattle.std.proofs.Common.{◌≡◌, ◌+◌, ◌∷◌, ◌++◌, length, take, drop, reverse, ap, ◌∙◌, arith}
 use Rattle.std.specs.List.{flat_map}
 use Rattle.dst_spec.specs.Bits.{low_bits}

@@ -1,3 +1,4 @@
+-- The bit 0 and the values behind it are the body of a plain table.
 use Rattle.std.proofs.Common.{[], ◌∷◌}
 use Rattle.dst_spec.specs.Bits.{low_bits}
 use Rattle.dst_spec.specs.Table.{plain_values}

@@ -1,3 +1,4 @@
+-- There is room for each residual, as there is for all, so it is written behind those before.
 use Rattle.std.proofs.Common.{ℤ, pos, rules, get_or, arith}
 use Rattle.std.proofs.lemmas.Int.{to_z-of_z}
 use mir.Val.{SFits}

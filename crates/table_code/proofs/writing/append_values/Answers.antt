@@ -1,3 +1,4 @@
+-- There is room for each value, as there is for all, and its number spells it in the kind's number of bits.
 use Rattle.std.proofs.Common.{◌≡◌, ◌+◌, ◌≤◌, ◌++◌, ℤ, pos, rules, length, get_or, take, ap, ◌∙◌, arith}
 use Rattle.std.proofs.lemmas.Int.{to_z-of_z}
 use Rattle.std.proofs.lemmas.List.{take_all}

@@ -1,3 +1,4 @@
+-- The values so far are written, and their bits are taken from the room.
 use Rattle.std.proofs.Common.{◌≡◌, ◌+◌, ◌++◌, length, take}
 use Rattle.std.specs.List.{flat_map}
 use Rattle.dst_spec.specs.Table.{plain_value}

@@ -1,3 +1,4 @@
+-- The coefficients so far are the numbers that the loop has passed.
 use Rattle.std.proofs.Common.{◌≡◌, take}
 use Rattle.table_code.proofs.kinds.FiltersTableKind.from_values.Given as goal
 

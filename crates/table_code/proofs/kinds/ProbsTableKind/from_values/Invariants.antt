@@ -1,3 +1,4 @@
+-- The entries so far are the numbers that the loop has passed.
 use Rattle.std.proofs.Common.{◌≡◌, take, map, pos}
 use Rattle.table_code.proofs.kinds.ProbsTableKind.from_values.Given as goal
 
