@@ -1,3 +1,4 @@
+-- An end bit 1 is passed, an end bit 0 breaks the rule of one segment, and one that isn't there is cut short.
 use Rattle.std.proofs.Common.{◌≡◌, ℕ, None, refl, ap}
 use Rattle.std.proofs.lemmas.Bool.{ne_eqb}
 use Rattle.dst_spec.specs.Offends.{end_rule}

@@ -1,3 +1,4 @@
+-- The number is at most the count of different ones in front, or breaks the rule of maps, or is cut short.
 use Rattle.std.proofs.Common.{◌≡◌, ℕ, ◌<◌, ◌≤◌, Some, None, refl, lt-ltb, le-ltb}
 use Rattle.dst_spec.specs.Map.{map_bits}
 use Rattle.dst_spec.specs.Offends.{number_rule}

@@ -1,3 +1,4 @@
+-- A number without a rule is given where its bits are there, and is cut short where they aren't.
 use Rattle.frame_header.proofs.Stepping.{number_gave, number_cut}
 use Rattle.frame_header.proofs.fields.read_number.Goals as goal
 

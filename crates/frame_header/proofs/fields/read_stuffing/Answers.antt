@@ -1,3 +1,4 @@
+-- Six zeros are passed, any other number breaks the rule of the stuffing, and a missing bit cuts it short.
 use Rattle.std.proofs.Common.{◌≡◌, ℕ, ◌++◌, Some, refl, ap, subst, ◌∙◌}
 use Rattle.std.proofs.lemmas.Bool.{ne_eqb}
 use Rattle.dst_spec.specs.Bits.{low_bits}

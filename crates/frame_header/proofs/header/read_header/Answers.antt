@@ -1,3 +1,4 @@
+-- The parameters and the bits that were read are a header of these channels, which ends inside the frame.
 use Rattle.std.proofs.Common.{subst}
 use Rattle.dst_spec.specs.Offends.{header_fields}
 use Rattle.frame_header.proofs.Whole.{IsFound, header_found}

@@ -1,3 +1,4 @@
+-- What is read keeps the rules of a map, so there always is a map of these numbers.
 use Rattle.std.proofs.Common.{subst, sym}
 use Rattle.dst_num.specs.Map.{IsChannelMap}
 use Rattle.frame_header.proofs.Stepping.{there_unless}

@@ -1,3 +1,4 @@
+-- Each number that is read leaves one fewer to come, and one that fails is the fault of them all.
 use Rattle.std.proofs.Common.{◌≡◌, ◌+◌, ◌∷◌, [], ◌++◌, length, max, refl, ap, sym, subst, ◌∙◌, arith}
 use Rattle.frame_header.specs.Steps.{element_fields}
 use Rattle.frame_header.proofs.Stepping.{handed_on}

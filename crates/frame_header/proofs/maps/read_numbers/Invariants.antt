@@ -1,3 +1,4 @@
+-- There is a number for each channel so far, and the others are to come, by the count of different ones.
 use Rattle.std.proofs.Common.{◌≡◌}
 use Rattle.arrayvec.specs.ArrayVec.{array_vec_len}
 use Rattle.frame_header.proofs.Coming.{NumbersToCome}

@@ -1,3 +1,4 @@
+-- There is a zero for each channel so far.
 use Rattle.std.proofs.Common.{◌≡◌, replicate}
 use Rattle.frame_header.proofs.maps.zeros.Given as goal
 

@@ -1,3 +1,4 @@
+-- Each end bit that is passed leaves one fewer to come, and one that fails is the fault of them all.
 use Rattle.std.proofs.Common.{[], ◌∷◌, ◌++◌, refl, ◌∙◌}
 use Rattle.dst_spec.specs.Fields.{gives, field}
 use Rattle.dst_spec.specs.Offends.{times, end_rule}

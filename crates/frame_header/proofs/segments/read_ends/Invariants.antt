@@ -1,3 +1,4 @@
+-- So many end bits are passed, and the others are to come.
 use Rattle.std.proofs.Common.{◌≡◌, ℕ, List}
 use Rattle.dst_spec.specs.Fields.{gives, field}
 use Rattle.dst_spec.specs.Offends.{end_rule}

@@ -1,3 +1,4 @@
+-- The first bit says whether one end bit follows or one for each channel, and passing those passes all.
 use Rattle.std.proofs.Common.{◌≡◌, ◌==◌, if◌then◌else◌, sym, subst, ap, ◌∙◌}
 use Rattle.std.proofs.lemmas.Bool.{ne_eqb}
 use Rattle.std.proofs.lemmas.Result.{IfOk-weaker, IfErr-weaker}

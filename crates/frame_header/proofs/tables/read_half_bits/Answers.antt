@@ -1,3 +1,4 @@
+-- Each half bit that is read leaves one fewer to come, and one that is cut short is the fault of them all.
 use Rattle.std.proofs.Common.{◌≡◌, ◌<◌, ◌+◌, ◌==◌, [], ◌∷◌, ◌++◌, ℕ, zero, suc, length, map, refl, ap, sym, subst, ◌∙◌, arith}
 use Rattle.std.proofs.lemmas.List.{map-append}
 use Rattle.dst_spec.specs.Header.{bit_of}

@@ -1,3 +1,4 @@
+-- There is a half bit for each channel so far, and those of the others are to come.
 use Rattle.std.proofs.Common.{◌≡◌, map}
 use Rattle.dst_spec.specs.Header.{bit_of}
 use Rattle.dst_spec.specs.Fields.{number}

@@ -1,3 +1,4 @@
+-- Each table that is read leaves one fewer to come, and one that fails is the fault of them all.
 use Rattle.std.proofs.Common.{◌≡◌, ◌≤◌, ◌+◌, [], ◌∷◌, ◌++◌, length, map, refl, ap, sym, subst, ◌∙◌, arith}
 use Rattle.std.proofs.lemmas.List.{map-append}
 use Rattle.dst_spec.specs.Offends.{times, table_fields}

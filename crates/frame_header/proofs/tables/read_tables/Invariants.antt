@@ -1,3 +1,4 @@
+-- So many tables are read, the others are to come, and no more than 2,000,000 bits are left.
 use Rattle.std.proofs.Common.{◌≡◌, ◌≤◌, map, length}
 use Rattle.dst_spec.specs.Offends.{table_fields}
 use Rattle.arrayvec.specs.ArrayVec.{array_vec_len}

@@ -1,3 +1,4 @@
+-- A header is its front, its filters and its probability tables, so its length is the sum of theirs.
 use Rattle.std.proofs.Common.{◌≡◌, length, ap, ◌∙◌, arith}
 use Rattle.frame_header.proofs.SpelledHeaders.{filters_spelling, probs_spelling, AreParts, parts_long}
 use Rattle.frame_header.proofs.write.header_length.Goals as goal

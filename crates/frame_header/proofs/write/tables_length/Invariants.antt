@@ -1,3 +1,4 @@
+-- The length so far is that of the tables passed, in their shortest spellings, each of at most 2^32 bits.
 use Rattle.std.proofs.Common.{◌≡◌, ◌*◌, ◌≤◌, ◌^◌, length, take}
 use Rattle.frame_header.specs.Written.{tables_spelling}
 use Rattle.frame_header.proofs.write.tables_length.Given as goal

@@ -1,3 +1,4 @@
+-- A header that isn't longer than the room is written, as its three parts fit one behind the other.
 use Rattle.std.proofs.Common.{◌+◌, ◌≤◌, length, refl, ap, ◌∙◌, arith}
 use Rattle.dst_spec.specs.Spell.{header_spelling}
 use Rattle.frame_header.specs.Written.{Wrote}

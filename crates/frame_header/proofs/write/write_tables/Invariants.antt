@@ -1,3 +1,4 @@
+-- The bits so far, and those of the tables that are left, are those of all tables; so it is with the room.
 use Rattle.std.proofs.Common.{◌≡◌, ◌+◌, ◌++◌, length, drop}
 use Rattle.frame_header.specs.Written.{tables_spelling}
 use Rattle.frame_header.proofs.write.write_tables.Given as goal

@@ -1,3 +1,4 @@
+-- There are as many bits as the count says.
 use Rattle.std.proofs.Common.{sym}
 use Rattle.dst_spec.proofs.Numbers.{length-low_bits}
 use Rattle.frame_header.proofs.front.Front.length.Goals as goal

@@ -1,3 +1,4 @@
+-- Four ones are the first bit and both segmentations; the maps and half bits behind them have room in 60 bits.
 use Rattle.std.proofs.Common.{◌≡◌, ◌++◌, [], ◌∷◌, map, refl, ap, ap₂, ◌∙◌, arith}
 use Rattle.dst_spec.specs.Bits.{low_bits}
 use Rattle.dst_spec.specs.Header.{bit_of}

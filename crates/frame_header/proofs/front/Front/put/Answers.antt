@@ -1,3 +1,4 @@
+-- The number is moved up past the new bits, so both don't overlap, and together they are the longer row of bits.
 use Rattle.std.proofs.Common.{◌≡◌, ◌+◌, ◌*◌, ◌%◌, ◌^◌, ◌≤◌, length, bit_or, arith, ap, sym, ◌∙◌, ◌++◌}
 use Rattle.std.proofs.lemmas.Nat.{shl_whole, or_shifted}
 use Rattle.dst_spec.specs.Bits.{low_bits}

@@ -1,3 +1,4 @@
+-- A half bit is put as the number 0 or 1, behind those of the channels before.
 use Rattle.std.proofs.Common.{◌≡◌, ◌++◌, Bool, true, false, get_or, refl, ap, ◌∙◌, arith}
 use mir.Val.{bool_byte}
 use Rattle.dst_spec.specs.Bits.{low_bits}

@@ -1,3 +1,4 @@
+-- The bits so far, and those of the channels that are left, are those of all channels.
 use Rattle.std.proofs.Common.{◌≡◌, ◌+◌, ◌++◌, length, map, drop}
 use Rattle.dst_spec.specs.Header.{bit_of}
 use Rattle.frame_header.proofs.front.Front.put_half_bits.Given as goal

@@ -1,3 +1,4 @@
+-- A map of zeros is the bit 1; any other one is the bit 0 and the numbers behind the first.
 use Rattle.std.proofs.Common.{sym, ◌∙◌}
 use Rattle.frame_header.proofs.SpelledMaps.{later_numbers, one_bit_map, numbered_map}
 use Rattle.frame_header.proofs.front.Front.put_map.Goals as goal

@@ -1,3 +1,4 @@
+-- Equal maps are told once behind a bit 1, others one after the other behind a bit 0.
 use Rattle.std.proofs.Common.{◌≡◌, true, false, cond, ◌++◌, ◌∷◌, [], List, ℕ, append_assoc, ap, sym, ◌∙◌}
 use Rattle.dst_spec.specs.Bits.{low_bits}
 use Rattle.dst_spec.specs.Spell.{map_spelling, same_numbers}

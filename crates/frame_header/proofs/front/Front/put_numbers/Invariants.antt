@@ -1,3 +1,4 @@
+-- The bits so far, and those of the numbers that are left, are the map's, with at most 3 bits for each number.
 use Rattle.std.proofs.Common.{◌≡◌, ◌+◌, ◌*◌, ◌≤◌, ◌++◌, length, drop}
 use Rattle.dst_spec.specs.Map.{Numbers, map_numbers}
 use Rattle.frame_header.proofs.front.Front.put_numbers.Given as goal

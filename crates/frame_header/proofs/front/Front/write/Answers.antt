@@ -1,3 +1,4 @@
+-- The number is cut into its high and its low bits, at most 32 of each, and both parts are written.
 use Rattle.std.proofs.Common.{◌≡◌, ◌+◌, ◌-◌, ◌*◌, ◌/◌, ◌%◌, ◌^◌, ◌<◌, ◌++◌, length, ap, ap₂, sym, subst, ◌∙◌, arith, append_assoc}
 use Rattle.std.proofs.lemmas.Nat.{one_shl}
 use Rattle.dst_spec.specs.Bits.{low_bits}
