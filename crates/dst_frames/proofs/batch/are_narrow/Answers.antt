@@ -1,3 +1,4 @@
+-- The filter of one channel more is looked at, and gives less than the greatest of all sums.
 use Rattle.std.proofs.Common.{◌<◌, ap, arith, below_more}
 use Rattle.dst_spec.specs.Guess.{filter_of}
 use Rattle.byte_predictor.specs.Upward.{size_sum}

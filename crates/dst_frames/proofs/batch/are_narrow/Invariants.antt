@@ -1,3 +1,4 @@
+-- No channel so far has a filter that gives the greatest of all sums.
 use Rattle.std.proofs.Common.{ℕ, ◌<◌}
 use Rattle.dst_spec.specs.Guess.{filter_of}
 use Rattle.byte_predictor.specs.Upward.{size_sum}

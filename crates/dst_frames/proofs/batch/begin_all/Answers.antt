@@ -1,3 +1,4 @@
+-- A frame that begins in its lane leaves the lanes, tables and rows of those before as they are.
 use Rattle.std.proofs.Common.{◌≡◌, ◌≢◌, ℕ, ◌<◌, [], length, get_or, set, get_or-set_same, get_or-set_other, length-set, below_more, refl, ap, sym, subst}
 use Rattle.std.proofs.Common.{◌∙◌, arith}
 use Rattle.std.proofs.lemmas.List.{get_or_default, length-take-le}

@@ -1,3 +1,4 @@
+-- The frames so far have begun in their lanes, and the other lanes are empty.
 use Rattle.std.proofs.Common.{◌≡◌, ℕ, ◌<◌, ◌≤◌, [], length, get_or}
 use Rattle.arith_lanes.specs.Words.{IsWord}
 use Rattle.arith_lanes.specs.Lanes.{Begins}

@@ -1,3 +1,4 @@
+-- The code begins in the lane where the frame's header ends, with tables and rows that are built for the frame.
 use Rattle.std.proofs.Common.{◌≡◌, get_or, subst, arith}
 use Rattle.dst_spec.specs.Bits.{bits}
 use Rattle.arith_lanes.specs.Lanes.{Begins}

@@ -1,3 +1,4 @@
+-- One channel more has its table, built or shared, and its first word; the frames before stay as they are.
 use Rattle.std.proofs.Common.{◌≡◌, ◌≢◌, ℕ, ◌+◌, ◌<◌, Bool, true, false, nat_eq, length, get_or, set, replicate, get_or-set_same, get_or-set_other}
 use Rattle.std.proofs.Common.{List, below_more, refl, ap₂, sym, subst, ◌∙◌, arith}
 use Rattle.std.proofs.lemmas.Bool.{eqb-true, eqb-false}

@@ -1,3 +1,4 @@
+-- The channels so far have their tables and first words, and those of the frames before are untouched.
 use Rattle.std.proofs.Common.{◌≡◌, ◌≢◌, ℕ, ◌<◌, false, length, get_or, replicate}
 use Rattle.dst_spec.specs.Guess.{filter_of, probs_of}
 use Rattle.byte_predictor.specs.Samples.{samples_of}

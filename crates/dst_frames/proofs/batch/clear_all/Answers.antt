@@ -1,3 +1,4 @@
+-- One row more is of no frames, where every word has the probability 1.
 use Rattle.std.proofs.Common.{◌≢◌, ℕ, ◌<◌, length, get_or, set, get_or-set_same, get_or-set_other, below_more, arith}
 use Rattle.arith_lanes.specs.Words.{IsWord}
 use Rattle.dst_frames.specs.declared.eight.EightStates.{EightStates}

@@ -1,3 +1,4 @@
+-- Every word of the rows so far has the probability 1.
 use Rattle.std.proofs.Common.{ℕ, ◌<◌, get_or}
 use Rattle.arith_lanes.specs.Words.{IsWord}
 use Rattle.dst_frames.specs.declared.eight.EightStates.{EightStates}

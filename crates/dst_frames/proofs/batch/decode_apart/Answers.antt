@@ -1,3 +1,4 @@
+-- A frame is decoded into its own sound, and nothing of those before or behind changes.
 use Rattle.std.proofs.Common.{◌≡◌, ◌≢◌, ℕ, ◌+◌, ◌<◌, ◌≤◌, length, get_or, set, get_or-set_same, get_or-set_other, below_more, subst, ◌∙◌, arith}
 use Rattle.std.proofs.lemmas.List.{get_or_default}
 use Rattle.dst_spec.specs.Sample.{sound_bytes}

@@ -1,3 +1,4 @@
+-- The frames so far are decoded, each sound keeps its length, and those behind are untouched.
 use Rattle.std.proofs.Common.{◌≡◌, ℕ, ◌<◌, ◌≤◌, length, get_or}
 use Rattle.dst_spec.specs.Sample.{sound_bytes}
 use Rattle.dst_frames.specs.Batch.{IsDecoded, stored_in}

@@ -1,3 +1,4 @@
+-- The bits that a lane has used are the code of its frame's sound, and behind their end lies the frame's tail.
 use Rattle.std.proofs.Common.{◌≡◌, ◌≢◌, ℕ, ◌+◌, ◌*◌, ◌<◌, ◌≤◌, length, get_or, set, get_or-set_same, get_or-set_other, below_more}
 use Rattle.std.proofs.Common.{ap, sym, subst, ◌∙◌, arith}
 use Rattle.std.proofs.lemmas.List.{get_or_default}

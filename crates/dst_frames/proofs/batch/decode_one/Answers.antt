@@ -1,3 +1,4 @@
+-- What is decoded into the lent bytes is the sound that is held afterwards, with its answer.
 use Rattle.std.proofs.Common.{◌≡◌, length, sym, subst, ◌∙◌}
 use Rattle.std.proofs.lemmas.List.{with_items_is}
 use Rattle.dst_frames.specs.Batch.{IsDecoded, stored_in}

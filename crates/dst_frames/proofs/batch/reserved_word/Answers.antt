@@ -1,3 +1,4 @@
+-- A probability is 1 to 128, so less 1 it fits the seven bits from which its word is made.
 use Rattle.std.proofs.Common.{◌≡◌, ◌+◌, ◌-◌, ◌%◌, ◌∙◌, subst, arith}
 use Rattle.arith_lanes.specs.Words.{IsWord}
 use Rattle.dst_frames.proofs.batch.reserved_word.Goals as goal

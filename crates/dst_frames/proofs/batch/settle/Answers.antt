@@ -1,3 +1,4 @@
+-- The answer is the tail of the frame's bytes and the sound that is held.
 use Rattle.std.proofs.Common.{refl}
 use Rattle.dst_frames.proofs.batch.settle.Goals as goal
 

@@ -1,3 +1,4 @@
+-- The table of a channel alike is shared, or the next one of the pool is built, for which there is room.
 use Rattle.std.proofs.Common.{◌≡◌, ◌+◌, ◌*◌, ◌<◌, length, get_or, set, length-set, refl, ap, sym, subst, ◌∙◌, arith}
 use Rattle.std.proofs.lemmas.Nat.{mul-add-lt}
 use Rattle.std.proofs.lemmas.List.{with_items_is}

@@ -1,3 +1,4 @@
+-- The unread bytes behind the end of the code are the tail with which the frame means its sound.
 use Rattle.dst_frames.proofs.Frames.{is_sound, coded_means}
 use Rattle.std.proofs.Common.{◌+◌, ◌-◌, ◌/◌, length, ap, ◌∙◌}
 use Rattle.dst_frames.proofs.batch.tail_of.Goals as goal

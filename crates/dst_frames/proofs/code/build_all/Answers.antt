@@ -1,3 +1,4 @@
+-- One channel more has its tables and a state fresh by them, and those of the channels before stay.
 use Rattle.std.proofs.Common.{◌≢◌, ℕ, ◌<◌, false, length, get_or, set, replicate, sym, subst, arith, below_more, get_or-set_same, get_or-set_other}
 use Rattle.dst_spec.specs.Guess.{filter_of, probs_of}
 use Rattle.byte_predictor.specs.Samples.{samples_of}

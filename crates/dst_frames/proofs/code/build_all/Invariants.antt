@@ -1,3 +1,4 @@
+-- The channels so far have their tables, and states that are ready for the first sample.
 use Rattle.std.proofs.Common.{ℕ, ◌<◌, false, get_or, replicate}
 use Rattle.dst_spec.specs.Guess.{filter_of, probs_of}
 use Rattle.byte_predictor.specs.Samples.{samples_of}

@@ -1,3 +1,4 @@
+-- By either copy of the loop the decoder stands behind all symbols of the sound, so its bits are their code.
 use Rattle.std.proofs.Common.{◌≡◌, ◌*◌, [], length, sym, subst₂, ◌∙◌, arith}
 use Rattle.dst_spec.specs.Bits.{bits}
 use Rattle.dst_spec.specs.Symbols.{symbols}

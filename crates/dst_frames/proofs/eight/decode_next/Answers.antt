@@ -1,3 +1,4 @@
+-- A lane gives the symbol of its word, which stands for the next sample; lanes without a frame go on as well.
 use Rattle.std.proofs.Common.{ℕ, ◌+◌, ◌%◌, ◌&&◌, nat_lt, if◌then◌else◌, get_or, arith}
 use Rattle.dst_frames.specs.Eight.{state_in, table_at}
 use Rattle.dst_frames.proofs.Lanes.{lane_steps, further_by, some_word}

@@ -1,3 +1,4 @@
+-- A word gets the probability 128 where the sample is early, and keeps how its symbol is given.
 use Rattle.std.proofs.Common.{◌≡◌, ◌≢◌, ℕ, ◌/◌, ◌%◌, ◌<◌, nat_lt, if◌then◌else◌, length, get_or, set, get_or-set_same, get_or-set_other}
 use Rattle.std.proofs.Common.{length-set, below_more, ◌∙◌, arith}
 use Rattle.arith_lanes.specs.Words.{IsWord}

@@ -1,3 +1,4 @@
+-- The frames so far have the probability 128 where their sample is early, and the other words are untouched.
 use Rattle.std.proofs.Common.{◌≡◌, ℕ, ◌/◌, ◌%◌, ◌<◌, ◌≤◌, nat_lt, if◌then◌else◌, length, get_or}
 use Rattle.arith_lanes.specs.Words.{IsWord}
 use Rattle.dst_frames.specs.Eight.{table_at}

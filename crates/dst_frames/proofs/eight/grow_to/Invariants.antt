@@ -1,3 +1,4 @@
+-- There are as many tables as the loop has counted, and those that stood in front are what they were.
 use Rattle.std.proofs.Common.{◌≡◌, length, vec_capacity}
 use Rattle.dst_frames.specs.Running.{IsGrown}
 use Rattle.dst_frames.proofs.eight.grow_to.Given as goal

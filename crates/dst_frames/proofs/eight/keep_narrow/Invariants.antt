@@ -1,3 +1,4 @@
+-- No table so far has a filter that gives the greatest of all sums.
 use Rattle.std.proofs.Common.{ℕ, ◌<◌, get_or}
 use Rattle.byte_predictor.specs.Upward.{size_sum}
 use Rattle.dst_frames.specs.declared.tables.ChannelTables.{ChannelTables}

@@ -1,3 +1,4 @@
+-- The number lies within the pool, where no filter gives the greatest of all sums.
 use Rattle.std.proofs.Common.{◌<◌, get_or, ◌∙◌, sym, subst}
 use Rattle.byte_predictor.specs.Upward.{size_sum}
 use Rattle.dst_frames.specs.declared.tables.ChannelTables.{ChannelTables}

@@ -1,3 +1,4 @@
+-- Twice a sum less the filter's size is the prediction, and its entry is that of the sum.
 use Rattle.std.proofs.Common.{subst, ◌∙◌, w32, SFits, rules}
 use Rattle.std.proofs.lemmas.Int.{to_z-of_z}
 use Rattle.dst_frames.specs.Tables.{IsEntry}

@@ -1,3 +1,4 @@
+-- Below 0 the entry is the probability less 1, from 0 on it is 128 more, and so it tells the guess.
 use Rattle.std.proofs.Common.{ap, sym, ◌∙◌, w32}
 use Rattle.std.specs.Int.{is_negative}
 use Rattle.std.proofs.lemmas.Int.{to_z-of_z}

@@ -1,3 +1,4 @@
+-- All sums below the place of the loop have the entries of their predictions.
 use Rattle.byte_predictor.specs.Upward.{size_sum}
 use Rattle.dst_frames.proofs.Entries.{HasFirst}
 use Rattle.dst_frames.proofs.fill.fill_entries.Given as goal

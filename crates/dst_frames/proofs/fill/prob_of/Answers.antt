@@ -1,3 +1,4 @@
+-- The place is an eighth of the prediction's size, at most the last one, and what stands there is 1 to 128.
 use Rattle.std.proofs.Common.{◌-◌, ◌/◌, ◌≤◌, min, pos, nat_abs, length, map, get_or, ap, ◌∙◌, w32, arith}
 use Rattle.std.proofs.lemmas.Int.{to_z-of_z}
 use Rattle.std.proofs.lemmas.List.{length-map}

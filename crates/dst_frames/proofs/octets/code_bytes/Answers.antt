@@ -1,3 +1,4 @@
+-- A lane has the bytes of the frame with its number, or none where there is no such frame.
 use Rattle.std.proofs.Common.{ap, ◌∙◌, arith}
 use Rattle.dst_frames.specs.Batch.{stored_in}
 use Rattle.dst_frames.specs.declared.stored.StoredFrame.{StoredFrame}

@@ -1,3 +1,4 @@
+-- Place by place each channel gets a sample, and the eight of them are then given out as a byte.
 use Rattle.std.proofs.Common.{◌≡◌, ℕ, ◌+◌, ◌*◌, ◌^◌, ◌<◌, length, drop, get_or, refl, ap, sym, ◌∙◌, subst, arith}
 use Rattle.arith_lanes.specs.Lanes.{decoding_at}
 use Rattle.dst_frames.specs.Underway.{earlier, IsUnderway}

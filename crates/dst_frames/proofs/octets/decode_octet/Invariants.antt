@@ -1,3 +1,4 @@
+-- Each channel has a sample for each place so far, and a lane has used at most 48 bits for a place.
 use Rattle.std.proofs.Common.{◌≡◌, ℕ, ◌+◌, ◌*◌, ◌<◌, Bool, List, length, drop}
 use Rattle.dst_spec.specs.Sample.{Shape}
 use Rattle.dst_spec.specs.Header.{Params}

@@ -1,3 +1,4 @@
+-- A byte more is decoded behind those before, in the first loop or the second, up to the last one.
 use Rattle.std.proofs.Common.{◌≡◌, ◌+◌, ◌*◌, get_or, ◌∙◌, subst, arith}
 use Rattle.dst_frames.specs.Eight.{states_at, tables_at}
 use Rattle.dst_frames.specs.Batch.{code_at}

@@ -1,3 +1,4 @@
+-- So many bytes of each channel are decoded, and a lane has used at most 384 bits for one byte of all channels.
 use Rattle.std.proofs.Common.{◌≡◌, ℕ, ◌*◌, ◌<◌, length, get_or}
 use Rattle.dst_frames.specs.Eight.{states_at, tables_at}
 use Rattle.dst_frames.specs.Batch.{IsLaneFurther, code_at}

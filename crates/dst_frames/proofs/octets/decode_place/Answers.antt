@@ -1,3 +1,4 @@
+-- A lane that is refilled decodes the same, so one channel more gets its sample, and no other row changes.
 use Rattle.std.proofs.Common.{◌≡◌, ℕ, ◌+◌, ◌*◌, ◌<◌, ◌≤◌, ◌^◌, ◌&&◌, nat_lt, false, length, get_or, ap, sym, subst, ◌∙◌, arith}
 use Rattle.std.proofs.lemmas.List.{get_or_default}
 use Rattle.dst_spec.specs.Guess.{filter_of, probs_of}

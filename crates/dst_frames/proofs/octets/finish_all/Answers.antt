@@ -1,3 +1,4 @@
+-- Giving out the byte of one frame leaves the states and sounds of the others as they are.
 use Rattle.std.proofs.Common.{◌≡◌, ◌≢◌, ℕ, ◌<◌, List, length, get_or, set, get_or-set_same, get_or-set_other, below_more, sym, subst, ◌∙◌}
 use Rattle.std.proofs.Common.{subst₂, arith}
 use Rattle.std.proofs.lemmas.List.{get_or_default}

@@ -1,3 +1,4 @@
+-- The frames so far have given out their bytes, those behind are untouched, and all words stay.
 use Rattle.std.proofs.Common.{◌≡◌, ℕ, ◌<◌, ◌≤◌, length, get_or}
 use Rattle.dst_frames.specs.Eight.{states_at, tables_at}
 use Rattle.dst_frames.specs.Running.{FinishesSound}

@@ -1,3 +1,4 @@
+-- What is written in the lent bytes is the frame's sound, which keeps its length.
 use Rattle.std.proofs.Common.{◌≡◌, length, sym, subst, ◌∙◌}
 use Rattle.std.proofs.lemmas.List.{with_items_is}
 use Rattle.dst_frames.specs.Eight.{states_at, tables_at}

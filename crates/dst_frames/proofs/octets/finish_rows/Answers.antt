@@ -1,3 +1,4 @@
+-- One channel more gives out its newest samples, added to its sums ahead; no other channel or frame changes.
 use Rattle.std.proofs.Common.{◌≡◌, ◌≢◌, ℕ, ◌/◌, ◌%◌, ◌^◌, ◌<◌, Bool, true, false, nat_eq, ℤ, List, length, get_or, set, refl, ap, sym, subst, subst₂}
 use Rattle.std.proofs.Common.{◌∙◌, arith, below_more, get_or-set_same, get_or-set_other, length-set}
 use Rattle.std.proofs.lemmas.Bool.{eqb-true, eqb-false}

@@ -1,3 +1,4 @@
+-- The channels so far have given out their newest samples and added them, and the others are untouched.
 use Rattle.std.proofs.Common.{◌≡◌, ◌≢◌, ℕ, ◌/◌, ◌%◌, ◌^◌, ◌<◌, ◌≤◌, ℤ, List, get_or}
 use Rattle.dst_frames.specs.Ready.{IsReady}
 use Rattle.dst_frames.specs.Eight.{states_at, tables_at}

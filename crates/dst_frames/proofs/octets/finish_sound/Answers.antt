@@ -1,3 +1,4 @@
+-- The bytes go to their place and those in front stay, so the sound is decoded one byte further.
 use Rattle.std.proofs.Common.{◌≡◌, ◌+◌, ◌-◌, ◌*◌, ◌≤◌, [], length, get_or, ap, sym, subst, ◌∙◌, arith}
 use borrow.Rule.Slice.PartMut.{put_mid}
 use Rattle.dst_spec.specs.Guess.{filter_of, probs_of}

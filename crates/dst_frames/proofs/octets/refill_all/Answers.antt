@@ -1,3 +1,4 @@
+-- A lane that is refilled has enough bits ahead, and decodes what it did; the others are untouched.
 use Rattle.std.proofs.Common.{◌≢◌, ℕ, ◌<◌, ◌∙◌, arith, below_more}
 use Rattle.dst_frames.specs.Batch.{HasEnough, code_at}
 use Rattle.dst_frames.proofs.Running.{kept_none, kept_more, enough_kept, used_kept}

@@ -1,3 +1,4 @@
+-- The lanes so far have enough bits ahead, and those behind are as they were.
 use Rattle.std.proofs.Common.{ℕ, ◌<◌, ◌≤◌}
 use Rattle.arith_lanes.specs.Lanes.{IsKept}
 use Rattle.dst_frames.specs.Batch.{HasEnough, code_at}

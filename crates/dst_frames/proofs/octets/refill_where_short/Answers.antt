@@ -1,3 +1,4 @@
+-- Where no lane is short each has enough bits ahead without a refill.
 use Rattle.std.proofs.Common.{refl}
 use Rattle.dst_frames.specs.Batch.{code_at}
 use Rattle.dst_frames.proofs.octets.refill_where_short.Goals as goal

@@ -1,3 +1,4 @@
+-- One sample more is the next of its channel, place by place, and the eight of each are its next byte.
 use Rattle.std.proofs.Common.{◌≡◌, ℕ, ◌+◌, ◌-◌, ◌*◌, ◌<◌, ◌≤◌, false, [], length, get_or, drop, refl, ap, sym, subst, ◌∙◌, arith}
 use Rattle.dst_spec.specs.Guess.{filter_of, probs_of}
 use Rattle.dst_frames.specs.Ready.{IsReady}

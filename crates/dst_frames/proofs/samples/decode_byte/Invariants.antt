@@ -1,3 +1,4 @@
+-- All places so far and some channels of this one are decoded, by at most 8 bits of code for each sample.
 use Rattle.std.proofs.Common.{◌≡◌, ℕ, ◌+◌, ◌*◌, ◌<◌, Bool, List, length, drop}
 use Rattle.dst_spec.specs.Sample.{Shape}
 use Rattle.dst_spec.specs.Header.{Params}

@@ -1,3 +1,4 @@
+-- The symbol says whether the guess was right, and the next entry is that of the sample found, whichever it is.
 use Rattle.std.proofs.Common.{◌≡◌, ◌+◌, ◌%◌, [], ◌∷◌, ◌++◌, if◌then◌else◌, ap, sym, subst, subst₂, ◌∙◌}
 use lib.Dec.{leb}
 use mathlib.Core.Bool.{beq}

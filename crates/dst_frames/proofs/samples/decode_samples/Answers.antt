@@ -1,3 +1,4 @@
+-- Behind the second loop every byte of each channel is decoded.
 use Rattle.std.proofs.Common.{◌≡◌, arith, subst}
 use Rattle.dst_frames.specs.Underway.{IsDecodedTo}
 use Rattle.dst_frames.proofs.samples.decode_samples.Goals as goal

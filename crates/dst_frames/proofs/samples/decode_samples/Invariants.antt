@@ -1,3 +1,4 @@
+-- So many bytes of each channel are decoded, by at most 384 bits of code for each byte of all channels.
 use Rattle.std.proofs.Common.{◌*◌}
 use Rattle.dst_frames.specs.Underway.{IsFurther, AreDecoded}
 use Rattle.dst_frames.proofs.samples.decode_samples.Given as goal

@@ -1,3 +1,4 @@
+-- One channel more gives out its newest samples, added to its sums ahead, and its next entry stays.
 use Rattle.std.proofs.lemmas.Bool.{eqb-true, eqb-false}
 use Rattle.std.proofs.Common.{◌≡◌, ◌≢◌, ℕ, ◌/◌, ◌%◌, ◌^◌, ◌<◌, Bool, true, false, nat_eq, ℤ, List, length, get_or, set, refl, ap, sym, subst}
 use Rattle.std.proofs.Common.{subst₂, ◌∙◌, arith, below_more}

@@ -1,3 +1,4 @@
+-- There are as many rows and states as channels so far.
 use Rattle.std.proofs.Common.{◌≡◌, length}
 use Rattle.dst_frames.proofs.batch_scratch.BatchScratch.new.Given as goal
 

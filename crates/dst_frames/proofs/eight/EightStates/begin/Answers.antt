@@ -1,3 +1,4 @@
+-- The frame's sums ahead are fresh and its word is that of the first sample; the other frames are untouched.
 use Rattle.std.proofs.Common.{◌<◌, length, get_or-set_same, get_or-set_other, replicate, ap₂, sym, subst, arith}
 use Rattle.byte_predictor.specs.Samples.{samples_of, signed_sum}
 use Rattle.byte_predictor.specs.SumsAhead.{IsAhead}

@@ -1,3 +1,4 @@
+-- The byte holds the frame's newest samples, and taking it into the sums ahead touches no other frame.
 use Rattle.std.proofs.Common.{get_or, ap}
 use Rattle.dst_frames.specs.Eight.{entry_in}
 use Rattle.dst_frames.proofs.eight.EightStates.finish.Goals as goal

@@ -1,3 +1,4 @@
+-- All eight words are alike, with the probability 1.
 use Rattle.arith_lanes.proofs.Beginning.{alike}
 use Rattle.dst_frames.proofs.eight.EightStates.new.Goals as goal
 

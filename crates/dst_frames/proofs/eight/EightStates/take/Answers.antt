@@ -1,3 +1,4 @@
+-- All take a sample, the frame whose number is the place by its own filter; then each looks up its next word.
 use Rattle.std.proofs.Common.{◌≡◌, ◌≢◌, ℕ, ◌+◌, ◌%◌, ◌<◌, ◌∷◌, nat_eq, length, get_or, set, get_or-set_same, get_or-set_other, length-set, below_more}
 use Rattle.std.proofs.Common.{ap, sym, subst, ◌∙◌, arith}
 use Rattle.dst_spec.specs.Header.{bit_of}

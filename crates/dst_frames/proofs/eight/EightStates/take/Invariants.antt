@@ -1,3 +1,4 @@
+-- The frames so far have the words of their next samples, and the other words are as they were.
 use Rattle.std.proofs.Common.{◌≡◌, ℕ, ◌+◌, ◌<◌, ◌≤◌, length, get_or}
 use Rattle.byte_predictor.specs.Eight.{ahead_at}
 use Rattle.dst_frames.specs.Batch.{IsWordOf}

@@ -1,3 +1,4 @@
+-- The filter doesn't give the greatest of all sums, so the entry lies in the table, and the word holds all of it.
 use Rattle.std.proofs.Common.{◌≡◌, ◌+◌, ◌%◌, ◌<◌, ap, arith, sym, subst, ◌∙◌}
 use Rattle.byte_predictor.specs.Samples.{signed_sum}
 use Rattle.byte_predictor.specs.Upward.{upward_sum, size_sum}

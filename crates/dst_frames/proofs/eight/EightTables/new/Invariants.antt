@@ -1,3 +1,4 @@
+-- There are as many table numbers as channels so far, each the first table for all eight frames.
 use Rattle.std.proofs.Common.{◌≡◌, ◌<◌, ℕ, length, get_or}
 use Rattle.dst_frames.specs.declared.eight.TableNumbers.{TableNumbers}
 use Rattle.dst_frames.proofs.eight.EightTables.new.Given as goal

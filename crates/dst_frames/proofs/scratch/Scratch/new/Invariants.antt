@@ -1,3 +1,4 @@
+-- There are as many tables and states as channels so far.
 use Rattle.std.proofs.Common.{◌≡◌, length}
 use Rattle.dst_frames.proofs.scratch.Scratch.new.Given as goal
 

@@ -1,3 +1,4 @@
+-- The sum is that of the samples with this one in front, so its entry is that of the next sample.
 use Rattle.std.proofs.Common.{refl, sym, subst}
 use Rattle.byte_predictor.specs.SumsAhead.{IsAhead}
 use Rattle.dst_frames.proofs.Symbols.{entry_behind}

@@ -1,3 +1,4 @@
+-- The sums ahead are those before the first sample of a frame, and the entry is that of their sum.
 use Rattle.std.proofs.Common.{replicate, ap, sym, subst, ◌∙◌}
 use Rattle.byte_predictor.specs.Samples.{samples_of, signed_sum}
 use Rattle.byte_predictor.specs.Upward.{upward_sum}

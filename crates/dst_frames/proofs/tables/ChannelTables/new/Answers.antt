@@ -1,3 +1,4 @@
+-- The first filter has the one coefficient 0, so its sums are small.
 use Rattle.dst_frames.proofs.Beginning.{none_narrow}
 use Rattle.dst_frames.proofs.tables.ChannelTables.new.Goals as goal
 

@@ -1,3 +1,4 @@
+-- The filter and the entries are built, and only with the half probability there are early samples.
 use Rattle.std.proofs.Common.{◌≡◌, ℕ, ◌≤◌, List, ℤ, length, ap, sym, subst₂, ◌∙◌, if◌then◌else◌}
 use Rattle.byte_predictor.specs.Samples.{signed_sum}
 use Rattle.byte_predictor.specs.Upward.{upward_sum}
