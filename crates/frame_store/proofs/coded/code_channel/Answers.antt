@@ -1,3 +1,4 @@
+-- The row is that of the channel's filter, and the steps and the early samples are by its parameters.
 use Rattle.std.proofs.Common.{◌≡◌, false, pos, map, length, get_or, if◌then◌else◌, ap, sym, subst, ◌∙◌}
 use Rattle.dst_spec.specs.Table.{prob_kind, IsTable}
 use Rattle.dst_spec.specs.Guess.{filter_of}

@@ -1,3 +1,4 @@
+-- One channel more has its row and steps, and the rows of those before stay, so they still are right.
 use Rattle.std.proofs.Common.{◌≢◌, ℕ, ◌<◌, length, get_or, set, refl, ap, sym, subst, ◌∙◌, arith}
 use Rattle.std.proofs.Common.{below_more, get_or-set_same, get_or-set_other, length-set}
 use Rattle.frame_store.specs.declared.coded.ChannelSteps.{ChannelSteps}

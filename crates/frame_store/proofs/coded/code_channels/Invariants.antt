@@ -1,3 +1,4 @@
+-- The channels so far have their rows and steps, with at most one row more for each, and no row has changed.
 use Rattle.std.proofs.Common.{◌≡◌, ◌+◌, ◌≤◌, length}
 use Rattle.frame_store.specs.Coded.{AreCoded, Stay}
 use Rattle.frame_store.proofs.coded.code_channels.Given as goal

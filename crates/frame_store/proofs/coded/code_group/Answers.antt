@@ -1,3 +1,4 @@
+-- The channels of one candidate more are coded; the rows of those before stay, so their lanes still are right.
 use Rattle.std.proofs.Common.{◌≡◌, ◌≢◌, ℕ, ◌+◌, ◌*◌, ◌<◌, false, [], length, get_or, set, ap, sym, subst, subst₂, ◌∙◌, arith}
 use Rattle.std.proofs.Common.{below_more, get_or-set_same, get_or-set_other, length-set}
 use Rattle.std.proofs.lemmas.List.{get_or_default}

@@ -1,3 +1,4 @@
+-- The candidates so far have their channels in their lanes and the steps of their reserved symbols.
 use Rattle.std.proofs.Common.{◌≡◌, ℕ, ◌*◌, ◌<◌, ◌≤◌, false, [], length, get_or}
 use Rattle.dst_spec.specs.Header.{Params}
 use Rattle.dst_spec.specs.Symbols.{reserved_probability}

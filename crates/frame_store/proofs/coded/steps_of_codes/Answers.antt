@@ -1,3 +1,4 @@
+-- The probability in seven bits is read back as that of the table, so the step of one code more is right.
 use Rattle.std.proofs.Common.{◌≡◌, ◌≢◌, ◌-◌, ◌%◌, ◌≤◌, nat_lt, min, pos, length, get_or, ap, sym, subst, ◌∙◌, arith}
 use Rattle.std.proofs.Common.{below_more, get_or-set_same, get_or-set_other, length-set}
 use Rattle.std.proofs.lemmas.List.{length-map}

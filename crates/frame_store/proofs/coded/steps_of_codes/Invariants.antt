@@ -1,3 +1,4 @@
+-- Each code so far has the step of its symbol by its probability in the table.
 use Rattle.std.proofs.Common.{◌≡◌, ℕ, ◌-◌, ◌%◌, ◌<◌, nat_lt, min, length, get_or}
 use Rattle.arith_encoder.specs.Lanes.{IsStep}
 use Rattle.frame_store.proofs.coded.steps_of_codes.Given as goal

@@ -1,3 +1,4 @@
+-- The lanes so far have their doublings added, and the others are as they were.
 use Rattle.std.proofs.Common.{◌≡◌, ℕ, ◌+◌, ◌<◌, ◌≤◌, length, get_or}
 use Rattle.frame_store.proofs.lanes.add_each.Given as goal
 

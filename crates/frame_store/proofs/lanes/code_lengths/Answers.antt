@@ -1,3 +1,4 @@
+-- The steps of a part are those of its symbols, so each lane measures on from the symbols in front of it.
 use Rattle.std.proofs.Common.{◌≡◌, ℕ, pos, ◌+◌, ◌*◌, ◌<◌, ◌≤◌, false, [], ◌∷◌, length, get_or, replicate, ap, sym, subst, ◌∙◌, arith, length-set}
 use Rattle.dst_spec.specs.Guess.{filter_of, probs_of, probability, as_guessed}
 use Rattle.arith_encoder.specs.Lanes.{IsStep}

@@ -1,3 +1,4 @@
+-- Each lane has measured its candidate's symbols up to the samples of the loop, and no total is too great.
 use Rattle.std.proofs.Common.{◌≡◌, ℕ, ◌+◌, ◌-◌, ◌*◌, ◌<◌, ◌≤◌, false, [], length, get_or}
 use Rattle.dst_spec.specs.Header.{Params}
 use Rattle.dst_spec.specs.Symbols.{reserved_probability, symbols_before}

@@ -1,3 +1,4 @@
+-- Early samples of a channel take the steps of the first table, later ones its own; the other channels stay.
 use Rattle.std.proofs.Common.{◌≡◌, ◌≢◌, ◌⊎◌, inl, inr, ℕ, ◌+◌, ◌-◌, ◌*◌, ◌<◌, ◌≤◌, [], length, get_or, take, drop, ap, sym, ◌∙◌, arith, below_more}
 use Rattle.std.proofs.Common.{length-drop, length-take-le, get_or-take, get_or-drop}
 use Rattle.std.proofs.lemmas.Bool.{cases_lt}

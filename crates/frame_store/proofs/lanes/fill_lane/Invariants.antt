@@ -1,3 +1,4 @@
+-- The channels so far have their steps in the lane, and the other lanes are as they were.
 use Rattle.std.proofs.Common.{◌≡◌, ◌≢◌, ℕ, ◌+◌, ◌*◌, ◌<◌, [], length, get_or}
 use Rattle.frame_store.specs.declared.coded.ChannelSteps.{ChannelSteps}
 use Rattle.frame_store.specs.Coded.{step_at}

@@ -1,3 +1,4 @@
+-- The lanes so far have the steps of their candidates at all samples of the part.
 use Rattle.std.proofs.Common.{◌≡◌, ℕ, ◌+◌, ◌*◌, ◌<◌, [], length, get_or}
 use Rattle.frame_store.specs.declared.coded.ChannelSteps.{ChannelSteps}
 use Rattle.frame_store.specs.Coded.{step_at}

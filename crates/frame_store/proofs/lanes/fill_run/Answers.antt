@@ -1,3 +1,4 @@
+-- The place of a sample and channel is no other sample's or channel's, so only one step of the lane changes.
 use Rattle.std.proofs.Common.{◌≢◌, ◌+◌, ◌*◌, ◌<◌, [], length, get_or, set, ◌∙◌, arith, below_more, length-set}
 use Rattle.dst_spec.proofs.Lists.{place-below}
 use Rattle.frame_store.proofs.Laid.{lane-same, lane-row, lane-other, lane-eights}

@@ -1,3 +1,4 @@
+-- The samples so far have their steps in the lane; those before the run, other channels and other lanes stay.
 use Rattle.std.proofs.Common.{◌≡◌, ◌≢◌, ℕ, ◌+◌, ◌*◌, ◌<◌, ◌≤◌, [], length, get_or}
 use Rattle.frame_store.proofs.lanes.fill_run.Given as goal
 

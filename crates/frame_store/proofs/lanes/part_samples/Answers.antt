@@ -1,3 +1,4 @@
+-- The room over the channels is one sample at least, and so many samples have room.
 use Rattle.std.proofs.Common.{arith}
 use Rattle.std.proofs.lemmas.Nat.{le-div}
 use Rattle.std.proofs.Math.Nat.{le-div_iff_mul-le}

@@ -1,3 +1,4 @@
+-- The bytes of one channel more are its symbols, as codes tell the guess and the probability of each sample.
 use Rattle.std.proofs.Common.{◌≡◌, ◌+◌, ◌*◌, nat_lt, false, pos, map, length, get_or, if◌then◌else◌, ap, ap₂, sym, subst, ◌∙◌, arith}
 use Rattle.std.proofs.lemmas.List.{length-map}
 use Rattle.dst_spec.specs.Table.{prob_kind, IsTable}

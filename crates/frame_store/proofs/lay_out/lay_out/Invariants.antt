@@ -1,3 +1,4 @@
+-- The symbols of the channels so far stand at their places.
 use Rattle.std.proofs.Common.{◌≡◌, length}
 use Rattle.frame_store.proofs.Placed.{ArePlaced}
 use Rattle.frame_store.proofs.lay_out.lay_out.Given as goal

@@ -1,3 +1,4 @@
+-- The byte of a sample is that of its code, early or not, and its place is no other sample's or channel's.
 use Rattle.std.proofs.Common.{◌≡◌, ◌≢◌, ◌+◌, ◌*◌, ◌<◌, nat_lt, length, get_or, ap, sym, ◌∙◌, arith, below_more, get_or-set_same, get_or-set_other}
 use Rattle.std.proofs.Common.{length-set, lt-ltb, le-ltb}
 use Rattle.dst_spec.proofs.Lists.{place-below}

@@ -1,3 +1,4 @@
+-- The samples so far have their bytes, and those of the other channels are as they were.
 use Rattle.std.proofs.Common.{◌≡◌, ◌≢◌, ℕ, ◌+◌, ◌*◌, ◌<◌, nat_lt, length, get_or}
 use Rattle.frame_store.specs.Pairs.{symbol_byte}
 use Rattle.frame_store.proofs.lay_out.spread.Given as goal

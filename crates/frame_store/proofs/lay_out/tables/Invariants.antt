@@ -1,3 +1,4 @@
+-- Each code so far has its byte as an early sample and as another one.
 use Rattle.std.proofs.Common.{◌≡◌, ℕ, ◌<◌, true, false, length, get_or}
 use Rattle.frame_store.specs.Pairs.{symbol_byte}
 use Rattle.frame_store.proofs.lay_out.tables.Given as goal

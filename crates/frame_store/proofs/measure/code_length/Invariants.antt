@@ -1,3 +1,4 @@
+-- The bits of the reserved symbol and of the bytes so far are measured, at most 8 doublings for each.
 use Rattle.std.proofs.Common.{◌+◌, ◌*◌, ◌≤◌, false, ◌∷◌, map, take}
 use Rattle.arith_encoder.specs.Measuring.{Measures}
 use Rattle.frame_store.specs.Pairs.{pair_of}

@@ -1,3 +1,4 @@
+-- The lanes so far have whole bytes of their header and code together.
 use Rattle.std.proofs.Common.{◌≡◌, ℕ, ◌+◌, ◌/◌, ◌<◌, length, get_or}
 use Rattle.dst_spec.specs.Header.{Params}
 use Rattle.dst_spec.specs.Spell.{header_spelling}

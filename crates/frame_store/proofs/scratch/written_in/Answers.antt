@@ -1,3 +1,4 @@
+-- A writer has room for the plain form and no more, so its bytes aren't more than that form's.
 use Rattle.std.proofs.Common.{length, ap, subst, arith}
 use Rattle.dst_spec.proofs.Numbers.{length-octets}
 use Rattle.frame_store.specs.Storing.{IsWriter}

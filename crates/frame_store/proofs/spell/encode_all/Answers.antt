@@ -1,3 +1,4 @@
+-- A symbol that doesn't fit makes the whole too long, as the symbols behind it take no doublings back.
 use Rattle.std.proofs.Common.{◌≡◌, suc, ◌+◌, ◌<◌, false, ◌∷◌, ◌++◌, [], map, take, drop, get_or, ap, ap₂, sym, subst, ◌∙◌, arith}
 use Rattle.dst_spec.specs.Interval.{interval}
 use Rattle.frame_store.specs.Pairs.{pair_of}

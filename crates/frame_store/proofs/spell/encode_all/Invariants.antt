@@ -1,3 +1,4 @@
+-- The encoder stands for the reserved symbol and the bytes so far, which fit the room.
 use Rattle.std.proofs.Common.{◌≡◌, ◌+◌, ◌≤◌, false, ◌∷◌, map, take}
 use Rattle.dst_spec.specs.Interval.{interval}
 use Rattle.arith_encoder.specs.Encoding.{StandsFor}

@@ -1,3 +1,4 @@
+-- What is laid out are the symbols of the sound, so what is written is its spelling by these parameters.
 use Rattle.std.proofs.Common.{◌≡◌, ap, ap₂, ◌∙◌, false, arith}
 use Rattle.dst_spec.specs.Symbols.{symbols}
 use Rattle.dst_spec.specs.Sample.{sound_bytes}

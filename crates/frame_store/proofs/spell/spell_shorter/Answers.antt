@@ -1,3 +1,4 @@
+-- The spelling is written where it has room at all, and then its bytes are counted against the sound's.
 use Rattle.std.proofs.Common.{◌≡◌, length, refl, ap, ◌∙◌, rules, arith}
 use Rattle.std.proofs.lemmas.Bool.Decides.{nat_tests}
 use Rattle.dst_spec.specs.Sample.{sound_bytes}

@@ -1,3 +1,4 @@
+-- A writer that comes back without bits has no bytes.
 use Rattle.std.proofs.Common.{ap}
 use Rattle.dst_spec.specs.Bits.{octets}
 use Rattle.frame_store.proofs.spell.write_into.Goals as goal

@@ -1,3 +1,4 @@
+-- The code behind the header is the spelling, and where one of both has no room the whole is too long.
 use Rattle.std.proofs.Common.{◌≡◌, ◌++◌, ◌∷◌, false, length, map, refl, ap, ap₂, ◌∙◌, arith}
 use Rattle.dst_spec.specs.Bits.{octets}
 use Rattle.dst_spec.specs.Spell.{code_spelling, header_spelling}

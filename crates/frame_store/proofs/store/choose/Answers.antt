@@ -1,3 +1,4 @@
+-- A candidate that is shorter than the least is the choice now, and one that isn't leaves it.
 use Rattle.std.proofs.Common.{◌≡◌, ◌+◌, ◌<◌, [], length, get_or, ap, sym, subst, subst₂, arith}
 use Rattle.std.proofs.lemmas.List.{get_or_default}
 use Rattle.dst_spec.specs.Header.{Params}

@@ -1,3 +1,4 @@
+-- The choice is the first of the shortest up to this lane, and its length hasn't grown.
 use Rattle.std.proofs.Common.{◌≡◌, ℕ, ◌+◌, ◌<◌, ◌≤◌, List, length, get_or}
 use Rattle.dst_spec.specs.Sample.{Shape}
 use Rattle.dst_spec.specs.Header.{Params}

@@ -1,3 +1,4 @@
+-- The byte 0 and the copied sound are the plain form.
 use Rattle.std.proofs.Common.{◌+◌, ◌∷◌, length, ap, sym, ◌∙◌}
 use Rattle.frame_store.proofs.Spelled.{plain-is}
 use Rattle.frame_store.proofs.store.keep_plain.Goals as goal

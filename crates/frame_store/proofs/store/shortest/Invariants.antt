@@ -1,3 +1,4 @@
+-- The choice is the first of the shortest among the plain form and the candidates measured so far.
 use Rattle.std.proofs.Common.{◌≡◌, ◌+◌, ◌-◌, ◌≤◌, length}
 use Rattle.frame_store.specs.Choosing.{IsChosen}
 use Rattle.frame_store.proofs.store.shortest.Given as goal

@@ -1,3 +1,4 @@
+-- The choice is laid out and written, and fits since it isn't longer than the plain form.
 use Rattle.std.proofs.Common.{◌≡◌, ◌+◌, ◌*◌, ◌≤◌, false, length, get_or, ap, ap₂, sym, ◌∙◌, arith}
 use Rattle.dst_spec.specs.Sample.{sound_bytes}
 use Rattle.dst_spec.specs.Symbols.{symbols}

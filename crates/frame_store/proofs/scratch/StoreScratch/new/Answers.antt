@@ -1,3 +1,4 @@
+-- A fresh writer has no bits, and so no bytes.
 use Rattle.std.proofs.Common.{ap}
 use Rattle.dst_spec.specs.Bits.{octets}
 use Rattle.frame_store.proofs.scratch.StoreScratch.new.Goals as goal
