@@ -1,3 +1,4 @@
+-- The piece that is copied is the next one of the bytes, and those behind it are left.
 use Rattle.std.proofs.Common.{rules, arith, ap, Some, ◌≡◌, ◌+◌, ◌-◌, ◌∙◌, take, drop}
 use Rattle.dst_streams.proofs.Told.{after_piece-moved}
 use Rattle.dst_streams.proofs.memory.flow.MemoryFlowFlow.next.Goals as goal

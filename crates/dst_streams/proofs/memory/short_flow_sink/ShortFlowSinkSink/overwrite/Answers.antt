@@ -1,3 +1,4 @@
+-- The piece lies within the bytes that are written, so the array is written over just where they are.
 use Rattle.std.proofs.Common.{rules, arith, ap, Some, ◌≡◌, ◌+◌, ◌-◌, ◌∙◌, length, take}
 use Rattle.dst_streams.proofs.Parts.{put_mid-written, written_over-front}
 use Rattle.dst_streams.proofs.memory.short_flow_sink.ShortFlowSinkSink.overwrite.Goals as goal
