@@ -1,3 +1,4 @@
+-- The slots so far hold no frame, and their numbers are below the next one.
 use Rattle.std.proofs.Common.{◌≡◌}
 use Rattle.frame_cache.proofs.Renewing.{AreMade}
 use Rattle.frame_cache.proofs.slots.fresh_slots.Given as goal

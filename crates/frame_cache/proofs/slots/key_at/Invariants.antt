@@ -1,3 +1,4 @@
+-- The frame at the place is found in the slots that are left, at the place less the frames passed.
 use Rattle.std.proofs.Common.{◌≡◌, slice_get}
 use Rattle.frame_cache.specs.Slots.{frames_in, kept_in}
 use Rattle.frame_cache.proofs.slots.key_at.Given as goal

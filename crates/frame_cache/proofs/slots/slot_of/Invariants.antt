@@ -1,3 +1,4 @@
+-- What is found in the slots that are left is what is found in all of them.
 use Rattle.std.proofs.Common.{◌≡◌}
 use Rattle.frame_cache.specs.Slots.{slot_of}
 use Rattle.frame_cache.proofs.slots.slot_of.Given as goal
