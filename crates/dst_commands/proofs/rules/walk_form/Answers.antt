@@ -1,3 +1,4 @@
+-- A walk that is made has no fault and gives the entries; where it tells a fault of the file, that is the walk's.
 use Rattle.std.proofs.Common.{Err, ap}
 use Rattle.dsdiff_spec.specs.Walk.{walk_fault}
 use Rattle.dsdiff_chunks.specs.Forms.{coded_seen}
