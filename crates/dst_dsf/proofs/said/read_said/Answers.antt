@@ -1,3 +1,4 @@
+-- Several chunks `DSFK` in a form are a fault of it.
 use Rattle.std.proofs.Common.{List, map, sym, ap, ◌∙◌}
 use Rattle.dsdiff_spec.specs.Chunks.{named}
 use Rattle.dsdiff_chunks.specs.declared.lists.ChunkHead.{ChunkHead}

@@ -1,3 +1,4 @@
+-- The sound has as many bytes of each channel, so the samples that are said make up all of it.
 use Rattle.std.proofs.Common.{refl}
 use Rattle.dsdiff_spec.specs.Form.{size_of_sound}
 use Rattle.dsdiff_chunks.specs.Forms.{coded_seen}

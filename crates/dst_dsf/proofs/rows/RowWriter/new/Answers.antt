@@ -1,3 +1,4 @@
+-- An empty row has taken no sound, and nothing of it is written.
 use Rattle.std.proofs.Common.{refl}
 use Rattle.dst_dsf.proofs.Gathering.{begins}
 use Rattle.dst_dsf.proofs.rows.RowWriter.new.Goals as goal
