@@ -1,3 +1,4 @@
+-- What stands around a made sound has 122 bytes and 4 for each channel, and the rest is the frames' sound.
 use Rattle.std.proofs.Common.{◌+◌, ◌*◌, ℕ, ap₂, sym, ◌∙◌, arith}
 use Rattle.dst_tool.proofs.MadeRuns.{file_long}
 use Rattle.dst_tool.proofs.making.file_size.Goals as goal

@@ -1,3 +1,4 @@
+-- What is lent as bytes are numbers below 256.
 use Rattle.dst_spec.proofs.Lists.{are_bytes}
 use Rattle.dst_tool.proofs.making.known_as_bytes.Goals as goal
 
