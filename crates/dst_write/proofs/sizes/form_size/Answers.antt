@@ -1,3 +1,4 @@
+-- The size is that of the parts together: the chunks around the sound, the sound, the index and `KEPT`.
 use Rattle.std.proofs.Common.{arith}
 use Rattle.dst_write.proofs.sizes.form_size.Goals as goal
 
