@@ -1,3 +1,4 @@
+-- The head of `FVER`, then its body: it stops in one of them, or both are there.
 use Rattle.std.proofs.Common.{◌++◌}
 use Rattle.std.specs.Prelude.{codes}
 use Rattle.byteorder.specs.Endian.{big_bytes}

@@ -1,3 +1,4 @@
+-- The bytes of the piece up to the start are taken, and what came of them is answered and written.
 use Rattle.std.proofs.Common.{◌≡◌, ℕ, ◌≤◌, List, ◌++◌, length, take, Option, None}
 use Rattle.dsdiff_spec.specs.Streams.{stream}
 use Rattle.push_decoder.specs.Decoder.{StandsFor}

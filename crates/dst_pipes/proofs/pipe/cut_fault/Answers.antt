@@ -1,3 +1,4 @@
+-- A stream of which nothing is due hasn't ended, so it doesn't close without a fault.
 use Rattle.dst_pipes.proofs.Waiting.{waits_for_more}
 use Rattle.dst_pipes.proofs.pipe.cut_fault.Goals as goal
 

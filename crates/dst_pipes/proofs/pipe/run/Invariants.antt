@@ -1,3 +1,4 @@
+-- The bytes read so far are taken and answered, and the stream waits for more.
 use Rattle.std.proofs.Common.{◌≡◌, ◌+◌, ◌-◌, ◌≤◌, None}
 use Rattle.std.specs.Prelude.{◌^◌}
 use Rattle.dst_pipes.proofs.Waiting.{IsWaiting}

@@ -1,3 +1,4 @@
+-- What the decoder answers is due of the bytes taken, and a frame that it lends has room and is decoded.
 use Rattle.std.proofs.Common.{◌++◌, ◌+◌, ◌*◌, ◌≤◌, take, length, Some, refl, sym, ap, subst, ◌∙◌, arith}
 use Rattle.std.proofs.lemmas.List.{with_items_is}
 use Rattle.dst_spec.specs.Sample.{IsShape, sound_bytes}

@@ -1,3 +1,4 @@
+-- Fewer than 1,000,000 frames are decoded, so one more can be counted.
 use Rattle.std.proofs.Common.{◌≡◌, ◌<◌, Some, sym, ◌∙◌, subst, arith}
 use Rattle.dst_pipes.specs.declared.work.Work.{Work}
 use Rattle.dst_pipes.proofs.steps.write_sound.Goals as goal
