@@ -1,4 +1,4 @@
--- Shifts and an OR make the scale, and it is from 8 to 15 since a range is from 2048 to 4095.
+-- Shifts and an OR make the scale, and it is from 8 to 15 since a range is from 2,048 to 4,095.
 use Rattle.std.proofs.Common.{arith}
 use Rattle.dst_spec.proofs.Intervals.{scale-least, scale-below}
 use Rattle.arith_core.proofs.Masks.{scale_shifted}

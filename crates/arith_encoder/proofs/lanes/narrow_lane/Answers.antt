@@ -1,4 +1,4 @@
--- Sums in sixteen bits are the part of the symbol, doubled once more where it is below 2048.
+-- Sums in sixteen bits are the part of the symbol, doubled once more where it is below 2,048.
 use Rattle.std.proofs.Common.{◌+◌, ◌/◌, ◌%◌, refl, ap}
 use Rattle.arith_encoder.proofs.SideBySide.{lane_is}
 use Rattle.arith_encoder.proofs.lanes.narrow_lane.Goals as goal

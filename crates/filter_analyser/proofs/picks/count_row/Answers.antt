@@ -1,4 +1,4 @@
--- The codes of the row, behind the first ones, are those of the filter over the channel, 150528 at most.
+-- The codes of the row, behind the first ones, are those of the filter over the channel, 150,528 at most.
 use Rattle.std.proofs.Common.{◌≡◌, ℕ, ◌+◌, ◌-◌, ◌≤◌, ◌==◌, List, length, get_or, take, drop, length-take, inl, inr, subst, ap, sym, ◌∙◌, arith}
 use Rattle.std.proofs.lemmas.Bool.{cases_lt}
 use Rattle.std.proofs.lemmas.List.{take_rest, get_or_past}

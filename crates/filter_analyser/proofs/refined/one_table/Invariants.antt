@@ -1,4 +1,4 @@
--- The codes of the channels so far, each by its own filter, are counted, at most 150528 of each.
+-- The codes of the channels so far, each by its own filter, are counted, at most 150,528 of each.
 use Rattle.std.proofs.Common.{◌≡◌, ℕ, ◌*◌, ◌<◌, ◌≤◌, length, get_or}
 use Rattle.std.specs.List.{range_with_len}
 use Rattle.level_spec.specs.Picks.{refined_alone, sum_of}

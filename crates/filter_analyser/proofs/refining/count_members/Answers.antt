@@ -1,4 +1,4 @@
--- The counts of one channel more are added to those before, at most 150528 to each.
+-- The counts of one channel more are added to those before, at most 150,528 to each.
 use Rattle.std.proofs.Common.{ℕ, ◌+◌, ◌-◌, ◌==◌, List, length, refl, ap, sym, ◌∙◌, arith}
 use Rattle.std.specs.List.{count_by, range_with_len}
 use Rattle.dst_spec.specs.Sample.{Shape, samples}

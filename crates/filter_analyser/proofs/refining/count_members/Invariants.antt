@@ -1,4 +1,4 @@
--- The codes of the members so far are counted, at most 150528 of each channel, and the sound stays.
+-- The codes of the members so far are counted, at most 150,528 of each channel, and the sound stays.
 use Rattle.std.proofs.Common.{◌≡◌, ℕ, ◌*◌, ◌<◌, ◌≤◌, ◌==◌, length, get_or}
 use Rattle.std.specs.List.{range_with_len}
 use Rattle.level_spec.specs.Counts.{count_from}

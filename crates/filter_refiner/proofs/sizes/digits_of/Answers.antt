@@ -1,4 +1,4 @@
--- Each step takes the next digit, and twelve digits are below 4096.
+-- Each step takes the next digit, and twelve digits are below 4,096.
 use Rattle.std.proofs.Common.{◌≡◌, refl, ap, ◌∙◌, arith}
 use Rattle.level_spec.specs.Size.{Logarithm, next_digit, digits_after}
 use Rattle.filter_refiner.proofs.Logarithms.{power-next, power-below, digits-next}

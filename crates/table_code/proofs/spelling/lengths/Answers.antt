@@ -1,4 +1,4 @@
--- Each residual has at most 2057 bits, and there are at most 128 of them, so the sum fits.
+-- Each residual has at most 2,057 bits, and there are at most 128 of them, so the sum fits.
 use Rattle.std.proofs.Common.{◌≡◌, ◌≤◌, ℤ, pos, rules, length, get_or, arith}
 use Rattle.std.proofs.lemmas.Int.{to_z-of_z}
 use Rattle.std.proofs.lemmas.List.Sums.{sum_by_more}

@@ -1,4 +1,4 @@
--- The sum so far is the bits of the residuals that the loop has passed, at most 2057 for each.
+-- The sum so far is the bits of the residuals that the loop has passed, at most 2,057 for each.
 use Rattle.std.proofs.Common.{◌≡◌, ◌*◌, ◌≤◌, length, take}
 use Rattle.std.specs.List.{sum_by}
 use Rattle.dst_spec.specs.Rice.{rice}

@@ -1,4 +1,4 @@
--- With one bit 0 held back, low end 0 and the range 4095, no symbol is encoded yet.
+-- With one bit 0 held back, low end 0 and the range 4,095, no symbol is encoded yet.
 use Rattle.std.proofs.Common.{refl}
 use Rattle.dst_spec.specs.Interval.{interval_from}
 use Rattle.arith_encoder.proofs.encoder.ArithEncoder.new.Goals as goal

@@ -1,4 +1,4 @@
--- Without symbols the range is 4095, and there is no doubling.
+-- Without symbols the range is 4,095, and there is no doubling.
 use Rattle.std.proofs.Common.{refl}
 use Rattle.dst_spec.specs.Interval.{interval_from}
 use Rattle.arith_encoder.proofs.length.CodeLength.new.Goals as goal
