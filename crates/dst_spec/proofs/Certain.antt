@@ -74,7 +74,7 @@ pub IsSound-same : (n b : ℕ) → b < 256 → IsSound (mono n) (replicate n b)
 IsSound-same n b h = record { long = omega (arith, length-replicate {A = ℕ} n b); bytes = AreBytes-same n b h }
 
 -- the sample of a sound whose bytes are all the same
-sample_of_same : (n b t : ℕ) → t < 8 * n → sample (mono n) (replicate n b) 0 (pos t) ≡ b / 2 ^ (7 - t % 8) % 2
+pub sample_of_same : (n b t : ℕ) → t < 8 * n → sample (mono n) (replicate n b) 0 (pos t) ≡ b / 2 ^ (7 - t % 8) % 2
 sample_of_same n b t h =
     let lt : t / 8 * 1 + 0 < n = omega arith in
     rw get_or-replicate refl
@@ -143,7 +143,7 @@ zeros_guessed n = record {
 }
 
 -- bytes AA, with the coefficient -1: each sample is guessed as the other one than that before it
-bit_of_turns : (k : ℕ) → k < 8 → 170 / 2 ^ k % 2 ≡ k % 2
+pub bit_of_turns : (k : ℕ) → k < 8 → 170 / 2 ^ k % 2 ≡ k % 2
 bit_of_turns zero h = refl
 bit_of_turns (suc zero) h = refl
 bit_of_turns (suc (suc zero)) h = refl

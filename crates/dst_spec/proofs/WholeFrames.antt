@@ -16,6 +16,7 @@ use Rattle.dst_spec.proofs.Numbers.{length-bits, bits-append, length-octets, len
 use Rattle.dst_spec.proofs.Causal.{sample_is_bit}
 use Rattle.dst_spec.proofs.Decoding.{pair_at, symbols-by_place}
 use Rattle.dst_spec.proofs.Certain.{IsSound-same, ones_two_probs, symbols_are_sure, zeros_are_code}
+use Rattle.dst_spec.proofs.CodeLengths.{code_bits}
 use Rattle.dst_spec.proofs.Beginnings.{header_to_45}
 use Rattle.dst_spec.proofs.Lists.{get_or-zeros, either_way}
 
@@ -81,10 +82,6 @@ pub ones_by_probability_1 : spell (mono 4704) (no_filter 1) (all_ones 4704) ≡ 
 unfolding spelling_open
 ones_by_probability_1 = ap (λ pairs. octets (header_spelling (no_filter 1) ++ code_spelling pairs)) (symbols_of_ones 4704 1 false) ∙ refl
 
-code_length : (pairs : List (Bool × ℕ)) → length (code_spelling pairs) ≡ 13 + (interval pairs).doublings
-unfolding code_spelling
-code_length pairs = omega (arith, length-low_bits (12 + (interval pairs).doublings) (interval pairs).low)
-
 doublings_by_128 : (interval ((false, 1) ∷ replicate 37632 (true, 128))).doublings ≡ 37640
 unfolding doubled interval_from
 doublings_by_128 = refl
@@ -100,7 +97,7 @@ pub ones_by_probability_128_take_37697 : length bits_by_128 ≡ 37697
 ones_by_probability_128_take_37697 =
     let pairs = symbols (mono 4704) (no_filter 128) (all_ones 4704) false in
     let d = ap (λ ps. (interval ps).doublings) (symbols_of_ones 4704 128 false) ∙ doublings_by_128 in
-    omega (arith, length-append (header_spelling (no_filter 128)) (code_spelling pairs), header_by_128, code_length pairs, d)
+    omega (arith, length-append (header_spelling (no_filter 128)) (code_spelling pairs), header_by_128, code_bits pairs, d)
 
 -- ---- what is stored: the plain form, or the shorter spelling
 spelled_by_128_is_long : length (spell (mono 4704) (no_filter 128) (all_ones 4704)) ≡ 4713

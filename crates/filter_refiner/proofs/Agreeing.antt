@@ -6,6 +6,7 @@ use Rattle.std.proofs.lemmas.Int.{ints}
 use Rattle.std.proofs.lemmas.Bool.{cases_lt}
 use Rattle.dst_spec.specs.Sample.{Shape, sample, samples}
 use Rattle.dst_spec.specs.Guess.{signed}
+use Rattle.dst_spec.proofs.Certain.{bit_of_turns}
 use Rattle.level_spec.specs.Correlation.{sum_over, sign}
 use Rattle.level_spec.specs.Refining.{weighted_agreement}
 use Rattle.level_spec.proofs.Sums.{sum_over-same, sum_over-below}
@@ -126,18 +127,6 @@ half_bit B (suc (suc (suc (suc (suc (suc zero)))))) h = omega arith
 half_bit B (suc (suc (suc (suc (suc (suc (suc zero))))))) h = omega arith
 half_bit B (suc (suc (suc (suc (suc (suc (suc (suc p)))))))) h = absurd (omega arith)
 
--- before the frame samples 1 and 0 in turn
-turn : (p : ℕ) → p < 8 → 170 / 2 ^ (7 - p) % 2 ≡ 1 - p % 2
-turn zero h = refl
-turn (suc zero) h = refl
-turn (suc (suc zero)) h = refl
-turn (suc (suc (suc zero))) h = refl
-turn (suc (suc (suc (suc zero)))) h = refl
-turn (suc (suc (suc (suc (suc zero))))) h = refl
-turn (suc (suc (suc (suc (suc (suc zero)))))) h = refl
-turn (suc (suc (suc (suc (suc (suc (suc zero))))))) h = refl
-turn (suc (suc (suc (suc (suc (suc (suc (suc p)))))))) h = absurd (omega arith)
-
 -- the sample so many places before one of a lane
 earlier : (f : Shape) (sound : List ℕ) (c : ℕ) (bytes : List ℕ) (m lane lag p back : ℕ) → HasHistory f sound c bytes → m < f.octets → lane < 8 →
     p < 8 → 8 * back + lane ≡ lag + p → back ≤ 16 → get_or bytes (m + 16 - back) 0 / 2 ^ (7 - p) % 2 ≡ sample f sound c (pos (8 * m + lane) -ℤ pos lag)
@@ -146,8 +135,8 @@ earlier f sound c bytes m lane lag p back has inside near few apart most = elim 
       let i : m + 16 - back < 16 = omega arith in
       let n = 8 * (back - m) - p - 1 in
       let e : pos (8 * m + lane) -ℤ pos lag ≡ negsuc n = omega (arith, ints) in
-      let parity : 1 - p % 2 ≡ n % 2 = omega arith in
-      ap (λ b. b / 2 ^ (7 - p) % 2) (has.before (m + 16 - back) i) ∙ turn p few ∙ parity ∙ sym (ap (sample f sound c) e)
+      let parity : (7 - p) % 2 ≡ n % 2 = omega arith in
+      ap (λ b. b / 2 ^ (7 - p) % 2) (has.before (m + 16 - back) i) ∙ bit_of_turns (7 - p) (omega arith) ∙ parity ∙ sym (ap (sample f sound c) e)
   | inr behind ↦
       let u = 8 * m + lane - lag in
       let e : pos (8 * m + lane) -ℤ pos lag ≡ pos u = omega (arith, ints) in

@@ -5,6 +5,7 @@ use Rattle.std.proofs.lemmas.List.{get_or-replicate}
 use Rattle.std.proofs.lemmas.Nat.Bits.{bit_at_ones}
 use Rattle.dst_spec.specs.Sample.{sample}
 use Rattle.dst_spec.specs.Guess.{signed}
+use Rattle.dst_spec.proofs.Certain.{sample_of_same, bit_of_turns}
 use Rattle.level_spec.specs.Correlation.{sum_over, sign, correlation}
 use Rattle.level_spec.proofs.Examples.{mono}
 use Rattle.level_spec.proofs.Sums.{sum_over-same, sum_of_ones}
@@ -15,27 +16,11 @@ unfolding sum_over
 sum_of_less_ones first zero = refl
 sum_of_less_ones first (suc n) = ap (λ s. s +ℤ neg_ℤ (pos 1)) (sum_of_less_ones first n) ∙ omega (arith, ints)
 
--- the same byte throughout
-sample-of_byte : (n byte t : ℕ) → t < 8 * n → sample (mono n) (replicate n byte) 0 (pos t) ≡ byte / 2 ^ (7 - t % 8) % 2
-sample-of_byte n byte t h = ap (λ b. b / 2 ^ (7 - t % 8) % 2) (get_or-replicate n (t / 8 * 1 + 0) byte 0 (omega arith))
-
 ones-sign : (n t : ℕ) → t < 8 * n → sign (mono n) (replicate n 255) 0 t ≡ pos 1
-ones-sign n t h = ap (λ b. signed b (pos 1)) (sample-of_byte n 255 t h ∙ bit_at_ones 8 (7 - t % 8) (omega arith))
-
--- every second bit of a byte AA is 1
-turn : (i : ℕ) → i < 8 → 170 / 2 ^ i % 2 ≡ i % 2
-turn zero h = refl
-turn (suc zero) h = refl
-turn (suc (suc zero)) h = refl
-turn (suc (suc (suc zero))) h = refl
-turn (suc (suc (suc (suc zero)))) h = refl
-turn (suc (suc (suc (suc (suc zero))))) h = refl
-turn (suc (suc (suc (suc (suc (suc zero)))))) h = refl
-turn (suc (suc (suc (suc (suc (suc (suc zero))))))) h = refl
-turn (suc (suc (suc (suc (suc (suc (suc (suc i)))))))) h = absurd (omega arith)
+ones-sign n t h = ap (λ b. signed b (pos 1)) (sample_of_same n 255 t h ∙ bit_at_ones 8 (7 - t % 8) (omega arith))
 
 turns-sign : (n t : ℕ) → t < 8 * n → sign (mono n) (replicate n 170) 0 t ≡ signed ((t + 1) % 2) (pos 1)
-turns-sign n t h = ap (λ b. signed b (pos 1)) (sample-of_byte n 170 t h ∙ turn (7 - t % 8) (omega arith) ∙ omega arith)
+turns-sign n t h = ap (λ b. signed b (pos 1)) (sample_of_same n 170 t h ∙ bit_of_turns (7 - t % 8) (omega arith) ∙ omega arith)
 
 pub ones_agree : (k : ℕ) → k ≤ 128 → correlation (mono 4704) (replicate 4704 255) 0 k ≡ pos (37632 - k)
 ones_agree k h =

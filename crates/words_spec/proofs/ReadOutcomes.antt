@@ -1,5 +1,5 @@
 -- Outcomes of the commands that read: a frame's sound, a check, a summary, a frame's header, the places of frames.
-use Rattle.std.proofs.Common.{◌≡◌, ℕ, List, [], ◌∷◌, replicate, refl, sym, inl, inr, arith, take_all, Some, None, true, false}
+use Rattle.std.proofs.Common.{ℕ, List, [], ◌∷◌, replicate, refl, sym, inl, inr, arith, take_all}
 use Rattle.dst_spec.specs.Means.{IsPlain, MeansWithTail}
 use Rattle.dst_spec.specs.Bits.{bits, low_bits}
 use Rattle.dst_spec.specs.Sample.{Shape, IsSound, sound_bytes}
@@ -7,9 +7,6 @@ use Rattle.dst_spec.specs.declared.faults.Reason.TheVariants.{FirstCodeBit}
 use Rattle.dst_spec.proofs.Frames.{frame_with_code_of_zeros}
 use Rattle.dst_spec.proofs.Refusals.{fields_open, at}
 use Rattle.dst_spec.proofs.Spelling.{plain_form_means}
-use Rattle.dsdiff_spec.specs.Refusal.{refusal}
-use Rattle.dsdiff_spec.specs.Words.{frame}
-use Rattle.dsdiff_spec.specs.declared.faults.FileFault.TheVariants.{CountDiffers, IndexBad}
 use Rattle.words_spec.specs.Outcome.{Outcome}
 use Rattle.dsdiff_spec.proofs.Files.{example, two, two_coded}
 use Rattle.dsdiff_spec.proofs.OddFiles.{with_checksum, without_pad}
@@ -33,22 +30,6 @@ sound_of_one_frame = inr (
   (meaning_is_not_refused _ _ _ mono_shape frame_of_ones_is_bytes (frame_with_code_of_zeros 4704), tt),
   (replicate 4704 255, frame_with_code_of_zeros 4704, refl),
 )
-
--- where the second frame's chunk has another id, the first frame is found by the index, and not by the walk
-abbrev broken : List ℕ
-broken = but 4861 88 two_coded
-
-pub walk_finds_one_frame : refusal (frame 0 false) broken ≡ Some (CountDiffers 2 1)
-unfolding outcome_open
-walk_finds_one_frame = refl
-
-pub index_needs_no_walk : refusal (frame 0 true) broken ≡ None
-unfolding outcome_open
-index_needs_no_walk = refl
-
-pub index_names_no_frame : refusal (frame 1 true) broken ≡ Some (IndexBad 1)
-unfolding outcome_open
-index_names_no_frame = refl
 
 -- ---- the places of frames
 pub places_are_listed : Outcome (words ("index" ∷ "a" ∷ [])) two_coded (says 0 [] ("0 152 4705" ∷ "1 4870 4705" ∷ []))
