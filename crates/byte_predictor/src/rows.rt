@@ -127,7 +127,7 @@ pub(crate) fn add_front(lanes: &mut [u16; 136], row: &[u16; 128])
     }
 }
 
-/// The same for the lanes from the sixteenth on, where the first sixteen had it before.
+/// The same for the lanes behind the first sixteen, which had it before.
 #[inline(always)]
 pub(crate) fn add_rest(lanes: &mut [u16; 136], row: &[u16; 128])
     ensures long { length lanes.new ≡ 136 }

@@ -1,4 +1,4 @@
--- What a frame meaning_of_tail, and how its code offends.
+-- What a frame means, and how its code offends.
 use Rattle.std.proofs.Common.{◌≡◌, inl, inr, ℕ, ◌+◌, ◌-◌, ◌*◌, ◌/◌, ◌≤◌, List, length, take, get_or, ap, sym, subst, ◌∙◌, Fits, w8, Result, Ok, Err}
 use Rattle.std.proofs.Common.{IfOk, IfErr, arith}
 use Rattle.dst_spec.specs.Bits.{bits, number_from}
