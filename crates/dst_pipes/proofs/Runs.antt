@@ -10,7 +10,10 @@ use Rattle.dsdiff_spec.specs.Lines.{decoded_line}
 use Rattle.dsdiff_spec.specs.Outcome.{Answer, done}
 use Rattle.stream_spec.specs.Outcome.{StreamOutcome, told_sound}
 use Rattle.stream_spec.proofs.Lawful.{streams_are_lawful}
+use Rattle.push_decoder.specs.Decoder.{StandsFor}
+use Rattle.push_decoder.specs.Events.{Answered}
 use Rattle.push_decoder.specs.declared.decoder.PushDecoder.{PushDecoder}
+use Rattle.dst_pipes.specs.States.{Works, Wrote}
 use Rattle.dst_pipes.specs.Steps.{StopsBy, HasCome}
 use Rattle.dst_pipes.specs.Endings.{PipeEnds, LacksRoom}
 use Rattle.dst_pipes.specs.declared.work.Work.{Work}
@@ -33,6 +36,13 @@ piece_read at piece w moved told =
     let flow = at.flow w told in
     let after = flow_moved piece flow.0 _ (sym flow.1 ∙ moved) in
     (after.0, after.1, flow.2 ∙ ap (λ x. at.taken ++ x) after.2)
+
+-- what a piece says of all that came before it, it says of what was taken where the run waits
+pub of_piece : {P : List ℕ → Option (List ℕ) → Option ℕ → Type 0} {d : PushDecoder} {work : Option Work} {read : ℕ} {old new : Option (List ℕ)}
+    {room left : Option ℕ} {first now : Option (List ℕ)} (at : IsWaiting d work read old new room left first now) →
+    ((p : List ℕ) (answered : Answered) → StandsFor d p answered → Works answered work → (old : Option (List ℕ)) (room : Option ℕ) →
+    Wrote answered old new room left → P p old room) → P at.taken old room
+of_piece at piece = piece at.taken at.waits.answered at.waits.stands at.waits.works _ _ at.waits.wrote
 
 pub split_at : (taken piece later : List ℕ) (n : ℕ) → taken ++ (piece ++ later) ≡ (taken ++ take n piece) ++ (drop n piece ++ later)
 split_at taken piece later n =

@@ -24,7 +24,7 @@ use Rattle.push_decoder.proofs.Pieces.{events_law}
 use Rattle.dst_commands.specs.Writing.{Adds, Stops}
 use Rattle.dst_commands.proofs.Writing.{adds_same, adds_then, stops_same, stops_then}
 use Rattle.dst_pipes.specs.Heads.{head_of}
-use Rattle.dst_pipes.specs.States.{WorksFor, Works, AreSounds, HasWritten, Wrote, BeginsSo, events_left}
+use Rattle.dst_pipes.specs.States.{IsReady, WorksFor, Works, AreSounds, HasWritten, Wrote, BeginsSo, events_left}
 use Rattle.dst_pipes.specs.Steps.{FrontCame, FrameCame, FrontIsTold, HasBegun, SoundEnds, StopsBy, GoesOn}
 use Rattle.dst_pipes.specs.declared.work.Work.{Work}
 use Rattle.dst_pipes.specs.declared.faults.PipeFault.{PipeFault}
@@ -35,13 +35,19 @@ pub begins_more : (taken more : List ℕ) (answered : Answered) → BeginsSo tak
 begins_more taken more answered begins behind =
     subst (λ w. AreOf answered (stream w)) (sym (append_assoc taken more behind)) (begins (more ++ behind))
 
-pub told_of : (taken : List ℕ) (answered : Answered) (channels multiple frames : ℕ) (d : PushDecoder) (work : Option Work)
+-- what holds of all that came before it, holds of what a decoder that is ready took
+pub of_ready : {P : List ℕ → Answered → Type 0} {d : PushDecoder} {work : Option Work} (r : IsReady d work) →
+    ((taken : List ℕ) (answered : Answered) → StandsFor d taken answered → Works answered work → P taken answered) → P r.taken r.answered
+of_ready r step = step r.taken r.answered r.stands r.works
+
+pub told_of : {taken : List ℕ} {answered : Answered} {channels multiple frames : ℕ} {d : PushDecoder} {work : Option Work}
     (t : FrontCame taken answered channels multiple frames d work) → FrontIsTold t.front channels multiple frames d
-told_of taken answered channels multiple frames d work t = record { taken = taken; stands = t.stands; shape = t.shape; told = t.told }
+told_of {taken} t = record { taken = taken; stands = t.stands; shape = t.shape; told = t.told }
 
 pub lawful_told : (front : Front) (channels multiple frames : ℕ) (d : PushDecoder) → FrontIsTold front channels multiple frames d → IsLawfulFront front
 lawful_told front channels multiple frames d t = (streams_are_lawful (t.taken ++ [])).front front (events_law d t.taken (begun front []) t.stands []).0
 
+-- at most 1,000,000 frames are told
 pub few_told : (front : Front) (channels multiple frames : ℕ) (d : PushDecoder) → FrontIsTold front channels multiple frames d → frames ≤ 1000000
 few_told front channels multiple frames d t =
     let few = (lawful_told front channels multiple frames d t).frames in

@@ -11,7 +11,7 @@ use Rattle.push_decoder.proofs.Pieces.{events_law}
 use Rattle.dst_pipes.specs.Endings.{IsStoppedShort, PipeEnds}
 use Rattle.dst_pipes.proofs.Waiting.{nothing_due}
 use Rattle.dst_pipes.proofs.Final.{ends_in_reading, ends_cut_off}
-use Rattle.dst_pipes.proofs.Runs.{piece_read, split_at, piece_stops, told_most, finished, write_alone}
+use Rattle.dst_pipes.proofs.Runs.{of_piece, piece_read, split_at, piece_stops, told_most, finished, write_alone}
 use Rattle.dst_pipes.proofs.NoFront.{none_begun, no_work_yet}
 use Rattle.dst_pipes.proofs.pipe.run.Goals as goal
 
@@ -57,14 +57,13 @@ returns-then-count-eq0-clause-ends g c w told =
 pub finish-requires : goal.finish-requires
 finish-requires g c =
     let at = c.loop-read.invariant.waiting in
-    let ends = rw c.in-Ok-true.field-0-test at (c.in-Ok-true.ensures.ends at.taken at.waits.answered at.waits.stands at.waits.works _ _ at.waits.wrote) in
-    record { whole = told_most _ _ _ _ _ _ ends.1 }
+    record { whole = told_most _ _ _ _ _ _ (rw c.in-Ok-true.field-0-test at (of_piece at c.in-Ok-true.ensures.ends)).1 }
 
 pub returns-in-Ok-true-clause-ends : goal.returns-in-Ok-true-clause-ends
 returns-in-Ok-true-clause-ends g c w told =
     let at = c.loop-read.invariant.waiting in
     let piece = take c.in-Ok.count c.next.new.out in
-    let ends = rw c.in-Ok-true.field-0-test at (c.in-Ok-true.ensures.ends at.taken at.waits.answered at.waits.stands at.waits.works _ _ at.waits.wrote) in
+    let ends = rw c.in-Ok-true.field-0-test at (of_piece at c.in-Ok-true.ensures.ends) in
     let moved = piece_read at piece w c.in-Ok.ensures.moved told in
     let same : w ≡ (at.taken ++ take ends.0 piece) ++ (drop ends.0 piece ++ moved.0) = moved.2 ∙ split_at at.taken piece moved.0 ends.0 in
     let bytes = g.met.F.Flow.told_are_bytes c.args.flow.now w told in
@@ -77,18 +76,17 @@ pub returns-in-Err-clause-ends : goal.returns-in-Err-clause-ends
 returns-in-Err-clause-ends g c w told =
     let at = c.loop-read.invariant.waiting in
     let piece = take c.in-Ok.count c.next.new.out in
-    let ends = c.in-Err.ensures.ends at.taken at.waits.answered at.waits.stands at.waits.works _ _ at.waits.wrote in
     let moved = piece_read at piece w c.in-Ok.ensures.moved told in
     let bytes = g.met.F.Flow.told_are_bytes c.args.flow.now w told in
     subst (λ v. PipeEnds (Err c.in-Err.fault) v (g.K.Sink.written c.args.sink.now) (g.K.Sink.written c.decode_piece.new.sink)
     (g.K.Sink.room c.args.sink.now)) (sym moved.2)
-    (piece_stops c.in-Err.fault at.taken piece moved.0 _ _ _ _ (subst AreBytes moved.2 bytes) ends)
+    (piece_stops c.in-Err.fault at.taken piece moved.0 _ _ _ _ (subst AreBytes moved.2 bytes) (of_piece at c.in-Err.ensures.ends))
 
 pub loop-read-preserved : goal.loop-read-preserved
 loop-read-preserved g c =
     let at = c.loop-read.invariant.waiting in
     let piece = take c.in-Ok.count c.next.new.out in
-    let ends = rw c.in-Ok-false.field-0-test at (c.in-Ok-false.ensures.ends at.taken at.waits.answered at.waits.stands at.waits.works _ _ at.waits.wrote) in
+    let ends = rw c.in-Ok-false.field-0-test at (of_piece at c.in-Ok-false.ensures.ends) in
     record {
       waiting = record {
         taken = at.taken ++ piece;
@@ -110,7 +108,7 @@ pub loop-read-smaller : goal.loop-read-smaller
 loop-read-smaller g c =
     let at = c.loop-read.invariant.waiting in
     let piece = take c.in-Ok.count c.next.new.out in
-    let ends = rw c.in-Ok-false.field-0-test at (c.in-Ok-false.ensures.ends at.taken at.waits.answered at.waits.stands at.waits.works _ _ at.waits.wrote) in
+    let ends = rw c.in-Ok-false.field-0-test at (of_piece at c.in-Ok-false.ensures.ends) in
     let count = c.taken-read.ensures.count (at.taken ++ piece) ends.answered ends.stands in
     let both = length-append at.taken piece in
     let long = length-take c.in-Ok.count c.next.new.out in
@@ -130,7 +128,7 @@ pub returns-in-Ok-true-clause-no_front : goal.returns-in-Ok-true-clause-no_front
 returns-in-Ok-true-clause-no_front g c w told none =
     let at = c.loop-read.invariant.waiting in
     let piece = take c.in-Ok.count c.next.new.out in
-    let ends = rw c.in-Ok-true.field-0-test at (c.in-Ok-true.ensures.ends at.taken at.waits.answered at.waits.stands at.waits.works _ _ at.waits.wrote) in
+    let ends = rw c.in-Ok-true.field-0-test at (of_piece at c.in-Ok-true.ensures.ends) in
     let moved = piece_read at piece w c.in-Ok.ensures.moved told in
     absurd (none_begun at.taken piece moved.0 ends.0 ends.1.front ends.1.frames ends.1.begins
     (subst (λ v. (stream v).front ≡ None) moved.2 none))
