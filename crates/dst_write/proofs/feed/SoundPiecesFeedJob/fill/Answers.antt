@@ -1,34 +1,33 @@
 -- The source has the form, and the job has room for the next piece.
-use Rattle.std.proofs.Common.{length, refl, ap, ◌∙◌, arith}
+use Rattle.std.proofs.Common.{◌≡◌, length, refl, ap, ◌∙◌, arith}
 use Rattle.std.proofs.lemmas.List.{with_items_is}
+use Rattle.dst_spec.specs.Sample.{sound_bytes}
 use Rattle.dst_write.proofs.Feeding.{piece_once}
-use Rattle.dst_write.proofs.Shapes.{can_fill}
+use Rattle.dst_write.proofs.Shapes.{CanFill, can_fill}
+use Rattle.dst_write.proofs.feed.SoundPiecesFeedJob.fill.Given.{Over}
 use Rattle.dst_write.proofs.feed.SoundPiecesFeedJob.fill.Goals as goal
+use Rattle.dst_write.proofs.feed.SoundPiecesFeedJob.fill.Goals.{After-deref_mut}
+
+-- the source has the form, and the job room for a piece
+able : (g : Over) (c : After-deref_mut g) → CanFill (g.S.Source.known c.args.self.now.source.now) c.args.self.now.form.now.end c.args.job.now.size
+    (length c.args.job.now.frame.items) (length c.args.job.now.sound.items) c.args.job.now.channels c.args.self.now.form.now.channels
+able g c = can_fill _ _ _ _ _ _ _ c.requires
+
+-- a piece fills the job's buffer
+piece_long : (g : Over) (c : After-deref_mut g) → length c.deref_mut.result.now ≡ sound_bytes c.args.self.now.form.now.channels
+piece_long g c = ap length c.deref_mut.ensures.value ∙ (able g c).room.sound_long
 
 pub read_piece-requires-clause-size : goal.read_piece-requires-clause-size
-read_piece-requires-clause-size g c =
-    let self = c.args.self.now in
-    let job = c.args.job.now in
-    let can = can_fill (g.S.Source.known self.source.now) self.form.now.end job.size (length job.frame.items) (length job.sound.items) job.channels
-    self.form.now.channels c.requires in
-    (can.bytes, can.known_is, can.inside)
+read_piece-requires-clause-size g c = let can = able g c in (can.bytes, can.known_is, can.inside)
 
 pub read_piece-requires-clause-room : goal.read_piece-requires-clause-room
-read_piece-requires-clause-room g c =
-    let self = c.args.self.now in
-    let job = c.args.job.now in
-    let can = can_fill (g.S.Source.known self.source.now) self.form.now.end job.size (length job.frame.items) (length job.sound.items) job.channels
-    self.form.now.channels c.requires in
-    ap length c.deref_mut.ensures.value ∙ can.room.sound_long
+read_piece-requires-clause-room g c = piece_long g c
 
 pub returns-clause-given : goal.returns-clause-given
 returns-clause-given g c =
     let self = c.args.self.now in
-    let job = c.args.job.now in
-    let whole = with_items_is job.sound c.read_piece.new.sound (c.read_piece.ensures.long ∙ c.deref_mut.ensures.len) in
-    let can = can_fill (g.S.Source.known self.source.now) self.form.now.end job.size (length job.frame.items) (length job.sound.items) job.channels
-    self.form.now.channels c.requires in
-    let room = ap length c.deref_mut.ensures.value ∙ can.room.sound_long in
+    let whole = with_items_is c.args.job.now.sound c.read_piece.new.sound (c.read_piece.ensures.long ∙ c.deref_mut.ensures.len) in
+    let room = piece_long g c.before.before.before.before in
     λ given. record {
       same = record {
         lent = refl;
@@ -49,10 +48,7 @@ returns-clause-given g c =
 pub returns-in-Err-clause-fault : goal.returns-in-Err-clause-fault
 returns-in-Err-clause-fault g c =
     let self = c.args.self.now in
-    let job = c.args.job.now in
-    let can = can_fill (g.S.Source.known self.source.now) self.form.now.end job.size (length job.frame.items) (length job.sound.items) job.channels
-    self.form.now.channels c.requires in
-    let room = ap length c.deref_mut.ensures.value ∙ can.room.sound_long in
+    let room = piece_long g c.before.before.before in
     record {
       same = record {
         lent = refl;
