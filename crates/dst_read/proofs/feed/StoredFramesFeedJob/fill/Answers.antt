@@ -4,8 +4,10 @@ use Rattle.dsdiff_spec.specs.Walk.{Entry, frame_at}
 use Rattle.frame_index.specs.Entries.{entry_seen}
 use Rattle.std.proofs.lemmas.List.{with_items_is}
 use Rattle.dst_read.proofs.Once.{next_left}
-use Rattle.dst_read.proofs.Shapes.{can_read, refilled}
+use Rattle.dst_read.proofs.Shapes.{CanRead, can_read, refilled}
+use Rattle.dst_read.proofs.feed.StoredFramesFeedJob.fill.Given.{Over}
 use Rattle.dst_read.proofs.feed.StoredFramesFeedJob.fill.Goals as goal
+use Rattle.dst_read.proofs.feed.StoredFramesFeedJob.fill.Goals.{After-deref_mut}
 
 pub lengthen-requires : goal.lengthen-requires
 lengthen-requires g c =
@@ -13,15 +15,18 @@ lengthen-requires g c =
     (omega (arith, c.if-self-length.false, c.length.ensures.length)) c.entry-entry.ensures in
     omega (arith, can.short, can.has.enough)
 
+-- the next frame lies in the source, and the job has room for it
+able : (g : Over) (c : After-deref_mut g) →
+    CanRead (g.S.Source.known c.args.self.now.source.now) (entry_seen c.entry-entry.result) c.args.job.now c.args.self.now.walked.now.form.channels
+able g c =
+    can_read (g.S.Source.known c.args.self.now.source.now) c.args.self.now c.args.job.now _ c.requires
+    (omega (arith, c.if-self-length.false, c.length.ensures.length)) c.entry-entry.ensures
+
 pub read_frame-requires-clause-size : goal.read_frame-requires-clause-size
-read_frame-requires-clause-size g c =
-    (can_read (g.S.Source.known c.args.self.now.source.now) c.args.self.now c.args.job.now (entry_seen c.entry-entry.result) c.requires
-    (omega (arith, c.if-self-length.false, c.length.ensures.length)) c.entry-entry.ensures).lies
+read_frame-requires-clause-size g c = (able g c).lies
 
 pub read_frame-requires-clause-fits : goal.read_frame-requires-clause-fits
-read_frame-requires-clause-fits g c =
-    (can_read (g.S.Source.known c.args.self.now.source.now) c.args.self.now c.args.job.now (entry_seen c.entry-entry.result) c.requires
-    (omega (arith, c.if-self-length.false, c.length.ensures.length)) c.entry-entry.ensures).fits
+read_frame-requires-clause-fits g c = (able g c).fits
 
 pub read_frame-requires-clause-room : goal.read_frame-requires-clause-room
 read_frame-requires-clause-room g c = omega (arith, c.lengthen.ensures.long, ap length c.deref_mut.ensures.value, c.lengthen.new.frame.ok.0)
@@ -30,30 +35,26 @@ pub returns-clause-job_shape : goal.returns-clause-job_shape
 returns-clause-job_shape g c =
     let self = c.args.self.now in
     let job = c.args.job.now in
-    let known = g.S.Source.known self.source.now in
-    let can = can_read known self job (entry_seen c.entry-entry.result) c.requires (omega (arith, c.if-self-length.false, c.length.ensures.length))
-    c.entry-entry.ensures in
+    let can = able g c.before.before.before.before.before in
     let frame = c.lengthen.new.frame in
     let size = c.entry-entry.result.size in
     let whole = with_items_is frame c.read_frame.new.frame (c.read_frame.ensures.long ∙ c.deref_mut.ensures.len) in
     let long : length c.read_frame.new.frame ≡ max (length job.frame.items) size =
     omega (arith, c.read_frame.ensures.long, c.deref_mut.ensures.len, c.lengthen.ensures.long, job.frame.ok.0) in
-    refilled known self job (entry_seen c.entry-entry.result) size _ (vec_capacity frame) c.requires can (omega arith) (ap length whole ∙ long)
+    refilled (g.S.Source.known self.source.now) self job (entry_seen c.entry-entry.result) size _ (vec_capacity frame) c.requires can (omega arith) (ap length whole ∙ long)
     c.lengthen.ensures.room
 
 pub returns-in-Err-clause-job_shape : goal.returns-in-Err-clause-job_shape
 returns-in-Err-clause-job_shape g c =
     let self = c.args.self.now in
     let job = c.args.job.now in
-    let known = g.S.Source.known self.source.now in
-    let can = can_read known self job (entry_seen c.entry-entry.result) c.requires (omega (arith, c.if-self-length.false, c.length.ensures.length))
-    c.entry-entry.ensures in
+    let can = able g c.before.before.before in
     let frame = c.lengthen.new.frame in
     let size = c.entry-entry.result.size in
     let whole = with_items_is frame c.read_frame.new.frame (c.read_frame.ensures.long ∙ c.deref_mut.ensures.len) in
     let long : length c.read_frame.new.frame ≡ max (length job.frame.items) size =
     omega (arith, c.read_frame.ensures.long, c.deref_mut.ensures.len, c.lengthen.ensures.long, job.frame.ok.0) in
-    refilled known self job (entry_seen c.entry-entry.result) job.size _ (vec_capacity frame) c.requires can (omega (arith, can.has.short))
+    refilled (g.S.Source.known self.source.now) self job (entry_seen c.entry-entry.result) job.size _ (vec_capacity frame) c.requires can (omega (arith, can.has.short))
     (ap length whole ∙ long) c.lengthen.ensures.room
 
 pub returns-clause-given : goal.returns-clause-given
