@@ -29,16 +29,6 @@ pub fn run_batch<R: Threads + Sync, W: FrameWork, G: Gate>(
     work_from(rt, work, gate, 0, scratches, jobs);
 }
 
-/// Starts a thread that does nothing, and waits for its end.
-///
-/// Linux often puts the first of several new threads on the processor of the thread that starts them. A worker would share that
-/// processor with the caller's run, while another one is idle.
-pub(crate) fn start_thread_without_work<R: Threads + Sync>(rt: &R) {
-    let mut there = || {};
-    let mut here = || {};
-    join_mut(rt, &mut there, &mut here);
-}
-
 // Works the jobs of a batch from `place` on. A new thread works the first run, and this one goes on with the rest, so that
 // one thread alone starts the others.
 #[cycle(workers)]

@@ -24,8 +24,8 @@
 //!
 //! **The caller starts all threads itself, one after another**, and works the last run. Where two threads start a thread
 //! at the same moment, as they do where the jobs are halved again and again, Linux may put both new ones on the same idle
-//! processor: a batch of a few milliseconds then takes twice as long. Before the threads of each batch [`run_ordered`] starts one
-//! without work and waits for it, since Linux often puts the first of several new threads on its caller's processor.
+//! processor: a batch of a few milliseconds then takes twice as long. While jobs are filled for several workers, a thread without
+//! work begins and ends, since Linux often puts the first of several new threads on its caller's processor.
 //!
 //! A batch costs what its slowest worker takes, and no work is done while jobs are filled and drained. So the jobs are
 //! shared out evenly: no worker has two jobs more than another. That is enough where jobs take about the same time, as

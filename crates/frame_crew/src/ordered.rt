@@ -4,9 +4,8 @@ ghost use Rattle.frame_crew.specs.Answers.{IfFeedFault, IfDrainFault};
 ghost use Rattle.frame_crew.specs.Batch.{IsDrained, FailsAmong};
 ghost use Rattle.frame_crew.specs.Runs.{Ran, FailsAtFeed, FailsAtDrain};
 
-use crate::batch::start_thread_without_work;
 use crate::drain::drain_all;
-use crate::feed::{Stop, fill_batch};
+use crate::feed::{Stop, fill_for};
 use crate::{Drain, Feed, FrameWork, Gate, run_batch};
 use std::thread::Threads;
 
@@ -82,10 +81,7 @@ pub fn run_ordered<R: Threads + Sync, W: FrameWork, F: Feed<W::Job>, D: Drain<W:
 {
     let mut drained = 0u32;
     loop {
-        let (filled, stop) = fill_batch(feed, jobs);
-        if filled > 1 && scratches.len() > 1 {
-            start_thread_without_work(rt);
-        }
+        let (filled, stop) = fill_for(rt, scratches.len(), feed, jobs);
         match work_and_drain(rt, work, drain, gate, scratches, &mut jobs[..filled]) {
             Ok(()) => drained += filled as u32,
             Err(fault) => return Err(RunFault::Drain(fault)),

@@ -3,8 +3,8 @@ use Rattle.std.proofs.Common.{◌≡◌, ◌+◌, ◌≤◌, All, length}
 use Rattle.frame_crew.specs.Runs.{Ran}
 use Rattle.frame_crew.proofs.ordered.run_ordered.Given as goal
 
-abbrev pub invariant-loop-drain : goal.invariant-loop-drain
-invariant-loop-drain g l = record {
+abbrev pub invariant-loop-drained : goal.invariant-loop-drained
+invariant-loop-drained g l = record {
   shapes : All (λ job. g.W.Job.Slot.shape job ≡ g.W.FrameWork.shape l.work) l.jobs;
   scratch_shapes : All (λ scratch. g.W.Scratch.Slot.shape scratch ≡ g.W.FrameWork.shape l.work) l.scratches;
   long : length l.jobs ≡ length l.initial.jobs;
@@ -14,5 +14,5 @@ invariant-loop-drain g l = record {
   drain_shape : g.D.Drain.shape l.drain ≡ g.W.FrameWork.shape l.work;
 }
 
-abbrev pub decreases-loop-drain : goal.decreases-loop-drain
-decreases-loop-drain g l = g.F.Feed.bound l.feed
+abbrev pub decreases-loop-drained : goal.decreases-loop-drained
+decreases-loop-drained g l = g.F.Feed.bound l.feed
