@@ -139,9 +139,7 @@ pub fn tables_for(
     ensures tables { IfOk result (λ tables. AreTablesFor channels tables.items) }
     ensures count { IfOk result (λ tables. length tables.items ≡ workers) }
 {
-    // Room for one worker's more than there are. A worker reads its own for each byte of a sound, and a processor fetches what stands
-    // behind them too: were that another worker's lanes, which it writes for each sample, both would wait for one another.
-    let mut tables = Vec::with_capacity(alloc, workers as usize + 1)?;
+    let mut tables = Vec::with_capacity(alloc, workers as usize)?;
     for _ in 0..workers {
         tables.push(Tables::new(alloc, channels)?)?;
     }
