@@ -52,6 +52,10 @@ pub record AreTaken (eight : EightTables) (frames channels : ℕ) : Type 0 where
   pub few : eight.taken ≤ frames * length eight.numbers.items + channels
   pub inside : eight.taken ≤ length eight.tables.items
 
+-- a channel of no frames: each word has the probability 1
+abbrev pub IsFresh : EightStates → Type 0
+IsFresh row = (n : ℕ) → n < 8 → IsWord 1 (get_or row.words n 0)
+
 -- The words of each channel: those of the next samples of the first frames, and some behind them.
 pub record AreWords (rows : List EightStates) (frames : ℕ) : Type 0 where
   pub some : (n c : ℕ) (row : EightStates) → n < 8 → c < length rows → (p : ℕ) × IsWord p (get_or (get_or rows c row).words n 0)

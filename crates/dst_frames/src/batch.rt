@@ -1,5 +1,5 @@
 // Up to eight frames, decoded side by side.
-ghost use Rattle.std.specs.Prelude.{◌≡◌, ◌≢◌, true, false, ◌<◌, ◌≤◌, ◌+◌, ◌*◌, ◌^◌, ℕ, [], length, take, get_or, replicate, Ok, IfSome, vec_capacity};
+ghost use Rattle.std.specs.Prelude.{◌≡◌, ◌≢◌, true, false, ◌<◌, ◌≤◌, ◌+◌, ◌*◌, ◌^◌, ℕ, [], length, take, get_or, replicate, Ok, IfSome, All, vec_capacity};
 ghost use Rattle.dst_spec.specs.Bits.{bits};
 ghost use Rattle.dst_spec.specs.Sample.{Shape, sound_bytes};
 ghost use Rattle.dst_spec.specs.Header.{Params, HasHeader};
@@ -15,7 +15,7 @@ ghost use Rattle.dst_frames.specs.Tables.{IsBuilt, AreBuilt};
 ghost use Rattle.dst_frames.specs.Ready.{IsReady};
 ghost use Rattle.dst_frames.specs.Batch.{IsDecoded, IsLaneFurther, AreLanes, HasBegun, stored_in, code_at};
 ghost use Rattle.dst_frames.specs.Eight.{states_at, table_at, tables_at, tables_in};
-ghost use Rattle.dst_frames.specs.Running.{AreStored, AreNarrow, AreEight, IsPool, AreTaken, AreWords, LaneDecoded};
+ghost use Rattle.dst_frames.specs.Running.{AreStored, AreNarrow, AreEight, IsPool, AreTaken, IsFresh, AreWords, LaneDecoded};
 ghost use Rattle.dst_frames.specs.declared.state.ChannelState.{ChannelState};
 ghost use Rattle.dst_frames.specs.declared.eight.TableNumbers.{TableNumbers};
 ghost use Rattle.dst_frames.specs.declared.stored.StoredFrame.{StoredFrame};
@@ -55,16 +55,14 @@ pub fn decode_batch(
     ensures channels { scratch.new.channels ≡ scratch.old.channels }
 {
     let eight = &mut scratch.eight;
-    let rows = scratch.rows.as_mut_slice();
     let states = scratch.states.as_mut_slice();
-    decode_within(frames, channels, eight, rows, states, heard);
+    decode_within(frames, channels, eight, states, heard);
 }
 
 fn decode_within(
     frames: &[StoredFrame],
     channels: Channels,
     eight: &mut EightTables,
-    rows: &mut [EightStates],
     states: &mut [ChannelState],
     heard: &mut [DecodedFrame],
 )
@@ -74,14 +72,13 @@ fn decode_within(
     requires frames { (n : ℕ) (other : StoredFrame) → n < length frames.now → (get_or frames.now n other).size ≤ 2 * (sound_bytes channels + 1) }
     requires sounds { (n : ℕ) (other : DecodedFrame) → n < length frames.now → length (get_or heard.old n other).sound.items ≡ sound_bytes channels }
     requires eight { IsPool eight.old channels.channels }
-    requires rows { length rows.old ≡ channels.channels }
     requires states { length states.old ≡ channels.channels }
     ensures decoded { (n : ℕ) (frame : StoredFrame) (other : DecodedFrame) → n < length frames.now
         → IsDecoded channels (stored_in (get_or frames.now n frame)) (get_or heard.new n other).sound.items (get_or heard.new n other).answer }
     ensures long { (n : ℕ) (other : DecodedFrame) → n < length frames.now → length (get_or heard.new n other).sound.items ≡ sound_bytes channels }
     ensures eight { IsPool eight.new channels.channels }
 {
-    if !decode_front(frames, channels, eight, rows, heard) {
+    if !decode_front(frames, channels, eight, heard) {
         decode_each(frames, channels, &mut eight.tables, states, heard);
     }
 }
@@ -142,7 +139,6 @@ fn decode_front(
     frames: &[StoredFrame],
     channels: Channels,
     eight: &mut EightTables,
-    rows: &mut [EightStates],
     heard: &mut [DecodedFrame],
 ) -> bool
     requires few { length frames.now ≤ 8 }
@@ -151,7 +147,6 @@ fn decode_front(
     requires frames { (n : ℕ) (other : StoredFrame) → n < length frames.now → (get_or frames.now n other).size ≤ 2 * (sound_bytes channels + 1) }
     requires sounds { (n : ℕ) (other : DecodedFrame) → n < length frames.now → length (get_or heard.old n other).sound.items ≡ sound_bytes channels }
     requires eight { IsPool eight.old channels.channels }
-    requires rows { length rows.old ≡ channels.channels }
     ensures decoded { result ≡ true → (n : ℕ) (frame : StoredFrame) (other : DecodedFrame) → n < length frames.now
         → IsDecoded channels (stored_in (get_or frames.now n frame)) (get_or heard.new n other).sound.items (get_or heard.new n other).answer }
     ensures long { (n : ℕ) (other : DecodedFrame) → n < length frames.now → length (get_or heard.new n other).sound.items ≡ sound_bytes channels }
@@ -162,6 +157,10 @@ fn decode_front(
         return false;
     }
     let mut lanes = ArithLanes::new();
+    // Here, not in the scratch: rows are written for each sample, and were those of two workers on one line of the processor's
+    // cache, each would wait for the other.
+    let mut six = no_rows();
+    let rows = &mut six[..channels.count()];
     match begin_all(frames, channels, &mut lanes, eight, rows) {
         Some(reserved) => {
             let tables = eight.tables.as_slice();
@@ -173,6 +172,20 @@ fn decode_front(
         }
         None => false,
     }
+}
+
+// Rows of six channels, with no frames in them.
+fn no_rows() -> [EightStates; 6]
+    ensures { All IsFresh result }
+{
+    [
+        EightStates::new(),
+        EightStates::new(),
+        EightStates::new(),
+        EightStates::new(),
+        EightStates::new(),
+        EightStates::new(),
+    ]
 }
 
 // Decodes a frame alone.
@@ -209,6 +222,7 @@ fn begin_all(
     requires frames { (n : ℕ) (other : StoredFrame) → n < length frames.now → (get_or frames.now n other).size ≤ 2 * (sound_bytes channels + 1) }
     requires eight { IsPool eight.old channels.channels }
     requires rows { length rows.old ≡ channels.channels }
+    requires fresh { All IsFresh rows.old }
     requires empty { (n : ℕ) → n < 8 → Begins lanes.old n [] 0 }
     ensures begun { IfSome result (λ words. (n : ℕ) (frame : StoredFrame) → n < length frames.now
         → HasBegun channels lanes.new n (stored_in (get_or frames.now n frame)) (tables_in eight.new n) (states_at rows.new n) (get_or words n 0)) }
@@ -218,7 +232,6 @@ fn begin_all(
 {
     let mut words = [word(0); 8];
     eight.taken = 0;
-    clear_all(rows);
     for n in 0..frames.len() {
         match begin_lane(frames[n].stored(), channels, lanes, n, eight, rows) {
             Some(reserved) => words[n] = reserved,
@@ -226,15 +239,6 @@ fn begin_all(
         }
     }
     Some(words)
-}
-
-// No frame is in the rows.
-fn clear_all(rows: &mut [EightStates])
-    ensures { AreWords rows.new 0 }
-{
-    for c in 0..rows.len() {
-        rows[c] = EightStates::new();
-    }
 }
 
 // Begins a coded frame in a lane, and gives the word of its reserved symbol. None where the frame is plain or refused.

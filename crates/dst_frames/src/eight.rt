@@ -11,7 +11,7 @@ ghost use Rattle.dst_frames.specs.Tables.{IsBuilt, IsEntry};
 ghost use Rattle.dst_frames.specs.Ready.{IsReady};
 ghost use Rattle.dst_frames.specs.Eight.{entry_in, state_in, table_at};
 ghost use Rattle.dst_frames.specs.Batch.{IsWordOf, LaneTakes, LaneSteps, IsLaneFurther};
-ghost use Rattle.dst_frames.specs.Running.{AreNarrow, IsGrown, IsPool};
+ghost use Rattle.dst_frames.specs.Running.{AreNarrow, IsFresh, IsGrown, IsPool};
 
 use crate::tables::ChannelTables;
 use arith_lanes::{ArithLanes, word};
@@ -125,7 +125,7 @@ pub(crate) struct EightStates {
 impl EightStates {
     /// Of no frames: their words have the probability 1.
     pub(crate) fn new() -> EightStates
-        ensures { (n : ℕ) → n < 8 → IsWord 1 (get_or result.words n 0) }
+        ensures { IsFresh result }
     {
         let words = [word(0); 8];
         EightStates {

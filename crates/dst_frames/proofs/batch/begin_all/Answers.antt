@@ -22,7 +22,10 @@ loop-n-init c = record {
     few = omega arith;
     inside = omega arith;
   };
-  words = c.clear_all.ensures;
+  words = record {
+    some = λ m d row h k. (1, c.requires.fresh d row k m h);
+    next = λ m d row h k. absurd (omega arith);
+  };
 }
 
 pub begin_lane-requires-clause-frame : goal.begin_lane-requires-clause-frame
