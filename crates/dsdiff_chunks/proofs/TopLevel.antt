@@ -60,11 +60,12 @@ in_front_of_none a =
     append_nil (x ∷ xs) = ap (λ ys. x ∷ ys) (append_nil xs)
 
 -- a list of heads is longer by one
-pub found_more : (m : List ℕ → Bool) (file : List ℕ) (end most place next : ℕ) (heads : List Head) (h : Head) (all : Found) →
-    all ≡ in_front heads (chunks_from m file end (suc most) place) → place < end → head_at file place ≡ h → fits m end h ≡ true →
+pub found_more : (m : List ℕ → Bool) (file : List ℕ) (end most place next : ℕ) (heads : List Head) (h : Head) (all : Found) {left : ℕ} → left ≡ suc most →
+    all ≡ in_front heads (chunks_from m file end left place) → place < end → head_at file place ≡ h → fits m end h ≡ true →
     next_place h ≡ next → all ≡ in_front (heads ++ h ∷ []) (chunks_from m file end most next)
-found_more m file end most place next heads h all before lt at fit on =
+found_more m file end most place next heads h all few before lt at fit on =
     before
+    ∙ ap (λ n. in_front heads (chunks_from m file end n place)) few
     ∙ ap (in_front heads) (one_more m file end most place h lt at fit)
     ∙ in_front_twice heads (h ∷ []) (chunks_from m file end most (next_place h))
     ∙ ap (λ i. in_front (heads ++ h ∷ []) (chunks_from m file end most i)) on
@@ -76,11 +77,11 @@ tiled_more end place next heads h at within on before more tiled =
     rw append_assoc (before (h ∷ more) (at, within, rw on tiled))
 
 -- a chunk that doesn't fit is the fault of them all
-pub overrun_found : (m : List ℕ → Bool) (file : List ℕ) (end most place : ℕ) (heads : List Head) (all : Found) (f : FileFault) →
-    all ≡ in_front heads (chunks_from m file end (suc most) place) → place < end →
+pub overrun_found : (m : List ℕ → Bool) (file : List ℕ) (end most place : ℕ) (heads : List Head) (all : Found) (f : FileFault) {left : ℕ} →
+    left ≡ suc most → all ≡ in_front heads (chunks_from m file end left place) → place < end →
     (Overrun place when not (fits m end (head_at file place))) ≡ Some f → all.fault ≡ Some f
-overrun_found m file end most place heads all f before lt refused =
-    ap (λ found. found.fault) before ∙ at (fits m end (head_at file place)) refl refused
+overrun_found m file end most place heads all f few before lt refused =
+    ap (λ found. found.fault) (before ∙ ap (λ n. in_front heads (chunks_from m file end n place)) few) ∙ at (fits m end (head_at file place)) refl refused
   where
     at : (b : Bool) → fits m end (head_at file place) ≡ b → (Overrun place when not b) ≡ Some f →
         (chunks_from m file end (suc most) place).fault ≡ Some f

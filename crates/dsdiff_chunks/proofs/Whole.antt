@@ -1,7 +1,8 @@
 -- A form is as its parts tell, and the rules on its kind speak of them.
-use Rattle.std.proofs.Common.{◌≡◌, ℕ, ◌+◌, ◌-◌, ◌/◌, ◌%◌, ◌≤◌, List, length, drop, Bool, true, false, Option, Some, None, refl, sym, ap, ◌∙◌, arith, lit<}
+use Rattle.std.proofs.Common.{◌≡◌, ℕ, ◌+◌, ◌-◌, ◌/◌, ◌%◌, ◌≤◌, List, [], length, drop, Bool, true, false, Option, Some, None, refl, sym, ap, ◌∙◌, arith, lit<}
 use Rattle.std.specs.Prelude.{◌==◌, not, ◌||◌, filter, if◌then◌else◌, nat_le}
 use Rattle.std.proofs.lemmas.List.{take_all, length-drop}
+use Rattle.std.proofs.lemmas.List.Elements.{All-contains}
 use Rattle.std.proofs.lemmas.Bool.{leb-true, and_parts}
 use Rattle.std.proofs.Math.Nat.{mul-div_cancel_left}
 use Rattle.dst_spec.specs.Sample.{Shape, sound_bytes}
@@ -18,8 +19,10 @@ use Rattle.dsdiff_spec.specs.declared.faults.FileFault.TheVariants.{SoundUneven,
 use Rattle.dsdiff_chunks.specs.declared.build.Parts.{Parts}
 use Rattle.dsdiff_chunks.specs.declared.common.Kind as sounds
 use Rattle.dsdiff_chunks.specs.Kinds.{kind_seen}
-use Rattle.dsdiff_chunks.specs.Prepared.{AreParts}
-use Rattle.dsdiff_chunks.specs.Opening.{may_lack_pad, plain_parts_fault, space_fault, is_of_coded, coded_sound_fault, are_bad_origins}
+use Rattle.dsdiff_chunks.specs.Prepared.{AreParts, heads_of}
+use Rattle.dsdiff_chunks.specs.Seen.{head_seen}
+use Rattle.dsdiff_chunks.proofs.Only.{passed_is_there}
+use Rattle.dsdiff_chunks.specs.Opening.{may_lack_pad, is_sound, plain_parts_fault, space_fault, is_of_coded, coded_sound_fault, are_bad_origins}
 
 -- of parts whose sound is of this kind, only the rules on the kind are left
 pub kind_left : {bytes : Option (List ℕ)} {known : Option ℕ} {p : Parts} {k : sounds.Kind} → AreParts bytes known p → p.sound.kind ≡ k →
@@ -72,12 +75,15 @@ frame_bytes_of xs body s e is_shape = ap sound_bytes_in e ∙ sym (ap sound_byte
 pub channels_of : (xs body : List ℕ) (s : Shape) → prop xs ≡ body → s ≡ shape_of (channel_count body) (multiple body) → channel_count (prop xs) ≡ s.channels
 channels_of xs body s e is_shape = ap channel_count e ∙ sym (ap (λ t. t.channels) is_shape)
 
+pub multiple_of : (xs body : List ℕ) (s : Shape) → prop xs ≡ body → s ≡ shape_of (channel_count body) (multiple body) → multiple (prop xs) ≡ s.octets / 4704
+multiple_of xs body s e is_shape = ap multiple e ∙ sym (multiple_back s (channel_count body) (multiple body) is_shape)
+
 -- ---- the kind
-pub is_plain_id : (b : Bool) → plain ≡ (if b then plain else coded) → b ≡ true
+is_plain_id : (b : Bool) → plain ≡ (if b then plain else coded) → b ≡ true
 is_plain_id true e = refl
 is_plain_id false e = absurd cc
 
-pub next_fits : (end : ℕ) (h : Head) → fits may_lack_pad end h ≡ true → (h.id is "DSD ") ≡ true → next_place h ≤ end
+next_fits : (end : ℕ) (h : Head) → fits may_lack_pad end h ≡ true → (h.id is "DSD ") ≡ true → next_place h ≤ end
 next_fits end h fit id = leb-true (next_place h) end (at (h.id is "DSD ") id (and_parts _ _ fit).1)
   where
     at : (b : Bool) → b ≡ true → nat_le (if not b then h.place + 12 + h.size else next_place h) end ≡ true → nat_le (next_place h) end ≡ true
@@ -101,7 +107,7 @@ two_and_more : (a b r : Option FileFault) → (a otherwise b otherwise r) ≡ (a
 two_and_more (Some f) b r = refl
 two_and_more None b r = refl
 
-pub plain_by_parts : (xs body : List ℕ) (heads : List Head) (prop_is sound : Head) (s : Shape) (size end : ℕ) →
+plain_by_parts : (xs body : List ℕ) (heads : List Head) (prop_is sound : Head) (s : Shape) (size end : ℕ) →
     length xs ≡ size → form_end xs ≡ end → (top_level xs).heads ≡ heads → prop_head xs ≡ prop_is → prop xs ≡ body → sound_head xs ≡ sound →
     s ≡ shape_of (channel_count body) (multiple body) →
     plain_fault xs ≡ plain_parts_fault size end heads prop_is.size sound.size s.channels (sound_bytes s)
@@ -122,6 +128,26 @@ plain_frames xs body sound s b snd is_shape =
 pub behind_by_parts : (xs : List ℕ) (size end : ℕ) → length xs ≡ size → form_end xs ≡ end → behind_form xs ≡ bytes_at xs end (size - end)
 behind_by_parts xs size end long ends =
     ap (λ n. drop n xs) ends ∙ sym (take_all (size - end) (drop end xs) (omega (arith, long, length-drop end xs)))
+
+-- of parts whose sound is plain, only the rules on these parts are left
+pub plain_left : {bytes : Option (List ℕ)} {known : Option ℕ} {p : Parts} → AreParts bytes known p → p.sound.kind ≡ sounds.Kind.Plain →
+    (xs : List ℕ) → bytes ≡ Some xs →
+    form_fault xs ≡ plain_parts_fault p.chunks.size p.chunks.end (heads_of p) p.prop_head.size p.sound.head.size p.prop.fields.channels.channels
+    (sound_bytes p.prop.fields.channels)
+plain_left {p = p} parts of_kind xs told =
+    let has = parts.told xs told in
+    (kind_left parts of_kind xs told).1
+    ∙ plain_by_parts xs p.prop.body.items (heads_of p) (head_seen p.prop_head) (head_seen p.sound.head) p.prop.fields.channels p.chunks.size p.chunks.end
+    has.long has.ends has.chunks has.prop_is has.body has.sound parts.shape
+
+-- the sound of a plain form has its pad byte in the form
+pub plain_padded : {bytes : Option (List ℕ)} {known : Option ℕ} {p : Parts} → AreParts bytes known p → p.sound.kind ≡ sounds.Kind.Plain →
+    next_place (head_seen p.sound.head) ≤ p.chunks.end
+plain_padded {p = p} parts of_kind =
+    let sound = head_seen p.sound.head in
+    let there = passed_is_there is_sound (heads_of p) sound [] parts.sound.found in
+    next_fits p.chunks.end sound (All-contains (λ h. fits may_lack_pad p.chunks.end h ≡ true) (heads_of p) sound parts.chunks.whole there)
+    (is_plain_id (sound.id is "DSD ") (sym (ap kind_seen of_kind) ∙ parts.sound.kind_is))
 
 -- ---- the rules on a coded form
 abbrev kept_rule : List ℕ → List ℕ → ℕ → List Head → Option FileFault

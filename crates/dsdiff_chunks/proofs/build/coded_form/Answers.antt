@@ -17,7 +17,8 @@ use Rattle.dsdiff_chunks.specs.Seen.{head_seen, origin_seen}
 use Rattle.dsdiff_chunks.proofs.Chain.{form_is_accepted}
 use Rattle.dsdiff_chunks.proofs.Only.{only_within}
 use Rattle.dsdiff_chunks.proofs.Stopping.{Stops-in}
-use Rattle.dsdiff_chunks.proofs.Whole.{kind_left, same_form, multiple_back, shape_back, channels_of, coded_at_sound, count_by_parts, coded_past_sound}
+use Rattle.dsdiff_chunks.proofs.Whole.{kind_left, same_form, multiple_back, shape_back, channels_of, multiple_of, coded_at_sound, count_by_parts}
+use Rattle.dsdiff_chunks.proofs.Whole.{coded_past_sound}
 use Rattle.dsdiff_chunks.proofs.build.coded_form.Given.{Over}
 use Rattle.dsdiff_chunks.proofs.build.coded_form.Goals as goal
 use Rattle.dsdiff_chunks.proofs.build.coded_form.Goals.{After-as_slice}
@@ -38,11 +39,12 @@ read_frte-requires-clause-most g c =
 
 pub returns-in-Err-clause-stops : goal.returns-in-Err-clause-stops
 returns-in-Err-clause-stops g c =
-    let parts = c.requires.parts in
     Stops-in _ form_fault (g.S.Source.bytes c.args.source.now) (g.S.Source.bytes c.args.source.now) (g.S.Source.faults c.args.source.now)
     (g.S.Source.faults c.args.source.now) _
     c.in-Err.fault refl (omega arith)
-    (λ xs f told e. (kind_left parts c.requires.kind xs told).1 ∙ coded_at_sound xs (head_seen c.args.parts.sound.head) f (parts.told xs told).sound e)
+    (λ xs f told e.
+    (kind_left c.requires.parts c.requires.kind xs told).1
+    ∙ coded_at_sound xs (head_seen c.args.parts.sound.head) f (c.requires.parts.told xs told).sound e)
     c.in-Err.ensures.stops
 
 -- behind a sound that is accepted only the rule on the place in the original is left
@@ -54,18 +56,17 @@ origin_left g c xs told =
     let parts = c.requires.parts in
     let has = parts.told xs told in
     let shape = p.prop.fields.channels in
-    let slice = ap (λ (hs : List ChunkHead). named "KEPT" (map head_seen hs)) c.as_slice.ensures.value in
     (kind_left parts c.requires.kind xs told).1
     ∙ coded_past_sound xs p.prop.body.items (heads_of p) (head_seen p.sound.head) shape c.in-Ok.frames has.chunks has.body has.sound parts.shape
     (c.in-Ok.ensures.count xs told) (c.in-Ok.ensures.accepted xs told)
-    ∙ ap (λ hs. KeptBad when are_bad_origins shape.channels (sound_bytes shape) c.in-Ok.frames xs hs) (sym slice)
+    ∙ ap (λ (hs : List ChunkHead). KeptBad when are_bad_origins shape.channels (sound_bytes shape) c.in-Ok.frames xs (named "KEPT" (map head_seen hs)))
+    (sym c.as_slice.ensures.value)
 
 pub returns-in-Err-read_any_origin-clause-stops : goal.returns-in-Err-read_any_origin-clause-stops
 returns-in-Err-read_any_origin-clause-stops g c =
-    let frte = c.in-Ok.ensures in
     Stops-in _ form_fault (g.S.Source.bytes c.args.source.now) (g.S.Source.bytes c.read_frte.new.source) (g.S.Source.faults c.args.source.now)
     (g.S.Source.faults c.read_frte.new.source) _
-    c.in-Err-read_any_origin.fault frte.source.same_bytes frte.source.later
+    c.in-Err-read_any_origin.fault c.in-Ok.ensures.source.same_bytes c.in-Ok.ensures.source.later
     (λ xs f told e. origin_left g c.before.before.before.before xs told ∙ e)
     c.in-Err-read_any_origin.ensures.stops
 
@@ -75,21 +76,21 @@ returns-clause-form g c xs told =
     let parts = c.requires.parts in
     let has = parts.told xs told in
     let shape = p.prop.fields.channels in
-    let frte = c.in-Ok.ensures in
     let kept = c.in-Ok-read_any_origin.ensures in
-    let there = frte.source.same_bytes ∙ told in
-    let slice = ap (λ (hs : List ChunkHead). named "KEPT" (map head_seen hs)) c.as_slice.ensures.value in
+    let there = c.in-Ok.ensures.source.same_bytes ∙ told in
     form_is_accepted xs (origin_left g c.before.before.before.before.before.before xs told ∙ ap (λ b. KeptBad when b) (kept.accepted xs there))
     ∙ ap Ok
     (ap (λ k. form_of_kind k xs) (kind_left parts c.requires.kind xs told).0
     ∙ same_form (form_of_kind coded xs) _ refl (channels_of xs p.prop.body.items shape has.body parts.shape)
-    (ap multiple has.body ∙ sym (multiple_back shape (channel_count p.prop.body.items) (multiple p.prop.body.items) parts.shape))
+    (multiple_of xs p.prop.body.items shape has.body parts.shape)
     has.ends
     (has.chunks ∙ sym (ap (map head_seen) c.from_vec.ensures))
     (has.body ∙ sym c.from_vec-2.ensures)
     has.sound
-    (count_by_parts xs (head_seen p.sound.head) c.in-Ok.frames has.sound (frte.count xs told))
-    (ap (λ hs. origin_in xs (named "KEPT" hs)) has.chunks ∙ ap (origin_in xs) (sym slice) ∙ sym (kept.origin xs there))
+    (count_by_parts xs (head_seen p.sound.head) c.in-Ok.frames has.sound (c.in-Ok.ensures.count xs told))
+    (ap (λ hs. origin_in xs (named "KEPT" hs)) has.chunks
+    ∙ ap (λ (hs : List ChunkHead). origin_in xs (named "KEPT" (map head_seen hs))) (sym c.as_slice.ensures.value)
+    ∙ sym (kept.origin xs there))
     refl
     refl)
 
@@ -97,7 +98,6 @@ pub invariant_of-result : goal.invariant_of-result
 invariant_of-result g c =
     let p = c.args.parts in
     let parts = c.requires.parts in
-    let sound = head_seen p.sound.head in
     let shape = p.prop.fields.channels in
     let heads : heads_of p ≡ map head_seen c.from_vec.result = sym (ap (map head_seen) c.from_vec.ensures) in
     let body : p.prop.body.items ≡ c.from_vec-2.result = sym c.from_vec-2.ensures in

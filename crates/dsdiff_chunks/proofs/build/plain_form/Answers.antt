@@ -1,49 +1,31 @@
 -- The rules on a plain form speak of its parts, and where none fails the form is as they tell.
-use Rattle.std.proofs.Common.{◌≡◌, ℕ, ◌+◌, ◌%◌, ◌≤◌, List, [], length, map, get_or, true, Ok, refl, sym, ap, ◌∙◌, subst, arith}
+use Rattle.std.proofs.Common.{◌≡◌, ℕ, ◌+◌, ◌%◌, ◌≤◌, List, length, map, get_or, Ok, refl, sym, ap, ◌∙◌, subst, arith}
 use Rattle.std.specs.Prelude.{◌==◌, filter, if◌then◌else◌}
-use Rattle.std.proofs.lemmas.List.Elements.{All-contains}
 use Rattle.dst_spec.specs.Sample.{sound_bytes}
-use Rattle.dsdiff_spec.specs.Bytes.{◌is◌}
-use Rattle.dsdiff_spec.specs.Chunks.{Head, fits, body_end}
+use Rattle.dsdiff_spec.specs.Chunks.{Head, body_end}
 use Rattle.dsdiff_spec.specs.Form.{plain, frames_for}
 use Rattle.dsdiff_spec.specs.Parts.{channel_count, multiple}
 use Rattle.dsdiff_spec.specs.Rules.{local_fault, form_fault, form_of_kind}
 use Rattle.dsdiff_spec.proofs.Lawful.{rules_at_0}
 use Rattle.dsdiff_chunks.specs.Lawful.{TileTo}
-use Rattle.dsdiff_chunks.specs.Opening.{may_lack_pad, is_sound}
+use Rattle.dsdiff_chunks.specs.Opening.{is_sound}
 use Rattle.dsdiff_chunks.specs.Prepared.{heads_of}
-use Rattle.dsdiff_chunks.specs.Kinds.{kind_seen}
 use Rattle.dsdiff_chunks.specs.Seen.{head_seen}
 use Rattle.dsdiff_chunks.proofs.Chain.{form_is_accepted}
-use Rattle.dsdiff_chunks.proofs.Only.{passed_is_there}
 use Rattle.dsdiff_chunks.proofs.Stopping.{Stops-in}
-use Rattle.dsdiff_chunks.proofs.Whole.{same_form, multiple_back, shape_back, channels_of, is_plain_id, next_fits, plain_by_parts, plain_frames}
+use Rattle.dsdiff_chunks.proofs.Whole.{same_form, multiple_back, shape_back, channels_of, multiple_of, plain_left, plain_padded, plain_frames}
 use Rattle.dsdiff_chunks.proofs.Whole.{behind_by_parts, kind_left}
 use Rattle.dsdiff_chunks.proofs.build.plain_form.Goals as goal
 
 pub read_plain-requires-clause-padded : goal.read_plain-requires-clause-padded
-read_plain-requires-clause-padded g c =
-    let p = c.args.parts in
-    let sound = head_seen p.sound.head in
-    let parts = c.requires.parts in
-    let id = is_plain_id (sound.id is "DSD ") (sym (ap kind_seen c.requires.kind) ∙ parts.sound.kind_is) in
-    let there = passed_is_there is_sound (heads_of p) sound [] parts.sound.found in
-    next_fits p.chunks.end sound (All-contains (λ h. fits may_lack_pad p.chunks.end h ≡ true) (heads_of p) sound parts.chunks.whole there) id
+read_plain-requires-clause-padded g c = plain_padded c.requires.parts c.requires.kind
 
 pub returns-in-Err-clause-stops : goal.returns-in-Err-clause-stops
 returns-in-Err-clause-stops g c =
-    let p = c.args.parts in
-    let parts = c.requires.parts in
     Stops-in _ form_fault (g.S.Source.bytes c.args.source.now) (g.S.Source.bytes c.args.source.now) (g.S.Source.faults c.args.source.now)
     (g.S.Source.faults c.args.source.now) _
     c.in-Err.fault refl (omega arith)
-    (λ xs f told e.
-    let has = parts.told xs told in
-    let left = kind_left parts c.requires.kind xs told in
-    left.1
-    ∙ plain_by_parts xs p.prop.body.items (heads_of p) (head_seen p.prop_head) (head_seen p.sound.head) p.prop.fields.channels p.chunks.size p.chunks.end
-    has.long has.ends has.chunks has.prop_is has.body has.sound parts.shape
-    ∙ e)
+    (λ xs f told e. plain_left c.requires.parts c.requires.kind xs told ∙ e)
     c.in-Err.ensures.stops
 
 pub returns-clause-form : goal.returns-clause-form
@@ -53,16 +35,11 @@ returns-clause-form g c xs told =
     let has = parts.told xs told in
     let shape = p.prop.fields.channels in
     let found = c.in-Ok.ensures in
-    let left = kind_left parts c.requires.kind xs told in
-    let none = left.1
-    ∙ plain_by_parts xs p.prop.body.items (heads_of p) (head_seen p.prop_head) (head_seen p.sound.head) shape p.chunks.size p.chunks.end
-    has.long has.ends has.chunks has.prop_is has.body has.sound parts.shape
-    ∙ found.accepted in
-    form_is_accepted xs none
+    form_is_accepted xs (plain_left parts c.requires.kind xs told ∙ found.accepted)
     ∙ ap Ok
-    (ap (λ k. form_of_kind k xs) left.0
+    (ap (λ k. form_of_kind k xs) (kind_left parts c.requires.kind xs told).0
     ∙ same_form (form_of_kind plain xs) _ refl (channels_of xs p.prop.body.items shape has.body parts.shape)
-    (ap multiple has.body ∙ sym (multiple_back shape (channel_count p.prop.body.items) (multiple p.prop.body.items) parts.shape))
+    (multiple_of xs p.prop.body.items shape has.body parts.shape)
     has.ends
     (has.chunks ∙ sym (ap (map head_seen) c.from_vec.ensures))
     (has.body ∙ sym c.from_vec-2.ensures)
@@ -76,15 +53,12 @@ pub invariant_of-result : goal.invariant_of-result
 invariant_of-result g c =
     let p = c.args.parts in
     let parts = c.requires.parts in
-    let sound = head_seen p.sound.head in
     let shape = p.prop.fields.channels in
     let found = c.in-Ok.ensures in
     let heads : heads_of p ≡ map head_seen c.from_vec.result = sym (ap (map head_seen) c.from_vec.ensures) in
     let body : p.prop.body.items ≡ c.from_vec-2.result = sym c.from_vec-2.ensures in
     let behind : c.in-Ok.plain.behind.items ≡ c.from_vec-3.result = sym c.from_vec-3.ensures in
-    let there = passed_is_there is_sound (heads_of p) sound [] parts.sound.found in
     let back = shape_back shape (channel_count p.prop.body.items) (multiple p.prop.body.items) parts.shape in
-    let id = is_plain_id (sound.id is "DSD ") (sym (ap kind_seen c.requires.kind) ∙ parts.sound.kind_is) in
     record {
       lawful = record {
         end = parts.chunks.most;
@@ -100,9 +74,9 @@ invariant_of-result g c =
         frames = found.few;
         of_kind = record {
           even = found.even;
-          frames = found.frames ∙ sym (ap (λ s. frames_for (sound_bytes s) sound.size) back);
+          frames = found.frames ∙ sym (ap (λ s. frames_for (sound_bytes s) p.sound.head.size) back);
           origin = refl;
-          padded = next_fits p.chunks.end sound (All-contains (λ h. fits may_lack_pad p.chunks.end h ≡ true) (heads_of p) sound parts.chunks.whole there) id;
+          padded = plain_padded parts c.requires.kind;
           pad = found.pad_even;
           behind = subst (λ (b : List ℕ). length b ≤ 65536) behind found.behind_most;
         };

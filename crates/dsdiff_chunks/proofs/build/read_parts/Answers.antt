@@ -1,24 +1,19 @@
 -- Each step is asked where the steps before it found no fault.
-use Rattle.std.proofs.Common.{◌≡◌, ℕ, ◌+◌, List, map, Option, Some, None, refl, sym, ap, ◌∙◌, subst, arith}
+use Rattle.std.proofs.Common.{◌≡◌, ℕ, ◌+◌, List, map, Some, None, refl, sym, ap, ◌∙◌, subst, arith}
+use Rattle.dsdiff_spec.specs.Chunks.{the_first}
 use Rattle.dsdiff_spec.specs.Faults.{◌otherwise◌}
 use Rattle.dsdiff_spec.specs.Parts.{compression, kind, prop, prop_head, top_level}
 use Rattle.dsdiff_spec.specs.Rules.{opening_fault, local_fault, form_fault, sound_fault, kind_fault}
 use Rattle.dsdiff_chunks.specs.declared.lists.ChunkHead.{ChunkHead}
 use Rattle.dsdiff_chunks.specs.Kinds.{kind_seen}
+use Rattle.dsdiff_chunks.specs.Opening.{first_fault}
 use Rattle.dsdiff_chunks.specs.Seen.{head_seen}
-use Rattle.dsdiff_chunks.specs.Steps.{AreChunks, IsTheSound}
+use Rattle.dsdiff_chunks.specs.Steps.{IsTheSound}
 use Rattle.dsdiff_chunks.proofs.Chain.{at_opening, at_version, at_props, the_prop, the_body, at_prop, past_prop, at_sound, past_sound, the_sound}
 use Rattle.dsdiff_chunks.proofs.Stopping.{Stops-in}
 use Rattle.dsdiff_chunks.proofs.build.read_parts.Given.{Over}
 use Rattle.dsdiff_chunks.proofs.build.read_parts.Goals as goal
-use Rattle.dsdiff_chunks.proofs.build.read_parts.Goals.{After-find_sound-arg-1}
-
--- the opening has no fault, and its chunks are those of the slice
-opened : {bytes : Option (List ℕ)} {known : Option ℕ} {size end : ℕ} {heads slice : List ChunkHead} → AreChunks bytes known size end (map head_seen heads) →
-    slice ≡ heads → (xs : List ℕ) → bytes ≡ Some xs → (opening_fault xs ≡ None) × ((top_level xs).heads ≡ map head_seen slice)
-opened chunks same xs told =
-    let o = chunks.told xs told in
-    (o.rules, o.chunks ∙ sym (ap (map head_seen) same))
+use Rattle.dsdiff_chunks.proofs.build.read_parts.Goals.{After-find_sound-arg-1, In-Ok-check_version}
 
 pub returns-in-Err-clause-stops : goal.returns-in-Err-clause-stops
 returns-in-Err-clause-stops g c =
@@ -33,28 +28,33 @@ returns-in-Err-check_version-clause-stops g c =
     (g.S.Source.faults c.read_chunks.new.source) _
     c.in-Err-check_version.fault c.in-Ok.ensures.bytes c.in-Ok.ensures.later
     (λ xs f told e.
-    let o = opened c.in-Ok.ensures.chunks c.as_slice-heads.ensures.value xs (c.in-Ok.ensures.bytes ∙ told) in
-    at_version xs heads f o.0 o.1 e)
+    let o = c.in-Ok.ensures.chunks.told xs (c.in-Ok.ensures.bytes ∙ told) in
+    at_version xs heads f o.rules (o.chunks ∙ sym (ap (map head_seen) c.as_slice-heads.ensures.value)) e)
     c.in-Err-check_version.ensures.stops
+
+-- what an FVER that is accepted leaves: an opening without a fault, its chunks, and the first of them without one
+version_left : (g : Over) (c : In-Ok-check_version g) (xs : List ℕ) → g.S.Source.bytes c.args.source.now ≡ Some xs →
+    (opening_fault xs ≡ None) × ((top_level xs).heads ≡ map head_seen c.as_slice-heads.result.now)
+    × (first_fault xs (the_first (map head_seen c.as_slice-heads.result.now)) ≡ None)
+version_left g c xs told =
+    let there = c.in-Ok.ensures.bytes ∙ told in
+    let o = c.in-Ok.ensures.chunks.told xs there in
+    (o.rules, o.chunks ∙ sym (ap (map head_seen) c.as_slice-heads.ensures.value), c.in-Ok-check_version.ensures.accepted xs there)
 
 pub returns-in-Err-find_prop-clause-stops : goal.returns-in-Err-find_prop-clause-stops
 returns-in-Err-find_prop-clause-stops g c xs told =
-    let heads = map head_seen c.as_slice-heads.result.now in
-    let there = c.in-Ok.ensures.bytes ∙ told in
-    let o = opened c.in-Ok.ensures.chunks c.as_slice-heads.ensures.value xs there in
-    at_props xs heads c.in-Err-find_prop.fault o.0 o.1 (c.in-Ok-check_version.ensures.accepted xs there) c.in-Err-find_prop.ensures.refused
+    let o = version_left g c.before.before.before xs told in
+    at_props xs (map head_seen c.as_slice-heads.result.now) c.in-Err-find_prop.fault o.0 o.1 o.2 c.in-Err-find_prop.ensures.refused
 
 pub returns-in-Err-read_body_of_prop-clause-stops : goal.returns-in-Err-read_body_of_prop-clause-stops
 returns-in-Err-read_body_of_prop-clause-stops g c =
-    let heads = map head_seen c.as_slice-heads.result.now in
     let version = c.in-Ok-check_version.ensures.source in
     Stops-in _ form_fault (g.S.Source.bytes c.args.source.now) (g.S.Source.bytes c.check_version.new.source) (g.S.Source.faults c.args.source.now)
     (g.S.Source.faults c.check_version.new.source) _
     c.in-Err-read_body_of_prop.fault (version.same_bytes ∙ c.in-Ok.ensures.bytes) (omega (arith, version.later, c.in-Ok.ensures.later))
     (λ xs f told e.
-    let there = c.in-Ok.ensures.bytes ∙ told in
-    let o = opened c.in-Ok.ensures.chunks c.as_slice-heads.ensures.value xs there in
-    at_prop xs heads (head_seen c.in-Ok-find_prop.head) f o.0 o.1 (c.in-Ok-check_version.ensures.accepted xs there)
+    let o = version_left g c.before.before.before.before.before.before xs told in
+    at_prop xs (map head_seen c.as_slice-heads.result.now) (head_seen c.in-Ok-find_prop.head) f o.0 o.1 o.2
     c.in-Ok-find_prop.ensures.found c.in-Ok-find_prop.ensures.most e)
     c.in-Err-read_body_of_prop.ensures.stops
 
@@ -74,11 +74,10 @@ prop_found g c xs told =
     let heads = map head_seen c.as_slice-heads.result.now in
     let head = head_seen c.in-Ok-find_prop.head in
     let found = c.in-Ok-find_prop.ensures in
-    let there = c.in-Ok.ensures.bytes ∙ told in
-    let o = opened c.in-Ok.ensures.chunks c.as_slice-heads.ensures.value xs there in
+    let o = version_left g c.before.before.before.before.before.before xs told in
     let read = c.in-Ok-read_body_of_prop.ensures in
-    let body = read.read xs (c.in-Ok-check_version.ensures.source.same_bytes ∙ there) in (
-      past_prop xs heads head o.0 o.1 (c.in-Ok-check_version.ensures.accepted xs there) found.found found.most
+    let body = read.read xs (c.in-Ok-check_version.ensures.source.same_bytes ∙ c.in-Ok.ensures.bytes ∙ told) in (
+      past_prop xs heads head o.0 o.1 o.2 found.found found.most
           (sym (ap (local_fault (head.place + 12)) body) ∙ read.rules),
       o.1,
       the_prop xs heads head o.1 found.found,

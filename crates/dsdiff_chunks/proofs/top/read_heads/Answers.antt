@@ -12,26 +12,22 @@ use Rattle.dsdiff_chunks.proofs.top.read_heads.Goals as goal
 
 pub returns-then-len-eq-MOST_CHUNKS-clause-stops : goal.returns-then-len-eq-MOST_CHUNKS-clause-stops
 returns-then-len-eq-MOST_CHUNKS-clause-stops g c xs told =
-    let end = c.args.end in
-    let place = c.loop-place.place in
     let none : 1024 - length c.loop-place.heads.items ≡ 0 = omega (arith, c.loop-place.heads.ok.0) in
     ap (λ found. found.fault)
     (c.loop-place.invariant.found xs told
     ∙ ap (in_front (map head_seen c.loop-place.heads.items))
-    (ap (λ n. chunks_from may_lack_pad xs end n place) none ∙ too_many may_lack_pad xs end place c.loop-place-test.true))
+    (ap (λ n. chunks_from may_lack_pad xs c.args.end n c.loop-place.place) none
+    ∙ too_many may_lack_pad xs c.args.end c.loop-place.place c.loop-place-test.true))
 
 pub returns-in-Err-next_head-clause-stops : goal.returns-in-Err-next_head-clause-stops
 returns-in-Err-next_head-clause-stops g c =
-    let end = c.args.end in
-    let place = c.loop-place.place in
     let heads = c.loop-place.heads.items in
     let few : 1024 - length heads ≡ suc (1023 - length heads) = omega (arith, c.loop-place.heads.ok.0, c.if-len-eq-MOST_CHUNKS.false) in
-    Stops-in _ (λ xs. (chunks_from may_lack_pad xs end 1024 16).fault) (g.S.Source.bytes c.args.source.now) _
+    Stops-in _ (λ xs. (chunks_from may_lack_pad xs c.args.end 1024 16).fault) (g.S.Source.bytes c.args.source.now) _
     (g.S.Source.faults c.args.source.now) _ _ c.in-Err-next_head.fault c.loop-place.invariant.bytes c.loop-place.invariant.faults
     (λ xs f told refused.
-    overrun_found may_lack_pad xs end (1023 - length heads) place (map head_seen heads) _ f
-    (c.loop-place.invariant.found xs told ∙ ap (λ n. in_front (map head_seen heads) (chunks_from may_lack_pad xs end n place)) few)
-    c.loop-place-test.true refused)
+    overrun_found may_lack_pad xs c.args.end (1023 - length heads) c.loop-place.place (map head_seen heads) _ f few
+    (c.loop-place.invariant.found xs told) c.loop-place-test.true refused)
     c.in-Err-next_head.ensures.stops
 
 pub loop-place-preserved : goal.loop-place-preserved
@@ -64,8 +60,8 @@ loop-place-preserved g c =
           (All-push (λ h. fits may_lack_pad end h ≡ true) (map head_seen heads) (head_seen head) c.loop-place.invariant.whole c.in-Ok-next_head.ensures.fits);
       found = λ xs told.
           rw (seen, ← left)
-          (found_more may_lack_pad xs end (1023 - length heads) place _ (map head_seen heads) (head_seen head) _
-          (c.loop-place.invariant.found xs told ∙ ap (λ n. in_front (map head_seen heads) (chunks_from may_lack_pad xs end n place)) few)
+          (found_more may_lack_pad xs end (1023 - length heads) place _ (map head_seen heads) (head_seen head) _ few
+          (c.loop-place.invariant.found xs told)
           c.loop-place-test.true (c.in-Ok-next_head.ensures.head xs (c.loop-place.invariant.bytes ∙ told)) c.in-Ok-next_head.ensures.fits next);
     }
 
