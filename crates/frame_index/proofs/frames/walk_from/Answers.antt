@@ -1,8 +1,10 @@
 -- The loop keeps what was found up to its place.
-use Rattle.std.proofs.Common.{◌≡◌, ◌+◌, ◌%◌, ◌<◌, ◌≤◌, Ok, Err, refl, sym, ap, subst, ◌∙◌, arith}
+use Rattle.std.proofs.Common.{◌≡◌, ℕ, ◌+◌, ◌^◌, ◌%◌, ◌<◌, ◌≤◌, Ok, Err, refl, sym, ap, subst, ◌∙◌, arith}
 use Rattle.dsdiff_spec.specs.Chunks.{body_end, next_place}
 use Rattle.dsdiff_chunks.specs.Forms.{coded_seen}
 use Rattle.dsdiff_chunks.specs.Seen.{head_seen}
+use Rattle.dsdiff_chunks.specs.declared.form.CodedForm.{CodedForm}
+use Rattle.dsdiff_chunks.specs.declared.lists.ChunkHead.{ChunkHead}
 use Rattle.dsdiff_chunks.proofs.LawfulForms.{sound_inside}
 use Rattle.frame_index.specs.Entries.{Gathered}
 use Rattle.frame_index.specs.Fitting.{IsIndexOf}
@@ -10,26 +12,32 @@ use Rattle.frame_index.proofs.Passing.{walk_begins, walk_goes_on, same_error, sa
 use Rattle.frame_index.proofs.Passing.{stops_at_other_count, walk_is, walk_fits}
 use Rattle.frame_index.proofs.frames.walk_from.Goals as goal
 
+-- the sound of a coded form ends where the form may end, or before
+sound_low : (form : CodedForm) → form.sound.place + 12 + form.sound.size ≤ 2 ^ 50 + 12
+sound_low form = omega (arith, sound_inside (coded_seen form) form.lawful, form.lawful.end)
+
+-- one chunk more may pass where the most that may haven't passed
+more_chunks : {passed : ℕ} → passed ≤ 4000000 → (passed ≡ 4000000 → ⊥) → passed < 4000000
+more_chunks most differ = omega (arith, most, differ)
+
+-- a chunk whose head stands at the place has its body before the end
+chunk_within : {place end : ℕ} (head : ChunkHead) → head.place ≡ place → place + 12 + head.size ≤ end → body_end (head_seen head) ≤ end
+chunk_within head at within = omega (arith, at, within)
+
 pub overflow_add-end : goal.overflow_add-end
-overflow_add-end g c =
-    let within = sound_inside (coded_seen c.args.form.now) c.args.form.now.lawful in omega (arith, within, c.args.form.now.lawful.end)
+overflow_add-end g c = omega (arith, sound_low c.args.form.now)
 
 pub overflow_add-end-2 : goal.overflow_add-end-2
-overflow_add-end-2 g c =
-    let within = sound_inside (coded_seen c.args.form.now) c.args.form.now.lawful in omega (arith, within, c.args.form.now.lawful.end)
+overflow_add-end-2 g c = omega (arith, sound_low c.args.form.now)
 
 pub overflow_add-place : goal.overflow_add-place
-overflow_add-place g c =
-    let within = sound_inside (coded_seen c.args.form.now) c.args.form.now.lawful in omega (arith, within, c.args.form.now.lawful.end)
+overflow_add-place g c = omega (arith, sound_low c.args.form.now)
 
 pub overflow_add-place-2 : goal.overflow_add-place-2
-overflow_add-place-2 g c =
-    let within = sound_inside (coded_seen c.args.form.now) c.args.form.now.lawful in omega (arith, within, c.args.form.now.lawful.end)
+overflow_add-place-2 g c = omega (arith, sound_low c.args.form.now)
 
 pub loop-place-init : goal.loop-place-init
 loop-place-init g c =
-    let form = coded_seen c.args.form.now in
-    let least = c.args.form.now.lawful.of_kind.least in
     record {
       bytes = refl;
       known = refl;
@@ -38,71 +46,59 @@ loop-place-init g c =
       given = omega arith;
       few = omega arith;
       behind = omega arith;
-      before = omega (arith, least);
-      walked = walk_begins form (g.S.Source.bytes c.args.source.now) c.in_room-entries.result.entries
+      before = omega (arith, c.args.form.now.lawful.of_kind.least);
+      walked = walk_begins (coded_seen c.args.form.now) (g.S.Source.bytes c.args.source.now) c.in_room-entries.result.entries
           (ap (λ (g : Gathered). g.entries) c.in_room-entries.ensures);
       room = ap (λ (g : Gathered). g.room) c.in_room-entries.ensures;
     }
 
 pub returns-then-passed-eq-MOST_CHUNKS-clause-fault : goal.returns-then-passed-eq-MOST_CHUNKS-clause-fault
 returns-then-passed-eq-MOST_CHUNKS-clause-fault g c fault e xs told =
-    let form = coded_seen c.args.form.now in
-    let w = c.loop-place.invariant.walked in
-    stops_at_limit form (g.S.Source.bytes c.args.source.now) c.loop-place.passed c.loop-place.place c.loop-place.frames c.loop-place.entries.entries xs w told
+    stops_at_limit (coded_seen c.args.form.now) (g.S.Source.bytes c.args.source.now) c.loop-place.passed c.loop-place.place c.loop-place.frames
+    c.loop-place.entries.entries xs c.loop-place.invariant.walked told
     c.if-passed-eq-MOST_CHUNKS.true c.loop-place-test.true
     ∙ ap Err (same_fault _ _ e)
 
 pub next_head-requires-clause-size : goal.next_head-requires-clause-size
-next_head-requires-clause-size g c =
-    let within = sound_inside (coded_seen c.args.form.now) c.args.form.now.lawful in
-    (c.requires.size.0, c.loop-place.invariant.known ∙ c.requires.size.1, omega (arith, within, c.requires.size.2))
+next_head-requires-clause-size g c = (
+  c.requires.size.0,
+  c.loop-place.invariant.known ∙ c.requires.size.1,
+  omega (arith, sound_inside (coded_seen c.args.form.now) c.args.form.now.lawful, c.requires.size.2),
+)
 
 pub returns-in-Err-clause-fault : goal.returns-in-Err-clause-fault
 returns-in-Err-clause-fault g c fault e xs told =
-    let form = coded_seen c.args.form.now in
-    let w = c.loop-place.invariant.walked in
-    let few : c.loop-place.passed < 4000000 = omega (arith, c.loop-place.invariant.few, c.if-passed-eq-MOST_CHUNKS.false) in
-    stops_at_misfit form (g.S.Source.bytes c.args.source.now) c.loop-place.passed c.loop-place.place c.loop-place.frames c.loop-place.entries.entries xs w told
-    few c.loop-place-test.true (c.in-Err.ensures.passes fault (ap Err (same_error _ _ e)) xs (c.loop-place.invariant.bytes ∙ told))
+    stops_at_misfit (coded_seen c.args.form.now) (g.S.Source.bytes c.args.source.now) c.loop-place.passed c.loop-place.place c.loop-place.frames
+    c.loop-place.entries.entries xs c.loop-place.invariant.walked told
+    (more_chunks c.loop-place.invariant.few c.if-passed-eq-MOST_CHUNKS.false) c.loop-place-test.true (c.in-Err.ensures.passes fault (ap Err (same_error _ _ e)) xs (c.loop-place.invariant.bytes ∙ told))
     ∙ ap Err (sym (c.in-Err.ensures.overrun fault (ap Err (same_error _ _ e))))
 
 pub pass_chunk-requires-clause-within : goal.pass_chunk-requires-clause-within
 pass_chunk-requires-clause-within g c =
-    let within = sound_inside (coded_seen c.args.form.now) c.args.form.now.lawful in
-    omega (arith, within, c.args.form.now.lawful.end, c.in-Ok.ensures.place, c.in-Ok.ensures.within)
+    omega (arith, sound_low c.args.form.now, c.in-Ok.ensures.place, c.in-Ok.ensures.within)
 
 pub returns-in-Err-pass_chunk-clause-fault : goal.returns-in-Err-pass_chunk-clause-fault
 returns-in-Err-pass_chunk-clause-fault g c fault e xs told =
-    let form = coded_seen c.args.form.now in
-    let w = c.loop-place.invariant.walked in
-    let few : c.loop-place.passed < 4000000 = omega (arith, c.loop-place.invariant.few, c.if-passed-eq-MOST_CHUNKS.false) in
-    let within : body_end (head_seen c.in-Ok.head) ≤ body_end form.sound = omega (arith, c.in-Ok.ensures.place, c.in-Ok.ensures.within) in
-    stops_at_bad_frame form (g.S.Source.bytes c.args.source.now) c.loop-place.passed c.loop-place.place c.loop-place.frames c.loop-place.entries.entries xs
-    (head_seen c.in-Ok.head) fault w told few c.loop-place-test.true (c.in-Ok.ensures.head xs (c.loop-place.invariant.bytes ∙ told)) within
+    stops_at_bad_frame (coded_seen c.args.form.now) (g.S.Source.bytes c.args.source.now) c.loop-place.passed c.loop-place.place c.loop-place.frames
+    c.loop-place.entries.entries xs (head_seen c.in-Ok.head) fault c.loop-place.invariant.walked told
+    (more_chunks c.loop-place.invariant.few c.if-passed-eq-MOST_CHUNKS.false) c.loop-place-test.true
+    (c.in-Ok.ensures.head xs (c.loop-place.invariant.bytes ∙ told)) (chunk_within c.in-Ok.head c.in-Ok.ensures.place c.in-Ok.ensures.within)
     (c.in-Err-pass_chunk.ensures.frame fault (ap Err (same_fault _ _ e))) (c.in-Err-pass_chunk.ensures.fault fault (ap Err (same_fault _ _ e)))
 
 pub overflow_add-place-in-loop-place : goal.overflow_add-place-in-loop-place
-overflow_add-place-in-loop-place g c =
-    let within = sound_inside (coded_seen c.args.form.now) c.args.form.now.lawful in
-    omega (arith, within, c.args.form.now.lawful.end, c.in-Ok.ensures.within)
+overflow_add-place-in-loop-place g c = omega (arith, sound_low c.args.form.now, c.in-Ok.ensures.within)
 
 pub overflow_add-place-in-loop-place-2 : goal.overflow_add-place-in-loop-place-2
-overflow_add-place-in-loop-place-2 g c =
-    let within = sound_inside (coded_seen c.args.form.now) c.args.form.now.lawful in
-    omega (arith, within, c.args.form.now.lawful.end, c.in-Ok.ensures.within)
+overflow_add-place-in-loop-place-2 g c = omega (arith, sound_low c.args.form.now, c.in-Ok.ensures.within)
 
 pub overflow_add-place-in-loop-place-3 : goal.overflow_add-place-in-loop-place-3
-overflow_add-place-in-loop-place-3 g c =
-    let within = sound_inside (coded_seen c.args.form.now) c.args.form.now.lawful in
-    omega (arith, within, c.args.form.now.lawful.end, c.in-Ok.ensures.within)
+overflow_add-place-in-loop-place-3 g c = omega (arith, sound_low c.args.form.now, c.in-Ok.ensures.within)
 
 pub loop-place-preserved : goal.loop-place-preserved
 loop-place-preserved g c =
-    let form = coded_seen c.args.form.now in
     let place = c.loop-place.place in
     let head = c.in-Ok.head in
-    let few : c.loop-place.passed < 4000000 = omega (arith, c.loop-place.invariant.few, c.if-passed-eq-MOST_CHUNKS.false) in
-    let within : body_end (head_seen head) ≤ body_end form.sound = omega (arith, c.in-Ok.ensures.place, c.in-Ok.ensures.within) in
+    let few = more_chunks c.loop-place.invariant.few c.if-passed-eq-MOST_CHUNKS.false in
     let next : next_place (head_seen head) ≡ place + (12 + head.size + head.size % 2) = omega (arith, c.in-Ok.ensures.place) in
     record {
       bytes = c.in-Ok.ensures.bytes ∙ c.loop-place.invariant.bytes;
@@ -114,9 +110,10 @@ loop-place-preserved g c =
       behind = omega (arith, c.loop-place.invariant.behind);
       before = omega (arith, c.in-Ok.ensures.within);
       walked =
-          walk_goes_on form (g.S.Source.bytes c.args.source.now) c.loop-place.passed place _ c.loop-place.frames _ c.loop-place.entries.entries _
-          (head_seen head)
-          c.loop-place.invariant.walked few c.loop-place-test.true c.loop-place.invariant.behind c.in-Ok.ensures.place within next
+          walk_goes_on (coded_seen c.args.form.now) (g.S.Source.bytes c.args.source.now) c.loop-place.passed place _ c.loop-place.frames _
+          c.loop-place.entries.entries _ (head_seen head)
+          c.loop-place.invariant.walked few c.loop-place-test.true c.loop-place.invariant.behind c.in-Ok.ensures.place
+          (chunk_within head c.in-Ok.ensures.place c.in-Ok.ensures.within) next
           (λ xs told. c.in-Ok.ensures.head xs (c.loop-place.invariant.bytes ∙ told))
           c.in-Ok-pass_chunk.ensures.count c.in-Ok-pass_chunk.ensures.kept c.in-Ok-pass_chunk.ensures.faultless;
       room = c.in-Ok-pass_chunk.ensures.room ∙ c.loop-place.invariant.room;
@@ -124,10 +121,8 @@ loop-place-preserved g c =
 
 pub returns-then-frames-form-clause-fault : goal.returns-then-frames-form-clause-fault
 returns-then-frames-form-clause-fault g c fault e xs told =
-    let form = coded_seen c.args.form.now in
-    let w = c.loop-place.invariant.walked in
-    stops_at_other_count form (g.S.Source.bytes c.args.source.now) c.loop-place.passed c.loop-place.place c.loop-place.frames
-    c.loop-place.entries.entries xs w told
+    stops_at_other_count (coded_seen c.args.form.now) (g.S.Source.bytes c.args.source.now) c.loop-place.passed c.loop-place.place c.loop-place.frames
+    c.loop-place.entries.entries xs c.loop-place.invariant.walked told
     c.loop-place-test.false c.if-frames-form.true
     ∙ ap Err (same_fault _ _ e)
 
