@@ -1,11 +1,11 @@
 -- What a step says of the rest of a piece, of the whole piece.
-use Rattle.std.proofs.Common.{◌≡◌, ℕ, ◌+◌, ◌≤◌, List, [], ◌∷◌, ◌++◌, length, take, drop, Option, None, sym, ap, subst, ◌∙◌, arith, length-drop}
+use Rattle.std.proofs.Common.{◌≡◌, ℕ, ◌+◌, ◌-◌, ◌≤◌, List, [], ◌∷◌, ◌++◌, length, take, drop, Option, None, sym, ap, subst, ◌∙◌, arith, length-drop}
 use Rattle.std.proofs.lemmas.List.{take_all}
 use Rattle.dsdiff_spec.specs.Streams.{stream}
 use Rattle.push_decoder.specs.Decoder.{StandsFor}
 use Rattle.push_decoder.specs.Events.{Answered, due, begun}
 use Rattle.push_decoder.specs.declared.decoder.PushDecoder.{PushDecoder}
-use Rattle.push_decoder.proofs.Short.{and_more}
+use Rattle.push_decoder.proofs.Short.{rest_of, and_more}
 use Rattle.dst_pipes.specs.States.{Works, Wrote, BeginsSo}
 use Rattle.dst_pipes.specs.Steps.{GoesOn, StopsBy}
 use Rattle.dst_pipes.specs.declared.work.Work.{Work}
@@ -20,13 +20,15 @@ pub of_step : {P : List ℕ → Option (List ℕ) → Option ℕ → Type 0} {d 
     Wrote answered old now room left → P p old room) → GoesOn p d work old now room left → P p old room
 of_step step goes = step _ goes.answered goes.stands goes.works _ _ goes.wrote
 
--- where no front comes, a step behind them leaves the sink
-pub step_stays : {K : Type 0} {now new : K} {d : PushDecoder} {work : Option Work} {old here : Option (List ℕ)} {room left : Option ℕ}
+-- where no front comes, a step behind them leaves the sink as the piece found it
+pub step_stays : {K : Type 0} {first now new : K} {d : PushDecoder} {work : Option Work} {old here : Option (List ℕ)} {room left : Option ℕ}
     (taken piece more : List ℕ) (m : ℕ) → GoesOn (taken ++ take m piece) d work old here room left →
-    ((p more : List ℕ) (answered : Answered) → StandsFor d p answered → Works answered work → (stream (p ++ (drop m piece ++ more))).front ≡ None → new ≡ now) →
-    (stream (taken ++ (piece ++ more))).front ≡ None → new ≡ now
-step_stays taken piece more m goes step none =
-    step (taken ++ take m piece) more goes.answered goes.stands goes.works (subst (λ w. (stream w).front ≡ None) (split_at taken piece more m) none)
+    ((p more : List ℕ) (answered : Answered) → StandsFor d p answered → Works answered work →
+    (stream (p ++ (take (length piece - m) (drop m piece) ++ more))).front ≡ None → new ≡ now) →
+    (stream (taken ++ (piece ++ more))).front ≡ None → now ≡ first → new ≡ first
+step_stays taken piece more m goes step none before =
+    let same = split_at taken piece more m ∙ ap (λ w. (taken ++ take m piece) ++ (w ++ more)) (sym (rest_of piece m)) in
+    step (taken ++ take m piece) more goes.answered goes.stands goes.works (subst (λ w. (stream w).front ≡ None) same none) ∙ before
 
 pub stops_moved : (fault : PipeFault) (taken piece : List ℕ) (m : ℕ) (old new : Option (List ℕ)) (room left : Option ℕ) →
     StopsBy fault (taken ++ take m piece) (drop m piece) old new room left → StopsBy fault taken piece old new room left

@@ -56,8 +56,7 @@ returns-then-count-eq0-clause-ends g c w told =
 
 pub finish-requires : goal.finish-requires
 finish-requires g c =
-    let at = c.loop-read.invariant.waiting in
-    record { whole = told_most _ _ _ _ _ _ (rw c.in-Ok-true.field-0-test at (of_piece at c.in-Ok-true.ensures.ends)).1 }
+    record { whole = told_most _ _ _ _ _ _ (rw c.in-Ok-true.field-0-test at (of_piece c.loop-read.invariant.waiting c.in-Ok-true.ensures.ends)).1 }
 
 pub returns-in-Ok-true-clause-ends : goal.returns-in-Ok-true-clause-ends
 returns-in-Ok-true-clause-ends g c w told =

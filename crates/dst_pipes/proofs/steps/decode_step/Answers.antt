@@ -52,9 +52,8 @@ returns-in-End-clause-ends g c taken answered has works old room wrote =
 
 pub returns-in-Ok-begin-clause-fewer : goal.returns-in-Ok-begin-clause-fewer
 returns-in-Ok-begin-clause-fewer g c n e =
-    let r = c.requires.ready in
-    let t = rw c.in-Head.is at (of_ready r c.in-Ok.ensures.took) in
-    let none : c.args.work.now ≡ None = subst (λ a. Works a c.args.work.now) t.nothing r.works in
+    let t = rw c.in-Head.is at (of_ready c.requires.ready c.in-Ok.ensures.took) in
+    let none : c.args.work.now ≡ None = subst (λ a. Works a c.args.work.now) t.nothing c.requires.ready.works in
     let most : events_left c.args.work.now ≡ 1000002 = ap events_left none in
     omega (arith, most, c.in-Ok-begin.ensures.fewer)
 
@@ -72,9 +71,8 @@ returns-in-Err-begin-clause-no_read g c e =
 
 pub returns-in-Err-begin-clause-memory : goal.returns-in-Err-begin-clause-memory
 returns-in-Err-begin-clause-memory g c refused e =
-    let r = c.requires.ready in
-    let t = rw c.in-Head.is at (of_ready r c.in-Ok.ensures.took) in
-    (subst (λ a. Works a c.args.work.now) t.nothing r.works, c.in-Err-begin.ensures.memory refused cc)
+    let t = rw c.in-Head.is at (of_ready c.requires.ready c.in-Ok.ensures.took) in
+    (subst (λ a. Works a c.args.work.now) t.nothing c.requires.ready.works, c.in-Err-begin.ensures.memory refused cc)
 
 pub returns-in-Err-begin-clause-ends : goal.returns-in-Err-begin-clause-ends
 returns-in-Err-begin-clause-ends g c taken answered has works old room wrote =
@@ -131,11 +129,10 @@ returns-in-Ok-write_sound-clause-untouched g c e =
 
 pub returns-in-Ok-begin-clause-ready : goal.returns-in-Ok-begin-clause-ready
 returns-in-Ok-begin-clause-ready g c n e =
-    let r = c.requires.ready in
-    let t = rw c.in-Head.is at (of_ready r c.in-Ok.ensures.took) in
+    let t = rw c.in-Head.is at (of_ready c.requires.ready c.in-Ok.ensures.took) in
     let begun_is = c.in-Ok-begin.ensures.begun t.front (told_of t) in
     record {
-      taken = r.taken ++ take c.in-Ok.taken.0 c.args.piece.now;
+      taken = c.requires.ready.taken ++ take c.in-Ok.taken.0 c.args.piece.now;
       answered = begun t.front [];
       stands = t.stands;
       works =
