@@ -1,9 +1,11 @@
 -- The head, the rows, and the sink is settled.
-use Rattle.std.proofs.Common.{◌≡◌, ℕ, List, refl, ap, arith}
+use Rattle.std.proofs.Common.{◌≡◌, ℕ, ◌≤◌, List, refl, ap, arith}
 use Rattle.dst_spec.specs.Sample.{Shape, IsShape}
 use Rattle.dsdiff_chunks.specs.Forms.{coded_seen}
 use Rattle.dsf_files.specs.Forms.{dsf_seen}
 use Rattle.dst_commands.proofs.Taken.{parts_of_form}
+use Rattle.dst_commands.specs.declared.opened.WalkedForm.{WalkedForm}
+use Rattle.dst_read.specs.Feeding.{frame_bytes}
 use Rattle.dst_read.proofs.Once.{stored_in_sound}
 use Rattle.dst_dsf.specs.declared.opened.DsfWalked.{DsfWalked}
 use Rattle.dst_dsf.specs.Decoding.{IsFor, IsOpenedAs}
@@ -55,18 +57,15 @@ returns-clause-written g c file told =
     frames.1 head frames.2
     c.finish.ensures.written refl c.sound_size.ensures.size
 
--- what is read: the stored frames, which lie in the sound
+-- the stored frames lie in the sound, and so in the form
+stored_in_form : (walked : WalkedForm) → frame_bytes walked.index ≤ walked.form.end
+stored_in_form walked = omega (arith, stored_in_sound walked, parts_of_form (coded_seen walked.form) walked.form.lawful)
+
 pub returns-in-Err-clause-given : goal.returns-in-Err-clause-given
-returns-in-Err-clause-given g c =
-    let walked = c.args.opened.now.walked in
-    omega (arith, c.write_rows.ensures.given, stored_in_sound walked, parts_of_form (coded_seen walked.form) walked.form.lawful)
+returns-in-Err-clause-given g c = omega (arith, c.write_rows.ensures.given, stored_in_form c.args.opened.now.walked)
 
 pub returns-in_default-finish-clause-given : goal.returns-in_default-finish-clause-given
-returns-in_default-finish-clause-given g c =
-    let walked = c.args.opened.now.walked in
-    omega (arith, c.write_rows.ensures.given, stored_in_sound walked, parts_of_form (coded_seen walked.form) walked.form.lawful)
+returns-in_default-finish-clause-given g c = omega (arith, c.write_rows.ensures.given, stored_in_form c.args.opened.now.walked)
 
 pub returns-clause-given : goal.returns-clause-given
-returns-clause-given g c =
-    let walked = c.args.opened.now.walked in
-    omega (arith, c.write_rows.ensures.given, stored_in_sound walked, parts_of_form (coded_seen walked.form) walked.form.lawful)
+returns-clause-given g c = omega (arith, c.write_rows.ensures.given, stored_in_form c.args.opened.now.walked)
