@@ -70,7 +70,8 @@ pub returns-in-Err-clause-fault : goal.returns-in-Err-clause-fault
 returns-in-Err-clause-fault g c fault e xs told =
     stops_at_misfit (coded_seen c.args.form.now) (g.S.Source.bytes c.args.source.now) c.loop-place.passed c.loop-place.place c.loop-place.frames
     c.loop-place.entries.entries xs c.loop-place.invariant.walked told
-    (more_chunks c.loop-place.invariant.few c.if-passed-eq-MOST_CHUNKS.false) c.loop-place-test.true (c.in-Err.ensures.passes fault (ap Err (same_error _ _ e)) xs (c.loop-place.invariant.bytes ∙ told))
+    (more_chunks c.loop-place.invariant.few c.if-passed-eq-MOST_CHUNKS.false) c.loop-place-test.true
+    (c.in-Err.ensures.passes fault (ap Err (same_error _ _ e)) xs (c.loop-place.invariant.bytes ∙ told))
     ∙ ap Err (sym (c.in-Err.ensures.overrun fault (ap Err (same_error _ _ e))))
 
 pub pass_chunk-requires-clause-within : goal.pass_chunk-requires-clause-within
