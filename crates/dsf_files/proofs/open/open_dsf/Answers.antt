@@ -1,5 +1,5 @@
 -- A file shorter than a head is refused; of any other the head and the size decide all rules.
-use Rattle.std.proofs.Common.{◌≡◌, ℕ, ◌<◌, List, length, Some, ap, ◌∙◌, arith}
+use Rattle.std.proofs.Common.{◌≡◌, ℕ, List, Some, ap, ◌∙◌, arith}
 use Rattle.dsdiff_spec.specs.declared.faults.FileFault.TheVariants.{DsfForm}
 use Rattle.dsdiff_spec.specs.Dsf.{dsf_fault}
 use Rattle.dsf_files.specs.Opening.{head_fault}
@@ -11,9 +11,8 @@ use Rattle.dsf_files.proofs.open.open_dsf.Goals.{After-head-3-1}
 pub returns-then-size-clause-fault : goal.returns-then-size-clause-fault
 returns-then-size-clause-fault g c fault e xs told =
     let long = g.met.S.Source.size_is_length _ xs _ (c.in-Ok.ensures.bytes ∙ told) c.in-Ok.ensures.size in
-    let short : length xs < 92 = omega (arith, long, c.if-size.true) in
     let same : DsfForm ≡ fault = cc in
-    short_is_refused xs short ∙ ap Some same
+    short_is_refused xs (omega (arith, long, c.if-size.true)) ∙ ap Some same
 
 pub returns-in-Ok-form_of-clause-size_stays : goal.returns-in-Ok-form_of-clause-size_stays
 returns-in-Ok-form_of-clause-size_stays g c n known = c.in-Ok-read_range.ensures.size_stays ∙ c.in-Ok.ensures.stays n known
@@ -26,8 +25,7 @@ by_head : (g : Over) (c : After-head-3-1 g) (xs : List ℕ) → g.S.Source.bytes
     dsf_fault xs ≡ head_fault c.in-Ok.size c.read_range.new.out
 by_head g c xs told =
     let there = c.in-Ok.ensures.bytes ∙ told in
-    let long = g.met.S.Source.size_is_length _ xs _ there c.in-Ok.ensures.size in
-    fault_by_head xs _ c.in-Ok.size long c.if-size.false (c.in-Ok-read_range.ensures.read xs there)
+    fault_by_head xs _ c.in-Ok.size (g.met.S.Source.size_is_length _ xs _ there c.in-Ok.ensures.size) c.if-size.false (c.in-Ok-read_range.ensures.read xs there)
 
 pub returns-in-Ok-form_of-clause-form : goal.returns-in-Ok-form_of-clause-form
 returns-in-Ok-form_of-clause-form g c xs told = record {
