@@ -56,28 +56,6 @@ pub fn decode_batch(
 {
     let eight = &mut scratch.eight;
     let states = scratch.states.as_mut_slice();
-    decode_within(frames, channels, eight, states, heard);
-}
-
-fn decode_within(
-    frames: &[StoredFrame],
-    channels: Channels,
-    eight: &mut EightTables,
-    states: &mut [ChannelState],
-    heard: &mut [DecodedFrame],
-)
-    requires few { length frames.now ≤ 8 }
-    requires same { length heard.old ≡ length frames.now }
-    requires stored { AreStored frames.now }
-    requires frames { (n : ℕ) (other : StoredFrame) → n < length frames.now → (get_or frames.now n other).size ≤ 2 * (sound_bytes channels + 1) }
-    requires sounds { (n : ℕ) (other : DecodedFrame) → n < length frames.now → length (get_or heard.old n other).sound.items ≡ sound_bytes channels }
-    requires eight { IsPool eight.old channels.channels }
-    requires states { length states.old ≡ channels.channels }
-    ensures decoded { (n : ℕ) (frame : StoredFrame) (other : DecodedFrame) → n < length frames.now
-        → IsDecoded channels (stored_in (get_or frames.now n frame)) (get_or heard.new n other).sound.items (get_or heard.new n other).answer }
-    ensures long { (n : ℕ) (other : DecodedFrame) → n < length frames.now → length (get_or heard.new n other).sound.items ≡ sound_bytes channels }
-    ensures eight { IsPool eight.new channels.channels }
-{
     if !decode_front(frames, channels, eight, heard) {
         decode_each(frames, channels, &mut eight.tables, states, heard);
     }

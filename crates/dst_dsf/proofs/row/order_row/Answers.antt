@@ -1,5 +1,5 @@
 -- What is cleared and put in order is a row of the file.
-use Rattle.std.proofs.Common.{rules, ◌∙◌, sym, ap, true, false, arith, get_or}
+use Rattle.std.proofs.Common.{rules, ◌∙◌, sym, ap, arith, get_or}
 use Rattle.std.specs.Prelude.{if◌then◌else◌}
 use Rattle.std.proofs.lemmas.Bool.{eq-eqb, ne_eqb}
 use Rattle.dsf_files.specs.Forms.{dsf_seen}

@@ -12,7 +12,7 @@ use Rattle.frame_index.proofs.Passing.{walk_begins, walk_goes_on, same_error, sa
 use Rattle.frame_index.proofs.Passing.{stops_at_other_count, walk_is, walk_fits}
 use Rattle.frame_index.proofs.frames.walk_from.Goals as goal
 
--- the sound of a coded form ends where the form may end, or before
+-- the sound of a coded form ends no later than the longest form may
 sound_low : (form : CodedForm) → form.sound.place + 12 + form.sound.size ≤ 2 ^ 50 + 12
 sound_low form = omega (arith, sound_inside (coded_seen form) form.lawful, form.lawful.end)
 
