@@ -22,7 +22,10 @@ use Rattle.dst_commands.specs.declared.opened.FoundFrame.{FoundFrame}
 use Rattle.dsdiff_chunks.specs.Forms.{coded_seen}
 use Rattle.dsdiff_chunks.proofs.LawfulForms.{sound_inside}
 use Rattle.dst_read.proofs.Framing.{lent_whole}
-use Rattle.dst_show.specs.OneFrame.{IsSoundOf}
+use Rattle.dst_show.specs.OneFrame.{IsSoundOf, HasNoSound, FindsNoSound}
+use Rattle.dst_read.specs.declared.faults.DecodeFault.{DecodeFault}
+use Rattle.dst_read.specs.declared.faults.DecodeFault.TheVariants.{Source, Write, Frame}
+use Rattle.dsdiff_chunks.specs.declared.open.OpenFault.TheVariants.{Read, Memory, File}
 use Rattle.dst_commands.specs.Writing.{Stops}
 use Rattle.dst_show.proofs.ReportedLines.{done_outcome, stopped_outcome, one_answer}
 
@@ -99,6 +102,19 @@ sound_is_written file found k b sound accepts is s =
     let shaped = subst (λ f. IsSoundOf f (frame_at file (named_entry b file form k)) sound) (sym found.form.shape) named in
     done_outcome (frame k b) file form (done sound (frame_line k (length sound) ∷ [])) (record { accepts = accepts; form_is = is.form_is })
     (is_done file form k b sound shaped)
+
+-- where reading finds no sound, the command finds none
+pub finds_no_sound : (found : FoundFrame) (k : ℕ) (b : Bool) (fault : DecodeFault) (bytes opened : Option (List ℕ)) (before mid now : ℕ) →
+    opened ≡ bytes → before ≤ mid → ((file : List ℕ) → bytes ≡ Some file → refusal (frame k b) file ≡ None) →
+    ((file : List ℕ) → bytes ≡ Some file → IsFound b file k found) → HasNoSound found.form.channels k (entry_seen found.entry) fault opened mid now →
+    FindsNoSound (frame k b) bytes before now fault
+finds_no_sound found k b (Frame j fault) bytes opened before mid now same later accepts is h = λ file told.
+    subst (λ k'. OutcomeOf (frame k b) file (frame_refused k' fault [])) (sym h.0)
+    (sound_is_refused file found k b fault (accepts file told) (is file told) (h.1 file (same ∙ told)))
+finds_no_sound found k b (Source Read) bytes opened before mid now same later accepts is h = omega (arith, later, h)
+finds_no_sound found k b (Source (Memory refused)) bytes opened before mid now same later accepts is h = absurd h
+finds_no_sound found k b (Source (File fault)) bytes opened before mid now same later accepts is h = absurd h
+finds_no_sound found k b Write bytes opened before mid now same later accepts is h = absurd h
 
 -- ---- a sink that is sure to take the sound doesn't fail
 pub sink_is_sure : (c : Command) (file out : List ℕ) (lines : List Line) (old new : Option (List ℕ)) (room : Option ℕ) → HasOutcome c → AreBytes file →

@@ -29,6 +29,7 @@ use Rattle.dsdiff_chunks.specs.Forms.{coded_seen}
 use Rattle.dsdiff_chunks.specs.Seen.{head_seen}
 use Rattle.dsdiff_chunks.specs.declared.lists.ChunkHead.{ChunkHead}
 use Rattle.dst_commands.specs.Opened.{IsWalked}
+use Rattle.dsdiff_chunks.specs.declared.form.CodedForm.{CodedForm}
 use Rattle.dst_commands.specs.declared.opened.WalkedForm.{WalkedForm}
 use Rattle.dst_commands.proofs.InOrder.{rules_of_index}
 use Rattle.dst_commands.specs.Commands.{OutcomeOf}
@@ -121,10 +122,10 @@ five_of_form kind form sound heads seen told size same chunks is =
     is ∙ ap fed (same_five kind form.channels sound (size_of_sound form) form.frames (length heads) (length form.chunks) size count)
 
 -- ---- a coded form has three lines more
-pub coded_five : (w : WalkedForm) {size : ℕ} {heads : List ChunkHead} {told : List (List ℕ)} → size ≡ size_of_sound (coded_seen w.form) → heads ≡ w.form.heads →
-    told ≡ fed (five (codes "coded") w.form.channels.channels size w.form.frames (length heads)) →
-    told ≡ fed (summary_lines (codes "coded") (coded_seen w.form))
-coded_five w {size} {heads} {told} same all is = five_of_form (codes "coded") (coded_seen w.form) size heads w.form.heads told same all refl is
+pub coded_five : (f : CodedForm) {size : ℕ} {heads : List ChunkHead} {told : List (List ℕ)} → size ≡ size_of_sound (coded_seen f) → heads ≡ f.heads →
+    told ≡ fed (five (codes "coded") f.channels.channels size f.frames (length heads)) →
+    told ≡ fed (summary_lines (codes "coded") (coded_seen f))
+coded_five f {size} {heads} {told} same all is = five_of_form (codes "coded") (coded_seen f) size heads f.heads told same all refl is
 
 pub lines_of_coded : (form : Form) (es : List Entry) → form.kind ≡ coded →
     report (summary_lines (codes "coded") form) ++ report (coded_summary_lines form es) ≡ report (show_lines form es)

@@ -17,7 +17,7 @@ ghost use Rattle.dsdiff_chunks.specs.Opening as opening;
 ghost use Rattle.dst_commands.specs.Commands.{OutcomeOf};
 ghost use Rattle.dst_commands.specs.Opened.{IsFound};
 ghost use Rattle.dst_commands.specs.Writing.{Stops};
-ghost use Rattle.dst_show.specs.OneFrame.{IsSoundOf, HasNoSound};
+ghost use Rattle.dst_show.specs.OneFrame.{IsSoundOf, HasNoSound, FindsNoSound};
 
 use crate::faults::FrameWritten;
 use dsdiff_chunks::{OpenFault, read_range};
@@ -64,16 +64,7 @@ pub fn frame_out<S: Source, K: Sink>(
     // by a walk each stored byte is read once beside opening
     ensures given_walk { S.given source.new ≤ S.given source.old + 208948 + 48000000 + 225794 }
 {
-    let found = match open_frame(alloc, source, frame, by_index) {
-        Ok(found) => found,
-        Err(fault) => return Err(DecodeFault::Source(fault)),
-    };
-    let FoundFrame { form, entry } = &found;
-    let room = match FrameRoom::new(alloc, form.channels, entry.size) {
-        Ok(room) => room,
-        Err(refused) => return Err(DecodeFault::Source(OpenFault::Memory(refused))),
-    };
-    let sound = match read_sound(source, &found, frame, room) {
+    let sound = match find_sound(alloc, source, frame, by_index) {
         Ok(sound) => sound,
         Err(fault) => return Err(fault),
     };
@@ -83,6 +74,35 @@ pub fn frame_out<S: Source, K: Sink>(
         }),
         Err(_) => Err(DecodeFault::Write),
     }
+}
+
+// Opens a coded file, and works the sound of one of its frames.
+fn find_sound<S: Source>(
+    alloc: Global,
+    source: &mut S,
+    frame: u32,
+    by_index: bool,
+) -> Result<Vec<u8>, DecodeFault>
+    ensures bytes { S.bytes source.new ≡ S.bytes source.old }
+    ensures later { S.faults source.old ≤ S.faults source.new }
+    ensures accepted { IfOk result (λ _. (file : List ℕ) → S.bytes source.old ≡ Some file → refusal (words.frame frame by_index) file ≡ None) }
+    ensures sound { IfOk result (λ s. (file : List ℕ) → S.bytes source.old ≡ Some file →
+        OutcomeOf (words.frame frame by_index) file (done s.items (frame_line frame (length s.items) ∷ []))) }
+    ensures no_sound { IfErr result (FindsNoSound (words.frame frame by_index) (S.bytes source.old) (S.faults source.old) (S.faults source.new)) }
+    ensures given { by_index ≡ true → (file : List ℕ) → S.bytes source.old ≡ Some file → S.given source.new ≤ S.given source.old + 208974 + 2 * sound_bytes_of (accepted file) }
+    ensures given_any { by_index ≡ true → S.given source.new ≤ S.given source.old + 208974 + 225792 }
+    ensures given_walk { S.given source.new ≤ S.given source.old + 208948 + 48000000 + 225794 }
+{
+    let found = match open_frame(alloc, source, frame, by_index) {
+        Ok(found) => found,
+        Err(fault) => return Err(DecodeFault::Source(fault)),
+    };
+    let FoundFrame { form, entry } = &found;
+    let room = match FrameRoom::new(alloc, form.channels, entry.size) {
+        Ok(room) => room,
+        Err(refused) => return Err(DecodeFault::Source(OpenFault::Memory(refused))),
+    };
+    read_sound(source, &found, frame, room)
 }
 
 // Appends a sound, and has it settled.

@@ -1,5 +1,5 @@
 // The summary of a file, in lines.
-ghost use Rattle.std.specs.Prelude.{◌≡◌, ◌≤◌, [], length, map, sum, not, ◌==◌, is_some, MatchResult};
+ghost use Rattle.std.specs.Prelude.{◌≡◌, ◌≤◌, [], length, map, sum, not, ◌==◌, is_some, codes, MatchResult};
 ghost use Rattle.dst_streams.specs.Causes.{HasCause};
 ghost use Rattle.dsdiff_spec.specs.Chunks.{named};
 ghost use Rattle.dsdiff_spec.specs.Lines as reports;
@@ -10,7 +10,7 @@ ghost use Rattle.dst_show.specs.LineByLine.{GoesByLines, fed};
 ghost use Rattle.dst_show.specs.Reporting.{summary_of};
 
 use crate::listing::report_lines;
-use dsdiff_chunks::{ChunkHead, PlainForm};
+use dsdiff_chunks::{ChunkHead, CodedForm, PlainForm};
 use dst_commands::{WalkedForm, sound_size};
 use dst_lines::lines::{self, Line};
 use dst_num::Channels;
@@ -54,7 +54,20 @@ pub(crate) fn report_coded<T: Sink>(report: &mut T, walked: &WalkedForm) -> Resu
         (λ _. Stops (Unit {0}) (reports.report (reports.show_lines (coded_seen walked.now.form) walked.now.index)) (T.written report.old) (T.written report.new) (T.room report.old)) }
     ensures by_lines { GoesByLines result (reports.show_lines (coded_seen walked.now.form) walked.now.index) (T.appended report.old) (T.appended report.new) }
 {
-    let form = &walked.form;
+    let Ok(()) = report_common(report, &walked.form) else {
+        return Err(Failed);
+    };
+    report_stored(report, walked)
+}
+
+// Reports the five lines that a coded form has as any form.
+fn report_common<T: Sink>(report: &mut T, form: &CodedForm) -> Result<(), Failed>
+    ensures cause { HasCause (T.faults report.old) (T.faults report.new) result }
+    ensures written { MatchResult result
+        (λ _. Adds (reports.report (reports.summary_lines (codes "coded") (coded_seen form.now))) (T.written report.old) (T.written report.new) (T.room report.old) (T.room report.new))
+        (λ _. Stops (Unit {0}) (reports.report (reports.summary_lines (codes "coded") (coded_seen form.now))) (T.written report.old) (T.written report.new) (T.room report.old)) }
+    ensures by_lines { GoesByLines result (reports.summary_lines (codes "coded") (coded_seen form.now)) (T.appended report.old) (T.appended report.new) }
+{
     let summary = Summary {
         kind: "coded",
         channels: form.channels,
@@ -62,10 +75,7 @@ pub(crate) fn report_coded<T: Sink>(report: &mut T, walked: &WalkedForm) -> Resu
         frames: form.frames,
         chunks: form.heads.as_slice().len(),
     };
-    let Ok(()) = report_lines(report, &lines_of(&summary)) else {
-        return Err(Failed);
-    };
-    report_stored(report, walked)
+    report_lines(report, &lines_of(&summary))
 }
 
 // The five lines of any form.
