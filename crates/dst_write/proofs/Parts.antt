@@ -1,5 +1,5 @@
 -- The coded file of an opened plain one, part by part: it stops in one of the parts, or all but the sizes is there, and then these are told.
-use Rattle.std.proofs.Common.{◌≡◌, ℕ, ◌+◌, ◌≤◌, List, ◌++◌, length, map, flat_map, Option, Some, Result, Ok, Err, refl, sym, ap, ◌∙◌, arith}
+use Rattle.std.proofs.Common.{◌≡◌, ℕ, ◌+◌, ◌≤◌, List, ◌++◌, length, map, flat_map, Option, Some, Result, Ok, Err, refl, sym, ap, subst, ◌∙◌, arith}
 use Rattle.std.specs.Prelude.{IsOk}
 use Rattle.dst_streams.specs.Told.{and_then}
 use Rattle.dst_streams.specs.declared.source.Failed.{Failed}
@@ -11,7 +11,8 @@ use Rattle.dsdiff_chunks.specs.declared.copy.CopyFault.{CopyFault}
 use Rattle.dsdiff_chunks.specs.declared.form.PlainForm.{PlainForm}
 use Rattle.dst_commands.specs.Writing.{Adds, Stops}
 use Rattle.dst_commands.proofs.Writing.{adds_then, stops_for, stops_first, stops_same, stops_then}
-use Rattle.dst_write.specs.Encoding.{IsStopped, of_device}
+use Rattle.dst_commands.specs.Passing.{FailedBy}
+use Rattle.dst_write.specs.Encoding.{HasItsCause, IsStopped, of_device}
 use Rattle.dst_write.specs.Layout.{before, end, form_size, front, sound_size, unsized}
 use Rattle.dst_write.specs.Unfinished.{HoldsNothing, sound_size_place, SizesEnd}
 use Rattle.dst_write.specs.declared.faults.EncodeFault.{EncodeFault}
@@ -28,6 +29,11 @@ pub stops_by_device : (fault : CopyFault) (answer : EncodeFault) (piece : List �
     answer ≡ of_device fault → Stops (fault ≡ CopyFault.Write) piece old new room → Stops (answer ≡ Write) piece old new room
 stops_by_device fault answer piece {old} {new} {room} is h =
     stops_for (fault ≡ CopyFault.Write) (answer ≡ Write) piece old new room (λ e. of_write fault (sym is ∙ e)) h
+
+pub cause_by_device : (fault : CopyFault) (answer : EncodeFault) (source_before source_now sink_before sink_now : ℕ) → answer ≡ of_device fault →
+    FailedBy fault source_before source_now sink_before sink_now → HasItsCause answer source_before source_now sink_before sink_now
+cause_by_device CopyFault.Read answer a b c d is h = subst (λ answer. HasItsCause answer a b c d) (sym is) h
+cause_by_device CopyFault.Write answer a b c d is h = subst (λ answer. HasItsCause answer a b c d) (sym is) h
 
 -- ---- of a form that ends within the n bytes of its file
 module _ (picks : Picks) (file : List ℕ) (seen : PlainForm) (n : ℕ) (within : seen.end ≤ n) (known : n ≡ length file)
@@ -74,14 +80,18 @@ module _ (picks : Picks) (file : List ℕ) (seen : PlainForm) (n : ℕ) (within 
       pub added : Adds (unsized frames file form) old mid room left
       pub ends : SizesEnd result (sound_place file form) (sound_size (map length frames)) (form_size (map length frames) file form) mid new
 
-    pub is_unsized : (result : Result (Unit {0}) Failed) (sizes : List ℕ) (side sound size : ℕ) {old a b mid new : Option (List ℕ)}
-        {room half less left : Option ℕ} → sizes ≡ map length frames →
-        Adds (front file form) old a room half → Adds (flat_map dstf frames) a b half less → Adds (end sizes file form) b mid less left →
+    pub all_is_added : (sizes : List ℕ) {old a b new : Option (List ℕ)} {room half less left : Option ℕ} → sizes ≡ map length frames →
+        Adds (front file form) old a room half → Adds (flat_map dstf frames) a b half less → Adds (end sizes file form) b new less left →
+        Adds (unsized frames file form) old new room left
+    all_is_added sizes {old} {a} {b} {new} {room} {half} {less} {left} is p q r = all_added frames file form count sizes old a b new room half less left is p q r
+
+    pub is_unsized : (result : Result (Unit {0}) Failed) (sizes : List ℕ) (side sound size : ℕ) {old mid new : Option (List ℕ)} {room left : Option ℕ} →
+        Adds (unsized frames file form) old mid room left → sizes ≡ map length frames →
         ((file : List ℕ) → seen.end ≤ length file → side ≡ length (before file form)) → sound ≡ sound_size sizes →
         ((file : List ℕ) → seen.end ≤ length file → size ≡ form_size sizes file form) → SizesEnd result (20 + side) sound size mid new →
         IsUnsized result old mid new room left
-    is_unsized result sizes side sound size {old} {a} {b} {mid} {new} {room} {half} {less} {left} is p q r place_is sound_is size_is h = record {
-      added = all_added frames file form count sizes old a b mid room half less left is p q r;
+    is_unsized result sizes side sound size {old} {mid} {new} {room} {left} added is place_is sound_is size_is h = record {
+      added = added;
       ends = sizes_as frames file form count result (20 + side) sound size mid new (ap (λ n. 20 + n) (place_is file fits)) (sound_is ∙ ap sound_size is)
           (size_is file fits ∙ ap (λ (w : List ℕ). form_size w file form) is)
           h;

@@ -3,12 +3,13 @@ use Rattle.std.specs.Prelude.{◌≡◌, ℕ, List, map, flat_map, length, Optio
 use Rattle.dst_streams.specs.Causes.{Rose}
 use Rattle.dst_streams.specs.Told.{and_then}
 use Rattle.dsdiff_spec.specs.Form.{Form}
-use Rattle.dsdiff_spec.specs.Coded.{Picks, coded, stored_bytes}
+use Rattle.dsdiff_spec.specs.Coded.{Picks, coded, stored_bytes, stored_frames}
 use Rattle.dsdiff_spec.specs.Written.{dstf}
 use Rattle.dsdiff_chunks.specs.declared.copy.CopyFault.{CopyFault}
 use Rattle.dsdiff_chunks.specs.declared.copy.CopyFault.TheVariants as copying
 use Rattle.dsdiff_chunks.specs.declared.open.OpenFault.TheVariants.{Read}
 use Rattle.dst_commands.specs.Writing.{Adds, Stops, Lacks}
+use Rattle.dst_write.specs.Layout.{unsized}
 use Rattle.dst_write.specs.Unfinished.{HoldsNothing, HoldsUnfinished, sound_size_place}
 use Rattle.dst_write.specs.declared.faults.Encoded.{Encoded}
 use Rattle.dst_write.specs.declared.faults.EncodeFault.{EncodeFault}
@@ -39,6 +40,13 @@ pub record IsEncoded (e : Encoded) (picks : Picks) (file : List ℕ) (form : For
 pub record IsStopped (sink_is_at_fault : Type 0) (out : List ℕ) (place : ℕ) (old new : Option (List ℕ)) (room : Option ℕ) : Type 0 where
   pub unfinished : HoldsNothing old → HoldsUnfinished place out new
   pub lacks : sink_is_at_fault → Lacks room (length out)
+
+-- all of it is written with 0 for the two sizes, and the sizes of its stored frames are noted; or it isn't finished
+abbrev pub UnsizedEnds : Result (Unit {0}) EncodeFault → Picks → List ℕ → Form → (sizes : List ℕ) → (old new : Option (List ℕ)) → (room left : Option ℕ) → Type 0
+UnsizedEnds (Ok u) picks file form sizes old new room left =
+    Adds (unsized (stored_frames picks file form) file form) old new room left × (sizes ≡ map length (stored_frames picks file form))
+UnsizedEnds (Err fault) picks file form sizes old new room left =
+    IsStopped (fault ≡ Write) (coded picks file form) (sound_size_place file form) old new room
 
 abbrev pub EncodingEnds : Result Encoded EncodeFault → Picks → List ℕ → Form → (old new : Option (List ℕ)) → Option ℕ → Type 0
 EncodingEnds (Ok e) picks file form old new room = IsEncoded e picks file form old new

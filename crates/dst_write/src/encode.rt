@@ -9,8 +9,9 @@ ghost use Rattle.dsdiff_spec.specs.Rules.{accepted};
 ghost use Rattle.dsdiff_spec.specs.Words.{encode};
 ghost use Rattle.dsdiff_spec.specs.Refusal.{refusal};
 ghost use Rattle.dsdiff_chunks.specs.Forms.{plain_seen};
-ghost use Rattle.dst_write.specs.Encoding.{EncodingEnds, HasItsCause, of_device};
+ghost use Rattle.dst_write.specs.Encoding.{EncodingEnds, UnsizedEnds, HasItsCause, of_device};
 ghost use Rattle.dst_write.specs.Frames.{HasRoomFor};
+ghost use Rattle.dst_write.specs.Layout.{before};
 ghost use Rattle.dst_write.specs.Unfinished.{HoldsNothing, HoldsUnfinished, sound_size_place};
 
 use crate::around::{write_end, write_front};
@@ -105,6 +106,43 @@ fn write_encoded<R: Threads + Sync, S: Source, K: Sink, P: Picker + Sync, G: Gat
     ensures written { (file : List ℕ) → S.bytes source.old ≡ Some file →
         EncodingEnds result (P.picks picker.now) file (plain_seen form.now) (K.written sink.old) (K.written sink.new) (K.room sink.old) }
 {
+    if let Err(fault) = write_unsized(rt, source, sink, form, picker, gate, workspace) {
+        return Err(fault);
+    }
+    let sizes = workspace.sizes.as_slice();
+    let before = side_length(form, Side::Before);
+    match write_sizes(sink, before, sound_size(sizes), form_size(form, sizes)) {
+        Ok(()) => Ok(Encoded {
+            frames: form.frames,
+            bytes: stored_size(sizes),
+        }),
+        Err(_) => Err(EncodeFault::Write),
+    }
+}
+
+// Writes the coded file with 0 for the sizes of the form and of the sound. The sizes of the stored frames stand in the workspace then.
+fn write_unsized<R: Threads + Sync, S: Source, K: Sink, P: Picker + Sync, G: Gate>(
+    rt: &R,
+    source: &mut S,
+    sink: &mut K,
+    form: &PlainForm,
+    picker: &P,
+    gate: &G,
+    workspace: &mut Workspace,
+) -> Result<(), EncodeFault>
+    requires size { (n : ℕ) × (S.known source.old ≡ Some n) × (form.now.end ≤ n) }
+    requires room { HasRoomFor form.now.channels form.now.frames workspace.old }
+    ensures bytes { S.bytes source.new ≡ S.bytes source.old }
+    ensures loan { S.loan source.new ≡ S.loan source.old }
+    ensures given { S.given source.new ≤ S.given source.old + form.now.end }
+    ensures source_later { S.faults source.old ≤ S.faults source.new }
+    ensures sink_later { K.faults sink.old ≤ K.faults sink.new }
+    ensures long { OnOk result (length workspace.new.sizes.items ≡ form.now.frames) }
+    ensures appended { OnOk result ((file : List ℕ) → form.now.end ≤ length file → 28 + length (before file (plain_seen form.now)) ≤ K.appended sink.new) }
+    ensures cause { IfErr result (λ fault. HasItsCause fault (S.faults source.old) (S.faults source.new) (K.faults sink.old) (K.faults sink.new)) }
+    ensures written { (file : List ℕ) → S.bytes source.old ≡ Some file →
+        UnsizedEnds result (P.picks picker.now) file (plain_seen form.now) workspace.new.sizes.items (K.written sink.old) (K.written sink.new) (K.room sink.old) (K.room sink.new) }
+{
     if let Err(fault) = write_front(source, sink, form, &mut workspace.buffer) {
         return Err(fault_of_device(fault));
     }
@@ -115,16 +153,9 @@ fn write_encoded<R: Threads + Sync, S: Source, K: Sink, P: Picker + Sync, G: Gat
         return Err(fault);
     }
     let sizes = workspace.sizes.as_slice();
-    if let Err(fault) = write_end(source, sink, form, sizes, &mut workspace.buffer) {
-        return Err(fault_of_device(fault));
-    }
-    let before = side_length(form, Side::Before);
-    match write_sizes(sink, before, sound_size(sizes), form_size(form, sizes)) {
-        Ok(()) => Ok(Encoded {
-            frames: form.frames,
-            bytes: stored_size(sizes),
-        }),
-        Err(_) => Err(EncodeFault::Write),
+    match write_end(source, sink, form, sizes, &mut workspace.buffer) {
+        Ok(()) => Ok(()),
+        Err(fault) => Err(fault_of_device(fault)),
     }
 }
 

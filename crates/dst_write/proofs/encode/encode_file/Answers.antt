@@ -1,5 +1,7 @@
 -- Each answer is one of opening, or one of writing.
 use Rattle.std.proofs.Common.{◌≡◌, inl, inr, ℕ, List, Option, Some, None, Result, Ok, Err, IfOk, ap, refl, sym, subst, ◌∙◌, arith}
+use Rattle.std.proofs.lemmas.Result.{IfErr-at_err}
+use Rattle.dst_streams.proofs.Counts.{Rose-earlier}
 use Rattle.dsdiff_spec.specs.Form.{Form}
 use Rattle.dsdiff_spec.specs.Coded.{Picks, coded, stored_bytes}
 use Rattle.dsdiff_spec.specs.Refusal.{form_refusal, refusal}
@@ -10,7 +12,7 @@ use Rattle.dsdiff_chunks.specs.Forms.{plain_seen}
 use Rattle.dsdiff_chunks.specs.declared.open.OpenFault.{OpenFault}
 use Rattle.dsdiff_chunks.specs.Opening as opening
 use Rattle.dst_streams.specs.Told.{and_then}
-use Rattle.dst_write.specs.Encoding.{EncodingEnds}
+use Rattle.dst_write.specs.Encoding.{EncodingEnds, HasItsCause}
 use Rattle.dst_write.specs.Unfinished.{HoldsNothing}
 use Rattle.dst_write.specs.declared.faults.EncodeFault.{EncodeFault}
 use Rattle.dst_write.specs.declared.faults.EncodeFault.TheVariants.{Source}
@@ -31,7 +33,23 @@ returns-in-Err-clause-file g c fault e file told level =
     ∙ (subst (λ f. opening.Stops (form_refusal (encode 1)) (g.S.Source.bytes c.args.source.now) (g.S.Source.faults c.args.source.now)
     (g.S.Source.faults c.open_file.new.source) f) (same_source c.in-Err.fault _ e) c.in-Err.ensures.stops) file told
 
+pub returns-in-Err-clause-read : goal.returns-in-Err-clause-read
+returns-in-Err-clause-read g c e =
+    subst (λ f. opening.Stops (form_refusal (encode 1)) (g.S.Source.bytes c.args.source.now) (g.S.Source.faults c.args.source.now)
+    (g.S.Source.faults c.open_file.new.source) f) (same_source c.in-Err.fault OpenFault.Read e) c.in-Err.ensures.stops
+
 -- ---- of writing
+pub returns-clause-read : goal.returns-clause-read
+returns-clause-read g c e =
+    Rose-earlier _ _ _ c.open_file.ensures.later
+    (IfErr-at_err (λ fault. HasItsCause fault (g.S.Source.faults c.open_file.new.source) (g.S.Source.faults c.write_encoded.new.source)
+    (g.K.Sink.faults c.args.sink.now) (g.K.Sink.faults c.write_encoded.new.sink)) e c.write_encoded.ensures.cause)
+
+pub returns-clause-write : goal.returns-clause-write
+returns-clause-write g c e =
+    IfErr-at_err (λ fault. HasItsCause fault (g.S.Source.faults c.open_file.new.source) (g.S.Source.faults c.write_encoded.new.source)
+    (g.K.Sink.faults c.args.sink.now) (g.K.Sink.faults c.write_encoded.new.sink)) e c.write_encoded.ensures.cause
+
 if_encoded : (r : Result Encoded EncodeFault) (picks : Picks) (bytes : Option (List ℕ)) (form : List ℕ → Form) (old new : Option (List ℕ)) (room : Option ℕ) →
     ((file : List ℕ) → bytes ≡ Some file → EncodingEnds r picks file (form file) old new room) →
     IfOk r (λ _. (file : List ℕ) → bytes ≡ Some file → HoldsNothing old → new ≡ and_then old (coded picks file (form file)))
