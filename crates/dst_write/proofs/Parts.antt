@@ -83,7 +83,8 @@ module _ (picks : Picks) (file : List ℕ) (seen : PlainForm) (n : ℕ) (within 
     pub all_is_added : (sizes : List ℕ) {old a b new : Option (List ℕ)} {room half less left : Option ℕ} → sizes ≡ map length frames →
         Adds (front file form) old a room half → Adds (flat_map dstf frames) a b half less → Adds (end sizes file form) b new less left →
         Adds (unsized frames file form) old new room left
-    all_is_added sizes {old} {a} {b} {new} {room} {half} {less} {left} is p q r = all_added frames file form count sizes old a b new room half less left is p q r
+    all_is_added sizes {old} {a} {b} {new} {room} {half} {less} {left} is p q r =
+        all_added frames file form count sizes old a b new room half less left is p q r
 
     pub is_unsized : (result : Result (Unit {0}) Failed) (sizes : List ℕ) (side sound size : ℕ) {old mid new : Option (List ℕ)} {room left : Option ℕ} →
         Adds (unsized frames file form) old mid room left → sizes ≡ map length frames →

@@ -30,26 +30,25 @@ returns-in-Err-write_frames-clause-written g c file told is =
 pub returns-in-Err-write_end-clause-written : goal.returns-in-Err-write_end-clause-written
 returns-in-Err-write_end-clause-written g c file told is =
     let known = g.met.S.Source.size_is_length c.args.source.now file c.requires.size.0 told c.requires.size.1 in
-    let later = c.in_default.ensures.bytes ∙ told in
     stopped_in_end file c.args.cut.now c.requires.size.0 is c.requires.size.2 known (c.fault_of_device-in-Err-write_end.result ≡ Write)
-    (c.in_default.ensures.written file told) (c.in_default-write_frames.ensures.written file later)
+    (c.in_default.ensures.written file told) (c.in_default-write_frames.ensures.written file (c.in_default.ensures.bytes ∙ told))
     (stops_by_device c.in-Err-write_end.fault _ _ c.fault_of_device-in-Err-write_end.ensures
-    (c.in-Err-write_end.ensures.written file (c.in_default-write_frames.ensures.bytes ∙ later)))
+    (c.in-Err-write_end.ensures.written file (c.in_default-write_frames.ensures.bytes ∙ c.in_default.ensures.bytes ∙ told)))
 
 pub returns-in-Ok-clause-written : goal.returns-in-Ok-clause-written
 returns-in-Ok-clause-written g c file told is =
     let known = g.met.S.Source.size_is_length c.args.source.now file c.requires.size.0 told c.requires.size.1 in
-    let later = c.in_default.ensures.bytes ∙ told in
     let all = all_added file c.args.cut.now c.requires.size.0 is c.requires.size.2 known (c.in_default.ensures.written file told)
-    (c.in_default-write_frames.ensures.written file later) (c.in_default-write_end.ensures.written file (c.in_default-write_frames.ensures.bytes ∙ later)) in
+    (c.in_default-write_frames.ensures.written file (c.in_default.ensures.bytes ∙ told))
+    (c.in_default-write_end.ensures.written file (c.in_default-write_frames.ensures.bytes ∙ c.in_default.ensures.bytes ∙ told)) in
     c.in-Ok.ensures.written ∙ all.written
 
 pub returns-in-Err-finish-clause-written : goal.returns-in-Err-finish-clause-written
 returns-in-Err-finish-clause-written g c file told is =
     let known = g.met.S.Source.size_is_length c.args.source.now file c.requires.size.0 told c.requires.size.1 in
-    let later = c.in_default.ensures.bytes ∙ told in
     let all = all_added file c.args.cut.now c.requires.size.0 is c.requires.size.2 known (c.in_default.ensures.written file told)
-    (c.in_default-write_frames.ensures.written file later) (c.in_default-write_end.ensures.written file (c.in_default-write_frames.ensures.bytes ∙ later)) in
+    (c.in_default-write_frames.ensures.written file (c.in_default.ensures.bytes ∙ told))
+    (c.in_default-write_end.ensures.written file (c.in_default-write_frames.ensures.bytes ∙ c.in_default.ensures.bytes ∙ told)) in
     stops_for (Unit {0}) (◌≡◌ {A = CutFault} Write Write) (cut_bytes file c.args.cut.now) _ _ _ (λ e. tt {0})
     (stops_unsettled (cut_bytes file c.args.cut.now) _ _ _ _ _ all c.in-Err-finish.ensures.written c.in-Err-finish.ensures.sure)
 

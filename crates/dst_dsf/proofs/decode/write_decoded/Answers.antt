@@ -28,32 +28,32 @@ opened_for file o lawful opened =
 
 pub returns-in_default-clause-written : goal.returns-in_default-clause-written
 returns-in_default-clause-written g c file told =
-    let bytes = g.met.S.Source.told_are_bytes c.args.source.now file told in
-    let o = opened_for file c.args.opened.now c.requires.room.jobs.lawful (c.requires.opened file told) in
-    ends_at_head file _ _ o bytes _ _ _ (head_cut c.in_default.field-0 _ _ _ _ _ c.in_default.ensures.sure c.in_default.ensures.written)
+    ends_at_head file _ _ (opened_for file c.args.opened.now c.requires.room.jobs.lawful (c.requires.opened file told))
+    (g.met.S.Source.told_are_bytes c.args.source.now file told)
+    _ _ _ (head_cut c.in_default.field-0 _ _ _ _ _ c.in_default.ensures.sure c.in_default.ensures.written)
 
 pub returns-in-Err-clause-written : goal.returns-in-Err-clause-written
 returns-in-Err-clause-written g c file told =
-    let bytes = g.met.S.Source.told_are_bytes c.args.source.now file told in
-    let o = opened_for file c.args.opened.now c.requires.room.jobs.lawful (c.requires.opened file told) in
     let head = head_added _ (dsf_seen c.args.opened.now.said) _ _ _ _ c.in-Ok.ensures.sure c.in-Ok.ensures.written in
-    ends_in_rows file _ _ o bytes c.in-Err.fault _ _ _ _ _ (g.K.Sink.room c.write_rows.new.sink) head (c.in-Err.ensures.written file told)
+    ends_in_rows file _ _ (opened_for file c.args.opened.now c.requires.room.jobs.lawful (c.requires.opened file told))
+    (g.met.S.Source.told_are_bytes c.args.source.now file told)
+    c.in-Err.fault _ _ _ _ _ (g.K.Sink.room c.write_rows.new.sink) head (c.in-Err.ensures.written file told)
 
 pub returns-in_default-finish-clause-written : goal.returns-in_default-finish-clause-written
 returns-in_default-finish-clause-written g c file told =
-    let bytes = g.met.S.Source.told_are_bytes c.args.source.now file told in
-    let o = opened_for file c.args.opened.now c.requires.room.jobs.lawful (c.requires.opened file told) in
     let head = head_added _ (dsf_seen c.args.opened.now.said) _ _ _ _ c.in-Ok.ensures.sure c.in-Ok.ensures.written in
     let frames = c.in_default-write_rows.ensures.written file told in
-    ends_unsettled file _ _ o bytes frames.0 _ _ _ _ _ _ _ frames.1 head frames.2 c.in_default-finish.ensures.written c.in_default-finish.ensures.sure
+    ends_unsettled file _ _ (opened_for file c.args.opened.now c.requires.room.jobs.lawful (c.requires.opened file told))
+    (g.met.S.Source.told_are_bytes c.args.source.now file told)
+    frames.0 _ _ _ _ _ _ _ frames.1 head frames.2 c.in_default-finish.ensures.written c.in_default-finish.ensures.sure
 
 pub returns-clause-written : goal.returns-clause-written
 returns-clause-written g c file told =
-    let bytes = g.met.S.Source.told_are_bytes c.args.source.now file told in
-    let o = opened_for file c.args.opened.now c.requires.room.jobs.lawful (c.requires.opened file told) in
     let head = head_added _ (dsf_seen c.args.opened.now.said) _ _ _ _ c.in-Ok.ensures.sure c.in-Ok.ensures.written in
     let frames = c.in_default-write_rows.ensures.written file told in
-    ends_done file _ _ o bytes (record { frames = c.args.opened.now.walked.form.frames; bytes = c.sound_size.result }) frames.0 _ _ _ _ _ _ _
+    ends_done file _ _ (opened_for file c.args.opened.now c.requires.room.jobs.lawful (c.requires.opened file told))
+    (g.met.S.Source.told_are_bytes c.args.source.now file told)
+    (record { frames = c.args.opened.now.walked.form.frames; bytes = c.sound_size.result }) frames.0 _ _ _ _ _ _ _
     frames.1 head frames.2
     c.finish.ensures.written refl c.sound_size.ensures.size
 

@@ -74,12 +74,11 @@ returns-in-Ok-true-clause-ends g c w told =
 pub returns-in-Err-clause-ends : goal.returns-in-Err-clause-ends
 returns-in-Err-clause-ends g c w told =
     let at = c.loop-read.invariant.waiting in
-    let piece = take c.in-Ok.count c.next.new.out in
-    let moved = piece_read at piece w c.in-Ok.ensures.moved told in
+    let moved = piece_read at _ w c.in-Ok.ensures.moved told in
     let bytes = g.met.F.Flow.told_are_bytes c.args.flow.now w told in
     subst (λ v. PipeEnds (Err c.in-Err.fault) v (g.K.Sink.written c.args.sink.now) (g.K.Sink.written c.decode_piece.new.sink)
     (g.K.Sink.room c.args.sink.now)) (sym moved.2)
-    (piece_stops c.in-Err.fault at.taken piece moved.0 _ _ _ _ (subst AreBytes moved.2 bytes) (of_piece at c.in-Err.ensures.ends))
+    (piece_stops c.in-Err.fault at.taken _ moved.0 _ _ _ _ (subst AreBytes moved.2 bytes) (of_piece at c.in-Err.ensures.ends))
 
 pub loop-read-preserved : goal.loop-read-preserved
 loop-read-preserved g c =
@@ -106,10 +105,9 @@ loop-read-preserved g c =
 pub loop-read-smaller : goal.loop-read-smaller
 loop-read-smaller g c =
     let at = c.loop-read.invariant.waiting in
-    let piece = take c.in-Ok.count c.next.new.out in
     let ends = rw c.in-Ok-false.field-0-test at (of_piece at c.in-Ok-false.ensures.ends) in
-    let count = c.taken-read.ensures.count (at.taken ++ piece) ends.answered ends.stands in
-    let both = length-append at.taken piece in
+    let count = c.taken-read.ensures.count _ ends.answered ends.stands in
+    let both = length-append at.taken (take c.in-Ok.count c.next.new.out) in
     let long = length-take c.in-Ok.count c.next.new.out in
     let before = at.count in
     omega (arith, count, both, long, before, c.in-Ok.ensures.count, c.next.auto.out, c.if-count-eq0.false, c.taken-read.ensures.most)
@@ -126,17 +124,15 @@ returns-then-count-eq0-clause-no_front g c w told none =
 pub returns-in-Ok-true-clause-no_front : goal.returns-in-Ok-true-clause-no_front
 returns-in-Ok-true-clause-no_front g c w told none =
     let at = c.loop-read.invariant.waiting in
-    let piece = take c.in-Ok.count c.next.new.out in
     let ends = rw c.in-Ok-true.field-0-test at (of_piece at c.in-Ok-true.ensures.ends) in
-    let moved = piece_read at piece w c.in-Ok.ensures.moved told in
-    absurd (none_begun at.taken piece moved.0 ends.0 ends.1.front ends.1.frames ends.1.begins
+    let moved = piece_read at _ w c.in-Ok.ensures.moved told in
+    absurd (none_begun at.taken _ moved.0 ends.0 ends.1.front ends.1.frames ends.1.begins
     (subst (λ v. (stream v).front ≡ None) moved.2 none))
 
 pub returns-in-Err-clause-no_front : goal.returns-in-Err-clause-no_front
 returns-in-Err-clause-no_front g c w told none =
     let at = c.loop-read.invariant.waiting in
-    let piece = take c.in-Ok.count c.next.new.out in
-    let moved = piece_read at piece w c.in-Ok.ensures.moved told in
+    let moved = piece_read at _ w c.in-Ok.ensures.moved told in
     c.in-Err.ensures.no_front at.taken moved.0 at.waits.answered at.waits.stands at.waits.works _ _ at.waits.wrote
     (subst (λ v. (stream v).front ≡ None) moved.2 none)
     ∙ c.loop-read.invariant.untouched (no_work_yet at w told none)

@@ -22,19 +22,17 @@ pub returns-in-Err-clause-stops : goal.returns-in-Err-clause-stops
 returns-in-Err-clause-stops g c =
     let l = c.loop-place in
     let n = length c.args.buffer.now in
-    let count = c.min-count.result in
     let taken = first_taken n l.place c.args.end l.buffer c.requires.some c.loop-place-test.true c.min-count.ensures l.invariant.long in
-    stopped_there c.in-Err.fault c.args.reader.now l.reader n c.args.from l.place c.args.end count _ _ _ _ _ _ _ _ c.requires.some c.loop-place-test.true
-    c.min-count.ensures l.invariant.underway
-    (stopped_as c.in-Err.fault l.reader _ (part (l.place / n) l.place count ∷ []) _ _ _ _ _
-    (part_as c.args.reader.now l.reader n l.place _ count l.invariant.underway.wrote.wanted.same c.requires.buffer taken.2) l.invariant.bytes
+    stopped_there c.in-Err.fault c.args.reader.now l.reader n c.args.from l.place c.args.end c.min-count.result _ _ _ _ _ _ _ _ c.requires.some
+    c.loop-place-test.true c.min-count.ensures l.invariant.underway
+    (stopped_as c.in-Err.fault l.reader _ (part (l.place / n) l.place c.min-count.result ∷ []) _ _ _ _ _
+    (part_as c.args.reader.now l.reader n l.place _ c.min-count.result l.invariant.underway.wrote.wanted.same c.requires.buffer taken.2) l.invariant.bytes
     c.in-Err.ensures.stops)
 
 pub loop-place-preserved : goal.loop-place-preserved
 loop-place-preserved g c =
     let l = c.loop-place in
     let n = length c.args.buffer.now in
-    let count = c.min-count.result in
     let taken = first_taken n l.place c.args.end l.buffer c.requires.some c.loop-place-test.true c.min-count.ensures l.invariant.long in
     record {
       bytes = c.in-Ok.ensures.bytes ∙ l.invariant.bytes;
@@ -45,18 +43,18 @@ loop-place-preserved g c =
       most = omega (arith, taken.1);
       long = omega (
         arith,
-        length-append c.write_part.new.room (drop count l.buffer),
-        length-drop count l.buffer,
+        length-append c.write_part.new.room (drop c.min-count.result l.buffer),
+        length-drop c.min-count.result l.buffer,
         c.write_part.auto.room,
         taken.2,
         l.invariant.long,
         c.min-count.ensures,
       );
       unchanged = λ e. absurd (omega (arith, e, taken.0, l.invariant.least));
-      underway = one_more c.args.reader.now l.reader c.write_part.new.reader n c.args.from l.place c.args.end count _ _ _ _ _ _ _ _ _ _ c.requires.some
-          c.loop-place-test.true c.min-count.ensures l.invariant.underway
-          (wrote_as l.reader c.write_part.new.reader _ (part (l.place / n) l.place count ∷ []) _ _ _ _ _ _ _ _
-          (part_as c.args.reader.now l.reader n l.place _ count l.invariant.underway.wrote.wanted.same c.requires.buffer taken.2) l.invariant.bytes
+      underway = one_more c.args.reader.now l.reader c.write_part.new.reader n c.args.from l.place c.args.end c.min-count.result _ _ _ _ _ _ _ _ _ _
+          c.requires.some c.loop-place-test.true c.min-count.ensures l.invariant.underway
+          (wrote_as l.reader c.write_part.new.reader _ (part (l.place / n) l.place c.min-count.result ∷ []) _ _ _ _ _ _ _ _
+          (part_as c.args.reader.now l.reader n l.place _ c.min-count.result l.invariant.underway.wrote.wanted.same c.requires.buffer taken.2) l.invariant.bytes
           c.in-Ok.ensures.wrote);
     }
 

@@ -27,14 +27,15 @@ returns-in-Err-clause-stops g c =
     let l = c.loop-first in
     let r = c.args.opened.now.reader in
     let n = sound_bytes r.shape in
-    let channels = c.args.opened.now.channels.channels in
     let pairs = c.args.pairs.now in
     let i = l.first-index in
     let below : i < length pairs = omega (arith, c.loop-first-test.true, l.auto.first-index-end) in
     let long : length c.deref_mut.result.now ≡ n = ap length c.deref_mut.ensures.value ∙ l.invariant.buffer ∙ c.requires.ready.buffer_is in
-    let same = pair_parts n channels pairs i (0, 0) _ _ _ _ long c.from.ensures c.from-in-loop-first.ensures c.count-group.ensures.count in
-    stopped_in_pair c.in-Err.fault r l.opened.reader n channels i pairs (0, 0) _ _ _ _ _ _ _ _ below l.invariant.wrote
-    (stopped_as c.in-Err.fault l.opened.reader _ (parts_at n channels pairs i (0, 0)) _ _ _ _ _ same l.invariant.bytes c.in-Err.ensures.stops)
+    let same = pair_parts n c.args.opened.now.channels.channels pairs i (0, 0) _ _ _ _ long c.from.ensures
+    c.from-in-loop-first.ensures c.count-group.ensures.count in
+    stopped_in_pair c.in-Err.fault r l.opened.reader n _ i pairs (0, 0) _ _ _ _ _ _ _ _ below l.invariant.wrote
+    (stopped_as c.in-Err.fault l.opened.reader _ (parts_at n c.args.opened.now.channels.channels pairs i (0, 0)) _ _ _ _ _ same l.invariant.bytes
+    c.in-Err.ensures.stops)
 
 pub loop-first-preserved : goal.loop-first-preserved
 loop-first-preserved g c =
@@ -78,8 +79,7 @@ loop-first-preserved g c =
 pub returns-clause-wrote : goal.returns-clause-wrote
 returns-clause-wrote g c =
     let l = c.loop-first in
-    let r = c.args.opened.now.reader in
     let pairs = c.args.pairs.now in
     let all : take l.first-index pairs ≡ pairs = take_all l.first-index pairs (omega (arith, c.loop-first-test.false, l.auto.first-index-end)) in
-    wrote_as r l.opened.reader (parts_of (sound_bytes r.shape) c.args.opened.now.channels.channels (take l.first-index pairs)) _ _ _ _ _ _ _ _ _
-    (ap (parts_of (sound_bytes r.shape) c.args.opened.now.channels.channels) all) refl l.invariant.wrote
+    wrote_as c.args.opened.now.reader l.opened.reader (parts_of (sound_bytes c.args.opened.now.reader.shape) c.args.opened.now.channels.channels (take l.first-index pairs)) _ _ _ _ _ _ _ _ _
+    (ap (parts_of (sound_bytes c.args.opened.now.reader.shape) c.args.opened.now.channels.channels) all) refl l.invariant.wrote

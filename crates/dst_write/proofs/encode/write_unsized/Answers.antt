@@ -32,7 +32,8 @@ noted slice sizes rest m n {all} h long same is = h ∙ take_at sizes rest n (lo
 pub returns-in-Err-write_end-clause-written : goal.returns-in-Err-write_end-clause-written
 returns-in-Err-write_end-clause-written g c file told =
     let frames = c.in_default-write_frames.ensures.written file (c.in_default.ensures.bytes ∙ told) in
-    let sizes = noted _ c.write_frames.new.sizes _ _ _ c.as_slice-sizes.ensures.value c.in_default-write_frames.ensures.long c.deref_mut-4.ensures.len frames.1 in
+    let sizes = noted _ c.write_frames.new.sizes _ _ _ c.as_slice-sizes.ensures.value c.in_default-write_frames.ensures.long
+    c.deref_mut-4.ensures.len frames.1 in
     stopped_in_end (g.P.Picker.picks c.args.picker.now) file c.args.form.now c.requires.size.0 c.requires.size.2
     (g.met.S.Source.size_is_length c.args.source.now file c.requires.size.0 told c.requires.size.1)
     (c.fault_of_device-in-Err-write_end.result ≡ Write) _ (c.in_default.ensures.written file told) frames.0 sizes
@@ -42,7 +43,8 @@ returns-in-Err-write_end-clause-written g c file told =
 pub returns-in-Ok-clause-written : goal.returns-in-Ok-clause-written
 returns-in-Ok-clause-written g c file told =
     let frames = c.in_default-write_frames.ensures.written file (c.in_default.ensures.bytes ∙ told) in
-    let sizes = noted _ c.write_frames.new.sizes _ _ _ c.as_slice-sizes.ensures.value c.in_default-write_frames.ensures.long c.deref_mut-4.ensures.len frames.1 in
+    let sizes = noted _ c.write_frames.new.sizes _ _ _ c.as_slice-sizes.ensures.value c.in_default-write_frames.ensures.long
+    c.deref_mut-4.ensures.len frames.1 in
     let known = g.met.S.Source.size_is_length c.args.source.now file c.requires.size.0 told c.requires.size.1 in (
       all_is_added (g.P.Picker.picks c.args.picker.now) file c.args.form.now c.requires.size.0 c.requires.size.2 known _ sizes
           (c.in_default.ensures.written file told) frames.0
