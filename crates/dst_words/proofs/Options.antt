@@ -1,5 +1,5 @@
 -- Options that have values: each takes two words, so that further words are no options.
-use Rattle.std.proofs.Common.{◌≡◌, ℕ, zero, suc, ◌*◌, ◌<◌, Bool, true, false, if◌then◌else◌, List, [], ◌∷◌, length, map, take, drop, get_or, ◌≤◌, ◌-◌}
+use Rattle.std.proofs.Common.{◌≡◌, ◌≢◌, ℕ, zero, suc, ◌+◌, ◌*◌, Bool, true, false, if◌then◌else◌, List, [], ◌∷◌, length, map, take, drop, get_or, ◌≤◌, ◌-◌}
 use Rattle.std.proofs.Common.{refl, ap, sym, ◌∙◌, arith, Option, Some, None}
 use Rattle.std.proofs.lemmas.List.{take_all}
 use Rattle.std.specs.Prelude.{codes, not, find, filter, option_map}
@@ -8,7 +8,7 @@ use Rattle.dsdiff_spec.specs.Bytes.{◌is◌}
 use Rattle.dsdiff_spec.specs.Words.{Word, Command, Task, encode, encode_dsf}
 use Rattle.words_spec.specs.Slots.{file, read_slots, Setting, level, workers, allowed_value, setting_value, read_settings}
 use Rattle.words_spec.specs.Rows.{level_of, workers_of, task_with, task_of}
-use Rattle.dst_words.specs.RowWords.{of_settings, coding_task, encode_words, encode_dsf_words, level_and_workers_in}
+use Rattle.dst_words.specs.RowWords.{of_settings, coding_task, encode_words, encode_dsf_words, level_and_workers_in, level_and_workers}
 use Prim.Native.String.{String}
 
 abbrev pub HasValue : Setting → Type 0
@@ -48,24 +48,25 @@ none_set f s words has none = go s.name s.has_value s.allows has words none
         value None = refl
         value (Some n) = h v vs n refl
 
-pub too_many_words : (n : ℕ) (settings : List Setting) (words : List Word) → AllByRecursion HasValue settings → 2 * n < length words →
-    read_settings n settings words ≡ None
-too_many_words n settings [] h long = absurd (omega arith)
-too_many_words zero settings (w ∷ ws) h long = refl
-too_many_words (suc n) settings (w ∷ ws) h long =
+-- words that aren't as many as some of the options and their values set nothing
+pub unpaired_words : (n : ℕ) (settings : List Setting) (words : List Word) → AllByRecursion HasValue settings →
+    ((k : ℕ) → k ≤ n → length words ≢ 2 * k) → read_settings n settings words ≡ None
+unpaired_words n settings [] h unpaired = absurd (unpaired 0 (omega arith) refl)
+unpaired_words zero settings (w ∷ ws) h unpaired = refl
+unpaired_words (suc n) settings (w ∷ ws) h unpaired =
     let others = filter (λ t. not (w is t.name)) settings in
-    go (λ vs fewer. too_many_words n others vs (filtered_have_values (λ t. not (w is t.name)) settings h) fewer) (find (λ s. w is s.name) settings) refl
+    go (λ vs fewer. unpaired_words n others vs (filtered_have_values (λ t. not (w is t.name)) settings h) fewer) (find (λ s. w is s.name) settings) refl
   where
     behind : ℕ × List Word → Option (List (Word × ℕ))
     behind r = option_map (λ found. (w, r.0) ∷ found) (read_settings n (filter (λ t. not (w is t.name)) settings) r.1)
 
-    go : ((vs : List Word) → 2 * n < length vs → read_settings n (filter (λ t. not (w is t.name)) settings) vs ≡ None) → (o : Option Setting) →
-        find (λ s. w is s.name) settings ≡ o →
+    go : ((vs : List Word) → ((k : ℕ) → k ≤ n → length vs ≢ 2 * k) → read_settings n (filter (λ t. not (w is t.name)) settings) vs ≡ None) →
+        (o : Option Setting) → find (λ s. w is s.name) settings ≡ o →
         ◌≡◌ {A = Option (List (Word × ℕ))} (elim o [ None ↦ None | Some s ↦ set_behind behind (setting_value s ws) ]) None
     go later None eq = refl
-    go later (Some s) eq = none_set behind s ws (found_has_value (λ s. w is s.name) settings s h eq) (λ v vs k e.
+    go later (Some s) eq = none_set behind s ws (found_has_value (λ s. w is s.name) settings s h eq) (λ v vs m e.
         let fewer = ap length e in
-        ap (option_map (λ found. (w, k) ∷ found)) (later vs (omega (arith, fewer, long))))
+        ap (option_map (λ found. (w, m) ∷ found)) (later vs (λ k most same. unpaired (k + 1) (omega arith) (omega (arith, fewer, same)))))
 
 -- a row with a level and workers
 pub task_of_coding : (at : ℕ → Command) (words : List Word) →
@@ -78,6 +79,50 @@ task_of_coding at words = go (read_settings 2 (level ∷ workers ∷ []) words)
         (option_map (coding_task at) (option_map (λ o. (level_of o, workers_of o)) o))
     go None = refl
     go (Some o) = refl
+
+-- ---- a level and workers, in either order
+abbrev both_values : List (Word × ℕ) → ℕ × ℕ
+both_values o = (level_of o, workers_of o)
+
+-- what the second of two options sets, behind what the first does
+second_set : (first second : String) (n : ℕ) (o : Option ℕ) →
+    option_map both_values (option_map (λ found. (codes first, n) ∷ found)
+    (set_behind (λ r. option_map (λ found. (codes second, r.0) ∷ found) (read_settings 0 [] r.1)) (option_map (λ m. (m, [])) o)))
+    ≡ option_map (λ m. both_values ((codes first, n) ∷ (codes second, m) ∷ [])) o
+second_set first second n None = refl
+second_set first second n (Some m) = refl
+
+pub level_first : (first l second w : Word) → first ≡ codes "--level" → second ≡ codes "--workers" →
+    level_and_workers_in (first ∷ l ∷ second ∷ w ∷ []) ≡ level_and_workers l w
+unfolding level_and_workers_in level_and_workers
+level_first first l second w e f = rw (e, f) (go (allowed_value level l))
+  where
+    go : (o : Option ℕ) →
+        option_map both_values (set_behind (λ r. option_map (λ found. (codes "--level", r.0) ∷ found) (read_settings 1 (workers ∷ []) r.1))
+        (option_map (λ n. (n, codes "--workers" ∷ w ∷ [])) o))
+        ≡ elim o [ None ↦ None | Some n ↦ option_map (λ m. (n, m)) (allowed_value workers w) ]
+    go None = refl
+    go (Some n) = second_set "--level" "--workers" n (allowed_value workers w)
+
+pub workers_first : (first w second l : Word) → first ≡ codes "--workers" → second ≡ codes "--level" →
+    level_and_workers_in (first ∷ w ∷ second ∷ l ∷ []) ≡ level_and_workers l w
+unfolding level_and_workers_in level_and_workers
+workers_first first w second l e f = rw (e, f) (go (allowed_value workers w))
+  where
+    turned : (m : ℕ) (o : Option ℕ) → option_map {U = ℕ × ℕ} (λ n. (n, m)) o ≡ elim o [ None ↦ None | Some n ↦ Some (n, m) ]
+    turned m None = refl
+    turned m (Some n) = refl
+
+    none : (o : Option ℕ) → ◌≡◌ {A = Option (ℕ × ℕ)} None (elim o [ None ↦ None | Some n ↦ None ])
+    none None = refl
+    none (Some n) = refl
+
+    go : (o : Option ℕ) →
+        option_map both_values (set_behind (λ r. option_map (λ found. (codes "--workers", r.0) ∷ found) (read_settings 1 (level ∷ []) r.1))
+        (option_map (λ m. (m, codes "--level" ∷ l ∷ [])) o))
+        ≡ elim (allowed_value level l) [ None ↦ None | Some n ↦ option_map (λ m. (n, m)) o ]
+    go None = none (allowed_value level l)
+    go (Some m) = second_set "--workers" "--level" m (allowed_value level l) ∙ turned m (allowed_value level l)
 
 -- no further row has this name
 abbrev pub or_none : Option Task → Option Task

@@ -1,10 +1,10 @@
 -- What the words behind a row's name ask for.
-use Rattle.std.specs.Prelude.{ℕ, Bool, ◌&&◌, if◌then◌else◌, List, [], ◌∷◌, length, Option, Some, None, option_map}
+use Rattle.std.specs.Prelude.{ℕ, ◌≤◌, Bool, ◌&&◌, if◌then◌else◌, List, [], ◌∷◌, length, Option, Some, None, option_map}
 use Rattle.dsdiff_spec.specs.Bytes.{◌is◌, ◌above◌}
 use Rattle.dsdiff_spec.specs.Origin.{outside}
 use Rattle.dsdiff_spec.specs.Words.{Word, Command, Task, show, index, encode, decode, cut, check, make, make_run, encode_dsf, decode_dsf, range}
 use Rattle.words_spec.specs.Slots.{Slot, file, number, is_file_word, number_word}
-use Rattle.words_spec.specs.Slots.{number_within, read_slots, Setting, level, workers, by_index, rate, read_settings}
+use Rattle.words_spec.specs.Slots.{number_within, read_slots, Setting, level, workers, allowed_value, by_index, rate, read_settings}
 use Rattle.words_spec.specs.Rows.{level_of, workers_of, multiple_of, is_set, frame_of, show_frame_of, task_with}
 
 -- the numbers in the slots, and what is made of them and of the words behind
@@ -21,6 +21,14 @@ workers_in words = option_map workers_of (read_settings 1 (workers ∷ []) words
 -- the values of two of a row
 unfoldable pub level_and_workers_in : List Word → Option (ℕ × ℕ)
 level_and_workers_in words = option_map (λ o. (level_of o, workers_of o)) (read_settings 2 (level ∷ workers ∷ []) words)
+
+-- a level and a number of workers, each in a word
+unfoldable pub level_and_workers : Word → Word → Option (ℕ × ℕ)
+level_and_workers l w = elim (allowed_value level l) [ None ↦ None | Some n ↦ option_map (λ m. (n, m)) (allowed_value workers w) ]
+
+-- a level, 0 to 3, and a number of workers, 1 to 16
+abbrev pub AreAllowed : ℕ × ℕ → Type 0
+AreAllowed set = (set.0 ≤ 3) × (1 ≤ set.1) × (set.1 ≤ 16)
 
 abbrev pub by_index_in : List Word → Option Bool
 by_index_in words = option_map (is_set "--by-index") (read_settings 1 (by_index ∷ []) words)
@@ -110,14 +118,15 @@ making_task start channels frames = alone (make start frames channels.0 channels
 abbrev pub running_task : ℕ → ℕ × ℕ → ℕ → Task
 running_task start channels frames = alone (make_run start frames channels.0 channels.1)
 
+-- made sound in a place, in so many frames
+abbrev pub made_words : ℕ → ℕ × ℕ → Word → Word → Option Task
+made_words start channels place frames =
+    if place is "--run" then option_map (running_task start channels) (number_within 0 100 frames)
+    else (if is_file_word place then option_map (making_task start channels) (number_within 0 1000 frames) else None)
+
 abbrev pub make_words : List Word → Option Task
 make_words (start ∷ place ∷ frames ∷ count ∷ options) = elim (number_word start) [
   | None ↦ None
-  | Some s ↦ elim (channels_in count options) [
-    | None ↦ None
-    | Some channels ↦
-        if place is "--run" then option_map (running_task s channels) (number_within 0 100 frames)
-        else (if is_file_word place then option_map (making_task s channels) (number_within 0 1000 frames) else None)
-  ]
+  | Some s ↦ elim (channels_in count options) [ None ↦ None | Some channels ↦ made_words s channels place frames ]
 ]
 make_words words = None

@@ -1,10 +1,10 @@
 // Words of a kind: the names of files, numbers, options.
-ghost use Rattle.std.specs.Prelude.{◌≡◌, ◌⊎◌, ◌≤◌, length, map, option_map, IfSome};
+ghost use Rattle.std.specs.Prelude.{◌≡◌, ◌⊎◌, ◌≤◌, [], ◌∷◌, length, map, option_map, IfSome};
 ghost use Rattle.std.specs.List.{list_all};
 ghost use Rattle.std.specs.String.{string_bytes};
 ghost use Rattle.words_spec.specs.Slots.{is_file_word, is_digit, is_numeral, number_word, number_within, allowed_value, level, workers, rate};
 ghost use Rattle.dst_words.specs.Commands.{channels_seen};
-ghost use Rattle.dst_words.specs.RowWords.{level_and_workers_in, workers_in, by_index_in, multiple_in, span_in, channels_in, pairs_in};
+ghost use Rattle.dst_words.specs.RowWords.{level_and_workers, AreAllowed, level_and_workers_in, workers_in, by_index_in, multiple_in, span_in, channels_in, pairs_in};
 
 use crate::pairs::Pairs;
 use dst_num::Channels;
@@ -189,18 +189,53 @@ pub(crate) fn read_level_and_workers(options: &[String]) -> Option<(u32, u32)>
 {
     match options {
         [] => Some((1, 1)),
-        [name, value] if name.as_str() == "--level" => Some((level_value(value)?, 1)),
-        [name, value] if name.as_str() == "--workers" => Some((1, workers_value(value)?)),
-        [first, level, second, workers]
-            if first.as_str() == "--level" && second.as_str() == "--workers" => {
-            Some((level_value(level)?, workers_value(workers)?))
-        }
-        [first, workers, second, level]
-            if first.as_str() == "--workers" && second.as_str() == "--level" => {
-            Some((level_value(level)?, workers_value(workers)?))
-        }
+        [name, value] => read_one_option(name, value),
+        [first, value, second, other] => read_two_options(first, value, second, other),
         _ => None,
     }
+}
+
+// The level and the workers that one option sets.
+#[tactic(auto, unfolding(crate::specs::RowWords::level_and_workers_in))]
+fn read_one_option(name: &String, value: &String) -> Option<(u32, u32)>
+    ensures set { result ≡ level_and_workers_in (string_bytes name.now ∷ string_bytes value.now ∷ []) }
+    ensures allowed { IfSome result AreAllowed }
+{
+    match name.as_str() {
+        "--level" => Some((level_value(value)?, 1)),
+        "--workers" => Some((1, workers_value(value)?)),
+        _ => None,
+    }
+}
+
+// The level and the workers that two options set.
+#[tactic(auto, unfolding(crate::specs::RowWords::level_and_workers_in))]
+fn read_two_options(
+    first: &String,
+    value: &String,
+    second: &String,
+    other: &String,
+) -> Option<(u32, u32)>
+    ensures set { result ≡ level_and_workers_in
+        (string_bytes first.now ∷ string_bytes value.now ∷ string_bytes second.now ∷ string_bytes other.now ∷ []) }
+    ensures allowed { IfSome result AreAllowed }
+{
+    match (first.as_str(), second.as_str()) {
+        ("--level", "--workers") => read_both(value, other),
+        ("--workers", "--level") => read_both(other, value),
+        _ => None,
+    }
+}
+
+// A level and a number of workers.
+#[tactic(auto, unfolding(crate::specs::RowWords::level_and_workers))]
+fn read_both(level: &String, workers: &String) -> Option<(u32, u32)>
+    ensures set { result ≡ level_and_workers (string_bytes level.now) (string_bytes workers.now) }
+    ensures allowed { IfSome result AreAllowed }
+{
+    let level = level_value(level)?;
+    let workers = workers_value(workers)?;
+    Some((level, workers))
 }
 
 // Whether options ask for the index.

@@ -2,8 +2,8 @@
 ghost use Rattle.std.specs.Prelude.{◌≡◌, map, option_map, IfSome};
 ghost use Rattle.std.specs.String.{string_bytes};
 ghost use Rattle.words_spec.specs.Rows.{task_of};
-ghost use Rattle.dst_words.specs.Commands.{task_seen, HasFewWorkers, HasLawfulNumbers};
-ghost use Rattle.dst_words.specs.RowWords.{encode_words, decode_words, cut_words, frame_words, check_words, show_words, index_words, make_words, encode_dsf_words, decode_dsf_words, range_words};
+ghost use Rattle.dst_words.specs.Commands.{channels_seen, task_seen, HasFewWorkers, HasLawfulNumbers};
+ghost use Rattle.dst_words.specs.RowWords.{encode_words, decode_words, cut_words, frame_words, check_words, show_words, index_words, made_words, make_words, encode_dsf_words, decode_dsf_words, range_words};
 
 use crate::pairs::Pairs;
 use crate::slots::{
@@ -233,6 +233,16 @@ fn read_make(words: &[String]) -> Option<Task>
     };
     let start = read_number(start)?;
     let channels = read_channels(count, options)?;
+    read_made(start, channels, place, frames)
+}
+
+// Made sound in a file, or in memory, in so many frames.
+fn read_made(start: u32, channels: Channels, place: &String, frames: &String) -> Option<Task>
+    ensures task { option_map task_seen result
+        ≡ made_words start (channels_seen channels) (string_bytes place.now) (string_bytes frames.now) }
+    ensures workers { IfSome result HasFewWorkers }
+    ensures numbers { IfSome result HasLawfulNumbers }
+{
     if place.as_str() == "--run" {
         let frames = read_within(frames, 0, 100)?;
         return Some(by_one(Command::MakeRun {
