@@ -4,7 +4,7 @@ ghost use Rattle.arrayvec.specs.ArrayString.{array_string_len};
 ghost use Rattle.dsdiff_spec.specs.Lines.{report, words_line, read_fault_line, write_fault_line, memory_line, file_line, frame_fault_line, coded_line, decoded_line, cut_line, frame_line, range_line, check_line, made_line, made_run_line, plain_frame_line, coded_frame_line};
 ghost use Rattle.dst_lines.specs.Numbers.{numbers_seen};
 
-use crate::texts::{Numbers, text_of_file, text_of_frame};
+use crate::texts::{Numbers, Text, text_of_file, text_of_frame};
 use arrayvec::ArrayString;
 use dsdiff_spec::FileFault;
 use dst_spec::FrameFault;
@@ -48,12 +48,12 @@ pub fn memory() -> Line
 pub fn file_refused(fault: FileFault) -> Line
     ensures { result.bytes ≡ report (file_line fault ∷ []) }
 {
-    let text = text_of_file(fault);
+    let Text(number, name, numbers) = text_of_file(fault);
     let mut line = line_of("file refused: ");
-    push_number(&mut line, text.number);
+    push_number(&mut line, number);
     line.push_str(" ");
-    line.push_str(text.name);
-    push_numbers(&mut line, text.numbers);
+    line.push_str(name);
+    push_numbers(&mut line, numbers);
     ended(line)
 }
 
@@ -62,13 +62,13 @@ pub fn file_refused(fault: FileFault) -> Line
 pub fn frame_refused(frame: u32, fault: FrameFault) -> Line
     ensures { result.bytes ≡ report (frame_fault_line frame fault ∷ []) }
 {
-    let text = text_of_frame(fault.reason);
+    let Text(number, name, _) = text_of_frame(fault.reason);
     let mut line = line_of("frame ");
     push_number(&mut line, frame);
     line.push_str(" refused: ");
-    push_number(&mut line, text.number);
+    push_number(&mut line, number);
     line.push_str(" ");
-    line.push_str(text.name);
+    line.push_str(name);
     line.push_str(" at bit ");
     push_number(&mut line, fault.bit);
     ended(line)

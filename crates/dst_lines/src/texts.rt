@@ -3,6 +3,7 @@ ghost use Rattle.std.specs.Prelude.{◌≡◌, ◌≤◌, [], ◌∷◌, length,
 ghost use Rattle.dsdiff_spec.specs.Texts.{text_of, text_of_reason};
 ghost use Rattle.dst_lines.specs.Numbers.{numbers_seen};
 
+use Numbers::{Nothing, One, Two};
 use dsdiff_spec::FileFault;
 use dst_spec::Reason;
 
@@ -16,111 +17,71 @@ pub(crate) enum Numbers {
 
 // A refusal's number, its name and the numbers behind it.
 #[derive(Clone, Copy, Drop)]
-pub(crate) struct Text {
-    pub(crate) number: u8,
-    pub(crate) name: &'static str,
-    pub(crate) numbers: Numbers,
-}
+pub(crate) struct Text(pub(crate) u8, pub(crate) &'static str, pub(crate) Numbers);
 
 // Why a file is refused.
 pub(crate) fn text_of_file(fault: FileFault) -> Text
-    ensures number { result.number ≡ (text_of fault).number }
-    ensures name { result.name.now ≡ codes (text_of fault).name }
-    ensures numbers { numbers_seen result.numbers ≡ (text_of fault).numbers }
-    ensures short { length result.name.now ≤ 16 }
+    ensures number { result.0 ≡ (text_of fault).number }
+    ensures name { result.1.now ≡ codes (text_of fault).name }
+    ensures numbers { numbers_seen result.2 ≡ (text_of fault).numbers }
+    ensures short { length result.1.now ≤ 16 }
 {
     use FileFault::*;
 
     match fault {
-        NotForm => bare(1, "NotForm"),
-        FormType => bare(2, "FormType"),
-        Overrun { place } => with_one(3, "Overrun", place),
-        Version => bare(4, "Version"),
-        PropMissing => bare(5, "PropMissing"),
-        PropTwice => bare(6, "PropTwice"),
-        PropType => bare(7, "PropType"),
-        PropTooLong => bare(8, "PropTooLong"),
-        Rate => bare(9, "Rate"),
-        Channels => bare(10, "Channels"),
-        Compression => bare(11, "Compression"),
-        SoundMissing => bare(12, "SoundMissing"),
-        SoundTwice => bare(13, "SoundTwice"),
-        SoundUneven => bare(14, "SoundUneven"),
-        FrameRate => bare(15, "FrameRate"),
-        CountDiffers { count, found } => with_two(16, "CountDiffers", count.into(), found.into()),
-        FrameTooLong { frame, length } => with_two(17, "FrameTooLong", frame.into(), length),
-        TooManyFrames => bare(18, "TooManyFrames"),
-        TooManyChunks => bare(19, "TooManyChunks"),
-        NotPlain => bare(20, "NotPlain"),
-        KeptBad => bare(21, "KeptBad"),
-        Range { asked, frames } => with_two(22, "Range", asked.into(), frames.into()),
-        IndexMissing => bare(23, "IndexMissing"),
-        IndexBad { entry } => with_one(24, "IndexBad", entry.into()),
-        FormTooLarge => bare(25, "FormTooLarge"),
-        CodedChunk { place } => with_one(26, "CodedChunk", place),
-        NotCoded => bare(27, "NotCoded"),
-        TailTooLong { length } => with_one(28, "TailTooLong", length),
-        DsfForm => bare(29, "DsfForm"),
-        DsfFormat => bare(30, "DsfFormat"),
-        DsfCount { samples, size } => with_two(31, "DsfCount", samples, size),
-        DsfKeptBad => bare(32, "DsfKeptBad"),
-        RangePast { end, groups } => with_two(33, "RangePast", end, groups),
+        NotForm => Text(1, "NotForm", Nothing),
+        FormType => Text(2, "FormType", Nothing),
+        Overrun { place } => Text(3, "Overrun", One(place)),
+        Version => Text(4, "Version", Nothing),
+        PropMissing => Text(5, "PropMissing", Nothing),
+        PropTwice => Text(6, "PropTwice", Nothing),
+        PropType => Text(7, "PropType", Nothing),
+        PropTooLong => Text(8, "PropTooLong", Nothing),
+        Rate => Text(9, "Rate", Nothing),
+        Channels => Text(10, "Channels", Nothing),
+        Compression => Text(11, "Compression", Nothing),
+        SoundMissing => Text(12, "SoundMissing", Nothing),
+        SoundTwice => Text(13, "SoundTwice", Nothing),
+        SoundUneven => Text(14, "SoundUneven", Nothing),
+        FrameRate => Text(15, "FrameRate", Nothing),
+        CountDiffers { count, found } => Text(16, "CountDiffers", Two(count as u64, found as u64)),
+        FrameTooLong { frame, length } => Text(17, "FrameTooLong", Two(frame as u64, length)),
+        TooManyFrames => Text(18, "TooManyFrames", Nothing),
+        TooManyChunks => Text(19, "TooManyChunks", Nothing),
+        NotPlain => Text(20, "NotPlain", Nothing),
+        KeptBad => Text(21, "KeptBad", Nothing),
+        Range { asked, frames } => Text(22, "Range", Two(asked as u64, frames as u64)),
+        IndexMissing => Text(23, "IndexMissing", Nothing),
+        IndexBad { entry } => Text(24, "IndexBad", One(entry as u64)),
+        FormTooLarge => Text(25, "FormTooLarge", Nothing),
+        CodedChunk { place } => Text(26, "CodedChunk", One(place)),
+        NotCoded => Text(27, "NotCoded", Nothing),
+        TailTooLong { length } => Text(28, "TailTooLong", One(length)),
+        DsfForm => Text(29, "DsfForm", Nothing),
+        DsfFormat => Text(30, "DsfFormat", Nothing),
+        DsfCount { samples, size } => Text(31, "DsfCount", Two(samples, size)),
+        DsfKeptBad => Text(32, "DsfKeptBad", Nothing),
+        RangePast { end, groups } => Text(33, "RangePast", Two(end, groups)),
     }
 }
 
 // Why a frame is refused.
 pub(crate) fn text_of_frame(reason: Reason) -> Text
-    ensures number { result.number ≡ (text_of_reason reason).number }
-    ensures name { result.name.now ≡ codes (text_of_reason reason).name }
-    ensures numbers { numbers_seen result.numbers ≡ (text_of_reason reason).numbers }
-    ensures short { length result.name.now ≤ 16 }
+    ensures number { result.0 ≡ (text_of_reason reason).number }
+    ensures name { result.1.now ≡ codes (text_of_reason reason).name }
+    ensures numbers { numbers_seen result.2 ≡ (text_of_reason reason).numbers }
+    ensures short { length result.1.now ≤ 16 }
 {
     match reason {
-        Reason::Truncated => bare(1, "Truncated"),
-        Reason::PlainStuffing => bare(2, "PlainStuffing"),
-        Reason::MultiSegment => bare(3, "MultiSegment"),
-        Reason::MapSkips => bare(4, "MapSkips"),
-        Reason::MethodReserved => bare(5, "MethodReserved"),
-        Reason::TableTooShort => bare(6, "TableTooShort"),
-        Reason::CoefRange => bare(7, "CoefRange"),
-        Reason::ProbRange => bare(8, "ProbRange"),
-        Reason::FirstCodeBit => bare(9, "FirstCodeBit"),
-        Reason::CodeRange => bare(10, "CodeRange"),
-    }
-}
-
-fn bare(number: u8, name: &'static str) -> Text
-    ensures number { result.number ≡ number }
-    ensures name { result.name.now ≡ name.now }
-    ensures numbers { numbers_seen result.numbers ≡ [] }
-{
-    Text {
-        number,
-        name,
-        numbers: Numbers::Nothing,
-    }
-}
-
-fn with_one(number: u8, name: &'static str, first: u64) -> Text
-    ensures number { result.number ≡ number }
-    ensures name { result.name.now ≡ name.now }
-    ensures numbers { numbers_seen result.numbers ≡ first ∷ [] }
-{
-    Text {
-        number,
-        name,
-        numbers: Numbers::One(first),
-    }
-}
-
-fn with_two(number: u8, name: &'static str, first: u64, second: u64) -> Text
-    ensures number { result.number ≡ number }
-    ensures name { result.name.now ≡ name.now }
-    ensures numbers { numbers_seen result.numbers ≡ first ∷ second ∷ [] }
-{
-    Text {
-        number,
-        name,
-        numbers: Numbers::Two(first, second),
+        Reason::Truncated => Text(1, "Truncated", Nothing),
+        Reason::PlainStuffing => Text(2, "PlainStuffing", Nothing),
+        Reason::MultiSegment => Text(3, "MultiSegment", Nothing),
+        Reason::MapSkips => Text(4, "MapSkips", Nothing),
+        Reason::MethodReserved => Text(5, "MethodReserved", Nothing),
+        Reason::TableTooShort => Text(6, "TableTooShort", Nothing),
+        Reason::CoefRange => Text(7, "CoefRange", Nothing),
+        Reason::ProbRange => Text(8, "ProbRange", Nothing),
+        Reason::FirstCodeBit => Text(9, "FirstCodeBit", Nothing),
+        Reason::CodeRange => Text(10, "CodeRange", Nothing),
     }
 }
