@@ -1,14 +1,16 @@
 -- The rules of a coded form, by what was read of it.
-use Rattle.std.proofs.Common.{◌≡◌, ℕ, ◌+◌, ◌<◌, ◌≤◌, List, length, drop, Bool, true, false, refl, sym, ap, ◌∙◌, arith}
+use Rattle.std.proofs.Common.{◌≡◌, ℕ, ◌+◌, ◌<◌, ◌≤◌, List, length, take, drop, Bool, true, false, Some, refl, sym, ap, ◌∙◌, arith}
 use Rattle.std.specs.Prelude.{◌==◌, ◌&&◌, ◌||◌, not, nat_lt}
-use Rattle.std.proofs.lemmas.Bool.{le-ltb, lt-ltb, or_right}
+use Rattle.std.proofs.lemmas.Bool.{and_right, le-ltb, lt-ltb, ne_eqb, not-false, not-true, or_right}
 use Rattle.std.proofs.lemmas.List.{length-take, length-drop}
+use Rattle.byteorder.specs.Endian.{big_number}
 use Rattle.dsdiff_spec.specs.Bytes.{bytes_at, number_at, ◌is◌, ◌above◌}
 use Rattle.dsdiff_spec.specs.Chunks.{Head, body_place, body_of}
 use Rattle.dsdiff_spec.specs.Faults.{◌when◌, ◌otherwise◌}
 use Rattle.dsdiff_spec.specs.Origin.{is_bad_origin, origin_version, bad_version_1, bad_version_2, outside}
 use Rattle.dsdiff_spec.specs.declared.faults.FileFault.TheVariants.{FrameRate, TooManyFrames}
 use Rattle.dsdiff_chunks.specs.Opening.{coded_sound_fault, frte_fault}
+use Rattle.dsdiff_chunks.proofs.Fields.{number_within}
 use Rattle.chunk_view.proofs.InParts.{bytes_in_part, number_in_part}
 
 pub told_in_part : (xs w : List ℕ) (place : ℕ) → w ≡ bytes_at xs place 18 → number_at w 12 4 ≡ number_at xs (place + 12) 4
@@ -35,6 +37,32 @@ frte_in_part xs w sound le at =
     by_parts (nat_lt sound.size 18) (bytes_at xs p 4) (number_at xs (p + 4) 8) (number_at xs (p + 16) 2) (number_at xs (p + 12) 4) (le-ltb sound.size 18 le)
     ∙ sym (by_numbers (bytes_at w 0 4) (bytes_at xs p 4) (number_at w 4 8) (number_at xs (p + 4) 8) (number_at w 16 2) (number_at xs (p + 16) 2)
     (number_at w 12 4) (number_at xs (p + 12) 4) id size rate (told_in_part xs w p at))
+
+-- ---- the rules on the first eighteen bytes, one after the other, by the fields that are read of them
+size_in : (w : List ℕ) → big_number 8 (take 14 (drop 4 w)) ≡ number_at w 4 8
+size_in w = number_within w 4 14 8 (omega arith)
+
+rate_in : (w : List ℕ) → big_number 2 (take 2 (drop 16 w)) ≡ number_at w 16 2
+rate_in w = number_within w 16 2 2 (omega arith)
+
+pub count_in : (w : List ℕ) → big_number 4 (take 6 (drop 12 w)) ≡ number_at w 12 4
+count_in w = number_within w 12 6 4 (omega arith)
+
+pub other_id : (w : List ℕ) → not (bytes_at w 0 4 is "FRTE") ≡ true → frte_fault w ≡ Some FrameRate
+other_id w other = rw (not-true _ other) refl
+
+pub other_size : (w : List ℕ) → (big_number 8 (take 14 (drop 4 w)) ≡ 6 → ⊥) → frte_fault w ≡ Some FrameRate
+other_size w other =
+    rw (and_right (bytes_at w 0 4 is "FRTE") (number_at w 4 8 == 6) (ne_eqb (number_at w 4 8) 6 (λ e. other (size_in w ∙ e)))) refl
+
+pub other_rate : (w : List ℕ) → (big_number 2 (take 2 (drop 16 w)) ≡ 75 → ⊥) → frte_fault w ≡ Some FrameRate
+other_rate w other =
+    rw (or_right (not (bytes_at w 0 4 is "FRTE" && number_at w 4 8 == 6)) (not (number_at w 16 2 == 75))
+    (ap not (ne_eqb (number_at w 16 2) 75 (λ e. other (rate_in w ∙ e))))) refl
+
+pub count_left : (w : List ℕ) → not (bytes_at w 0 4 is "FRTE") ≡ false → big_number 8 (take 14 (drop 4 w)) ≡ 6 → big_number 2 (take 2 (drop 16 w)) ≡ 75 →
+    frte_fault w ≡ (TooManyFrames when number_at w 12 4 above 1000000)
+count_left w id size rate = rw (not-false _ id, sym (size_in w) ∙ size, sym (rate_in w) ∙ rate) refl
 
 -- a body of more bytes than either version has
 of_either : (a b x y : Bool) → x ≡ true → y ≡ true → (not (a || b) || (a && x) || (b && y)) ≡ true

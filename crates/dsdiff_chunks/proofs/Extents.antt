@@ -1,15 +1,16 @@
--- The first sixteen bytes of a file decide the rules on its head.
+-- The first sixteen bytes of a file decide the rules on its head, and its chunks the others on its opening.
 use Rattle.std.proofs.Common.{◌≡◌, ℕ, ◌+◌, ◌^◌, ◌≤◌, ◌<◌, List, length, Bool, false, Some, None, Option, refl, sym, ap, ◌∙◌, arith}
 use Rattle.std.specs.Prelude.{nat_lt, not, ◌||◌}
 use Rattle.std.proofs.lemmas.Bool.{le-ltb, lt-ltb}
 use Rattle.dsdiff_spec.specs.Bytes.{bytes_at, number_at, ◌is◌, ◌below◌, ◌above◌}
+use Rattle.dsdiff_spec.specs.Chunks.{Found, Head, chunks_from}
 use Rattle.dsdiff_spec.specs.Faults.{◌when◌, ◌otherwise◌}
 use Rattle.dsdiff_spec.specs.Parts.{form_end, top_level}
 use Rattle.dsdiff_spec.specs.Rules.{opening_fault}
 use Rattle.dsdiff_spec.specs.declared.faults.FileFault.{FileFault}
 use Rattle.dsdiff_spec.specs.declared.faults.FileFault.TheVariants.{NotForm, FormTooLarge, FormType, Overrun}
-use Rattle.dsdiff_chunks.specs.Opening.{head_fault}
-use Rattle.dsdiff_chunks.specs.Steps.{IsExtent}
+use Rattle.dsdiff_chunks.specs.Opening.{head_fault, may_lack_pad}
+use Rattle.dsdiff_chunks.specs.Steps.{IsExtent, IsOpened}
 use Rattle.chunk_view.proofs.InParts.{bytes_in_part, number_in_part}
 
 pub too_short : (xs : List ℕ) → length xs < 16 → opening_fault xs ≡ Some NotForm
@@ -63,4 +64,27 @@ extent_by_head xs head size end le long at accepted ends =
       long = sym long;
       ends = sym (ends ∙ ap (λ n. 12 + n) form_size);
       opened = opening_by_head xs head (omega arith) at ∙ ap (λ o. o otherwise (top_level xs).fault) e;
+    }
+
+-- ---- the chunks from the head on
+abbrev from_head : List ℕ → ℕ → Found
+from_head file end = chunks_from may_lack_pad file end 1024 16
+
+top_level_is : {file : List ℕ} {size end : ℕ} → IsExtent file size end → top_level file ≡ from_head file end
+top_level_is {file = file} extent = ap (from_head file) extent.ends
+
+-- their fault is that of the opening
+pub refused_by_chunks : {file : List ℕ} {size end : ℕ} (fault : FileFault) → IsExtent file size end → (from_head file end).fault ≡ Some fault →
+    opening_fault file ≡ Some fault
+refused_by_chunks fault extent refused = extent.opened ∙ ap (λ found. found.fault) (top_level_is extent) ∙ refused
+
+pub opened_by_chunks : {file : List ℕ} {size end : ℕ} (heads : List Head) → IsExtent file size end →
+    from_head file end ≡ record { heads = heads; fault = None } → IsOpened file size end heads
+opened_by_chunks heads extent found =
+    let all = top_level_is extent ∙ found in
+    record {
+      long = extent.long;
+      ends = extent.ends;
+      chunks = ap (λ found. found.heads) all;
+      rules = extent.opened ∙ ap (λ found. found.fault) all;
     }

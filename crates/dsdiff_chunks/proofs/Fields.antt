@@ -12,7 +12,7 @@ use Rattle.dsdiff_spec.specs.Bytes.{bytes_at, number_at, ◌is◌, ◌below◌}
 use Rattle.dsdiff_spec.specs.Chunks.{Head, the_first, body_place, body_of}
 use Rattle.dsdiff_spec.specs.Faults.{◌when◌, ◌otherwise◌}
 use Rattle.dsdiff_spec.specs.Origin.{outside}
-use Rattle.dsdiff_spec.specs.Parts.{local, rate, channel_count}
+use Rattle.dsdiff_spec.specs.Parts.{local, rate, channel_count, compression}
 use Rattle.dsdiff_spec.specs.Rules.{is_rate, rate_fault, channels_fault, compression_fault}
 use Rattle.chunk_view.proofs.Reading.{big_from-drop}
 use Rattle.dsdiff_chunks.specs.Local.{is_bad_rate, is_bad_count, is_bad_compression}
@@ -37,6 +37,10 @@ number_behind w k n =
     ap (big_number n) (take_all (length w - k) (drop k w) (omega (arith, length-drop k w)))
     ∙ big_from-drop k 0 n w
     ∙ ap (λ i. big_from i n w) (add-zero k)
+
+-- the number in a part that begins behind so many bytes
+pub number_within : (w : List ℕ) (k m n : ℕ) → n ≤ m → big_number n (take m (drop k w)) ≡ number_at w k n
+number_within w k m n le = big_from-take 0 n m (drop k w) (omega arith) ∙ big_from-drop k 0 n w ∙ ap (λ i. big_from i n w) (add-zero k)
 
 pub number_there : (body v : List ℕ) (h : Head) (n : ℕ) → body_of body h ≡ v → n ≤ h.size → number_at body (body_place h) n ≡ big_number n v
 number_there body v h n e le =
@@ -118,6 +122,12 @@ pub count_reads : (body v : List ℕ) (h : Head) → local "CHNL" body ≡ h ∷
 count_reads body v h one e long good =
     let two : 2 ≤ length v = ltb-false (length v) 2 (or_parts _ _ (or_parts _ _ good).0).0 in
     ap (λ hs. number_at body (body_place (the_first hs)) 2) one ∙ number_there body v h 2 e (omega arith)
+
+pub compression_reads : (body v : List ℕ) (h : Head) → local "CMPR" body ≡ h ∷ [] → body_of body h ≡ v → length v ≡ h.size →
+    is_bad_compression v ≡ false → compression body ≡ take 4 v
+compression_reads body v h one e long good =
+    let four : 4 ≤ length v = ltb-false (length v) 4 (or_parts _ _ good).0 in
+    ap (λ hs. bytes_at body (body_place (the_first hs)) 4) one ∙ bytes_there body v h 4 e (omega arith)
 
 -- with none or several
 pub rate_of_others : (body : List ℕ) → (length (local "FS  " body) ≡ 1 → ⊥) → rate_fault body ≡ Some Rate

@@ -3,7 +3,9 @@ use Rattle.std.proofs.Common.{◌≡◌, ℕ, ◌+◌, ◌-◌, ◌<◌, ◌≤�
 use Rattle.std.proofs.Common.{◌∙◌, arith}
 use Rattle.std.proofs.lemmas.Grind.{flat_map-append}
 use Rattle.std.proofs.lemmas.List.{append-nil, drop_all, drop_at, drop_more, length-append, length-take, take_at, take-append-drop, take-append-le}
+use Rattle.std.proofs.lemmas.List.Folds.{length-flat_map-take}
 use Rattle.std.proofs.Math.Seq.{take-add}
+use Rattle.dst_spec.proofs.Lists.{flat_map-next}
 use Rattle.dst_streams.proofs.Told.{and_then-twice}
 use Rattle.dst_streams.specs.Told.{IsCutShort, IsSure, and_then}
 use borrow.Rule.Slice.PartMut.{put_mid}
@@ -32,7 +34,7 @@ front_more out new xs place count k inside within front more =
 
 -- ---- pieces that are appended one after the other
 -- all pieces, as those before one, that one, and those behind it
-pub pieces_at : {X : Type 0} (f : X → List ℕ) (xs : List X) (i : ℕ) (d : X) → i < length xs →
+pieces_at : {X : Type 0} (f : X → List ℕ) (xs : List X) (i : ℕ) (d : X) → i < length xs →
     flat_map f xs ≡ flat_map f (take i xs) ++ (f (get_or xs i d) ++ flat_map f (drop (i + 1) xs))
 pieces_at f xs i d h =
     ap (flat_map f) (sym (take-append-drop i xs))
@@ -40,9 +42,9 @@ pieces_at f xs i d h =
     ∙ ap (λ w. flat_map f (take i xs) ++ flat_map f w) (drop_more xs i d h)
 
 -- a piece behind others that is cut short
-pub cut_piece : (old mid new : Option (List ℕ)) (done piece rest all : List ℕ) → all ≡ done ++ (piece ++ rest) →
+cut_behind : (old mid new : Option (List ℕ)) (done piece rest all : List ℕ) → all ≡ done ++ (piece ++ rest) →
     mid ≡ and_then old done → IsCutShort mid piece new → IsCutShort old all new
-cut_piece old mid new done piece rest all e is cut =
+cut_behind old mid new done piece rest all e is cut =
     let within : cut.kept ≤ length piece = cut.within in
     let long : length all ≡ length done + (length piece + length rest) =
     ap length e ∙ omega (arith, length-append done (piece ++ rest), length-append piece rest) in
@@ -61,19 +63,51 @@ cut_piece old mid new done piece rest all e is cut =
     }
 
 -- the room that is left of what is sure falls piece by piece
-pub room_more : {T E : Type 0} (old mid new : Option ℕ) (done len : ℕ) (r : Result T E) →
+room_behind : {T E : Type 0} (old mid new : Option ℕ) (done len : ℕ) (r : Result T E) →
     ((room : ℕ) → old ≡ Some room → done ≤ room → mid ≡ Some (room - done)) → IsSure mid new len r →
     (room : ℕ) → old ≡ Some room → done + len ≤ room → new ≡ Some (room - (done + len))
-room_more old mid new done len r sure next room is fits =
+room_behind old mid new done len r sure next room is fits =
     let before : done ≤ room = omega arith in
     let now : len ≤ room - done = omega arith in
     let left : room - done - len ≡ room - (done + len) = omega arith in
     next.lowered (room - done) (sure room is before) now ∙ ap Some left
 
-pub room_taken : {T E : Type 0} (old mid new : Option ℕ) (done len all : ℕ) (r : Result T E) → done + len ≤ all →
+taken_behind : {T E : Type 0} (old mid new : Option ℕ) (done len all : ℕ) (r : Result T E) → done + len ≤ all →
     ((room : ℕ) → old ≡ Some room → done ≤ room → mid ≡ Some (room - done)) → IsSure mid new len r →
     (room : ℕ) → old ≡ Some room → all ≤ room → IsOk r
-room_taken old mid new done len all r part sure next room is fits =
+taken_behind old mid new done len all r part sure next room is fits =
     let before : done ≤ room = omega arith in
     let now : len ≤ room - done = omega arith in
     next.taken (room - done) (sure room is before) now
+
+-- ---- the pieces up to one, and that one
+module _ {X : Type 0} (f : X → List ℕ) (xs : List X) (i : ℕ) (d : X) (below : i < length xs) where
+  pub one_piece_longer : length (flat_map f (take (i + 1) xs)) ≡ length (flat_map f (take i xs)) + length (f (get_or xs i d))
+  one_piece_longer = ap length (flat_map-next f xs i d below) ∙ length-append (flat_map f (take i xs)) (f (get_or xs i d))
+
+  pub one_piece_more : (old mid new : Option (List ℕ)) → mid ≡ and_then old (flat_map f (take i xs)) → new ≡ and_then mid (f (get_or xs i d)) →
+      new ≡ and_then old (flat_map f (take (i + 1) xs))
+  one_piece_more old mid new before now =
+      now
+      ∙ ap (λ o. and_then o (f (get_or xs i d))) before
+      ∙ and_then-twice old (flat_map f (take i xs)) (f (get_or xs i d))
+      ∙ ap (and_then old) (sym (flat_map-next f xs i d below))
+
+  pub cut_in_piece : (old mid new : Option (List ℕ)) → mid ≡ and_then old (flat_map f (take i xs)) → IsCutShort mid (f (get_or xs i d)) new →
+      IsCutShort old (flat_map f xs) new
+  cut_in_piece old mid new =
+      cut_behind old mid new (flat_map f (take i xs)) (f (get_or xs i d)) (flat_map f (drop (i + 1) xs)) (flat_map f xs) (pieces_at f xs i d below)
+
+  pub room_for_more : {T E : Type 0} (old mid new : Option ℕ) (r : Result T E) →
+      ((room : ℕ) → old ≡ Some room → length (flat_map f (take i xs)) ≤ room → mid ≡ Some (room - length (flat_map f (take i xs)))) →
+      IsSure mid new (length (f (get_or xs i d))) r → (room : ℕ) → old ≡ Some room → length (flat_map f (take (i + 1) xs)) ≤ room →
+      new ≡ Some (room - length (flat_map f (take (i + 1) xs)))
+  room_for_more old mid new r sure next =
+      rw one_piece_longer (room_behind old mid new (length (flat_map f (take i xs))) (length (f (get_or xs i d))) r sure next)
+
+  pub room_for_all : {T E : Type 0} (old mid new : Option ℕ) (r : Result T E) →
+      ((room : ℕ) → old ≡ Some room → length (flat_map f (take i xs)) ≤ room → mid ≡ Some (room - length (flat_map f (take i xs)))) →
+      IsSure mid new (length (f (get_or xs i d))) r → (room : ℕ) → old ≡ Some room → length (flat_map f xs) ≤ room → IsOk r
+  room_for_all old mid new r =
+      taken_behind old mid new (length (flat_map f (take i xs))) (length (f (get_or xs i d))) (length (flat_map f xs)) r
+      (length-flat_map-take f xs i d below)

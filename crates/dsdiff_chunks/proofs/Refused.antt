@@ -2,7 +2,7 @@
 use Rattle.std.proofs.Common.{◌≡◌, ◌⊎◌, ℕ, ◌+◌, ◌-◌, ◌*◌, ◌/◌, ◌%◌, ◌<◌, ◌≤◌, min, Bool, true, false, List, [], length, take, drop, get_or, refl, sym, ap, ◌∙◌}
 use Rattle.std.proofs.Common.{arith, MatchBool, inl, inr}
 use Rattle.std.specs.Prelude.{not, ◌||◌, ◌&&◌, ◌==◌, if◌then◌else◌, nat_eq}
-use Rattle.std.proofs.lemmas.Bool.{and_from, and_left, and_right, cases_lt, eq-eqb, eqb-true, le-ltb, lt-ltb, ltb-false, ne_eqb, not-false, or_from, or_left}
+use Rattle.std.proofs.lemmas.Bool.{and_from, and_left, and_right, cases_lt, eq-eqb, eqb-true, le-ltb, lt-ltb, ltb-false, ne_eqb, not-false, not-true, or_from, or_left}
 use Rattle.std.proofs.lemmas.Bool.{or_parts, or_right}
 use Rattle.std.proofs.lemmas.List.{length-drop, take_all}
 use Rattle.std.proofs.lemmas.Nat.{div-add-mod', div-mul-add}
@@ -26,12 +26,24 @@ uneven_cmpr w ne =
     or_left _ _ (or_left (not (is_one_chunk "CMPR" w)) (number_at w 4 8 below 4)
     (ap not (and_right (not (length w below 12) && bytes_at w 0 4 is "CMPR") (length w == 12 + number_at w 4 8 + number_at w 4 8 % 2) (ne_eqb _ _ ne))))
 
-pub whole_cmpr : (w : List ℕ) → 16 ≤ length w → bytes_at w 0 4 is "CMPR" ≡ true → 4 ≤ number_at w 4 8 →
+pub short_cmpr : (w : List ℕ) → length w < 16 → is_bad_cmpr w ≡ true
+short_cmpr w lt = elim (cases_lt (number_at w 4 8) 4) [
+  | inl small ↦ small_cmpr w small
+  | inr large ↦ uneven_cmpr w (λ e. absurd (omega (arith, lt, large, e)))
+]
+
+pub other_chunk : (w : List ℕ) → not (bytes_at w 0 4 is "CMPR") ≡ true → is_bad_cmpr w ≡ true
+other_chunk w other =
+    or_left _ _ (or_left (not (is_one_chunk "CMPR" w)) (number_at w 4 8 below 4)
+    (ap not (and_left (not (length w below 12) && bytes_at w 0 4 is "CMPR") (length w == 12 + number_at w 4 8 + number_at w 4 8 % 2)
+    (and_right (not (length w below 12)) (bytes_at w 0 4 is "CMPR") (not-true _ other)))))
+
+pub whole_cmpr : (w : List ℕ) → 16 ≤ length w → not (bytes_at w 0 4 is "CMPR") ≡ false → 4 ≤ number_at w 4 8 →
     length w ≡ 12 + number_at w 4 8 + number_at w 4 8 % 2 → is_bad_cmpr w ≡ not (bytes_at w 12 4 is "DSD ")
 whole_cmpr w long id large e =
     let one : is_one_chunk "CMPR" w ≡ true =
     and_from (not (length w below 12) && bytes_at w 0 4 is "CMPR") (length w == 12 + number_at w 4 8 + number_at w 4 8 % 2)
-    (and_from (not (length w below 12)) (bytes_at w 0 4 is "CMPR") (ap not (le-ltb (length w) 12 (omega arith))) id)
+    (and_from (not (length w below 12)) (bytes_at w 0 4 is "CMPR") (ap not (le-ltb (length w) 12 (omega arith))) (not-false (bytes_at w 0 4 is "CMPR") id))
     (eq-eqb _ _ e) in
     ap (λ b. not b || number_at w 4 8 below 4 || not (bytes_at w 12 4 is "DSD ")) one
     ∙ ap (λ b. b || not (bytes_at w 12 4 is "DSD ")) (le-ltb (number_at w 4 8) 4 large)
@@ -55,7 +67,7 @@ at_version v body =
 abbrev pub kept_by : List ℕ → ℕ → List ℕ → List ℕ → Origin
 kept_by body sound cmpr tail = record { sound = sound; pad = get_or body 9 0; cmpr = cmpr; kept = tail }
 
-abbrev pub second : List ℕ → Origin
+abbrev second : List ℕ → Origin
 second body = record {
   sound = number_at body 1 8;
   pad = get_or body 9 0;
@@ -63,35 +75,56 @@ second body = record {
   kept = drop (length body - kept_length body) body;
 }
 
-pub second_is : (body : List ℕ) → origin_version body ≡ 2 → origin_of body ≡ second body
+second_is : (body : List ℕ) → origin_version body ≡ 2 → origin_of body ≡ second body
 second_is body e = ap (λ v. at_version v body) e
 
-abbrev pub bad_second : ℕ → ℕ → ℕ → ℕ → Bool
+abbrev bad_second : ℕ → ℕ → ℕ → ℕ → Bool
 bad_second len kept sound pad =
     outside 30 131086 len || kept above 65536 || len above 65550 + kept || (sound % 2 == 0 && not (pad == 0))
 
-pub bad_second_is : (body : List ℕ) → origin_version body ≡ 2 →
+no_needless_pad : (sound pad : ℕ) → ((sound % 2 ≡ 0) × (pad ≡ 0)) ⊎ (sound % 2 ≡ 0 → ⊥) → (sound % 2 == 0 && not (pad == 0)) ≡ false
+no_needless_pad sound pad (inl both) = and_right (sound % 2 == 0) (not (pad == 0)) (ap not (eq-eqb pad 0 both.1))
+no_needless_pad sound pad (inr odd) = and_left (sound % 2 == 0) (not (pad == 0)) (ne_eqb (sound % 2) 0 odd)
+
+bad_second_is : (body : List ℕ) → origin_version body ≡ 2 →
     bad_version_2 body ≡ bad_second (length body) (kept_length body) (number_at body 1 8) (get_or body 9 0)
 bad_second_is body e =
     ap (λ k. outside 30 131086 (length body) || kept_length body above 65536 || length body above 65550 + kept_length body ||
     (k.sound % 2 == 0 && not (k.pad == 0))) (second_is body e)
 
-pub long_tail : (len kept sound pad : ℕ) → 65536 < kept → bad_second len kept sound pad ≡ true
-long_tail len kept sound pad lt = or_left _ _ (or_left _ _ (or_right (outside 30 131086 len) (kept above 65536) (lt-ltb 65536 kept lt)))
+pub bad_length : (body : List ℕ) → origin_version body ≡ 2 → (length body < 30) ⊎ ((30 ≤ length body) × (131086 < length body)) → bad_version_2 body ≡ true
+bad_length body e bad = bad_second_is body e ∙ or_left _ _ (or_left _ _ (or_left _ _ (at (length body) bad)))
+  where
+    at : (len : ℕ) → (len < 30) ⊎ ((30 ≤ len) × (131086 < len)) → outside 30 131086 len ≡ true
+    at len (inl short) = or_left (len below 30) (len above 131086) (lt-ltb len 30 short)
+    at len (inr long) = or_right (len below 30) (len above 131086) (lt-ltb 131086 len long.1)
 
-pub long_cmpr : (len kept sound pad : ℕ) → 65550 + kept < len → bad_second len kept sound pad ≡ true
-long_cmpr len kept sound pad lt = or_left _ _ (or_right (outside 30 131086 len || kept above 65536) (len above 65550 + kept) (lt-ltb (65550 + kept) len lt))
+pub long_tail : (body : List ℕ) → origin_version body ≡ 2 → 65536 < kept_length body → bad_version_2 body ≡ true
+long_tail body e lt =
+    bad_second_is body e
+    ∙ or_left _ _ (or_left _ _ (or_right (outside 30 131086 (length body)) (kept_length body above 65536) (lt-ltb 65536 (kept_length body) lt)))
 
-pub needless_pad : (len kept sound pad : ℕ) → sound % 2 ≡ 0 → (pad ≡ 0 → ⊥) → bad_second len kept sound pad ≡ true
-needless_pad len kept sound pad even ne =
-    or_right (outside 30 131086 len || kept above 65536 || len above 65550 + kept) (sound % 2 == 0 && not (pad == 0))
-    (and_from (sound % 2 == 0) (not (pad == 0)) (eq-eqb (sound % 2) 0 even) (ap not (ne_eqb pad 0 ne)))
+pub long_cmpr : (body : List ℕ) → origin_version body ≡ 2 → 65550 + kept_length body < length body → bad_version_2 body ≡ true
+long_cmpr body e lt =
+    bad_second_is body e
+    ∙ or_left _ _ (or_right (outside 30 131086 (length body) || kept_length body above 65536) (length body above 65550 + kept_length body)
+    (lt-ltb (65550 + kept_length body) (length body) lt))
 
-pub lawful_second : (len kept sound pad : ℕ) → 30 ≤ len → len ≤ 131086 → kept ≤ 65536 → len ≤ 65550 + kept →
-    (sound % 2 == 0 && not (pad == 0)) ≡ false → bad_second len kept sound pad ≡ false
-lawful_second len kept sound pad least most tail cmpr padded =
-    or_from _ _ (or_from _ _ (or_from _ _ (or_from _ _ (le-ltb len 30 least) (le-ltb 131086 len most)) (le-ltb 65536 kept tail))
-    (le-ltb (65550 + kept) len cmpr)) padded
+pub needless_pad : (body : List ℕ) → origin_version body ≡ 2 → number_at body 1 8 % 2 ≡ 0 → (get_or body 9 0 ≡ 0 → ⊥) → bad_version_2 body ≡ true
+needless_pad body e even ne =
+    bad_second_is body e
+    ∙ or_right (outside 30 131086 (length body) || kept_length body above 65536 || length body above 65550 + kept_length body)
+    (number_at body 1 8 % 2 == 0 && not (get_or body 9 0 == 0))
+    (and_from (number_at body 1 8 % 2 == 0) (not (get_or body 9 0 == 0)) (eq-eqb (number_at body 1 8 % 2) 0 even) (ap not (ne_eqb (get_or body 9 0) 0 ne)))
+
+pub lawful_second : (body : List ℕ) → origin_version body ≡ 2 → 30 ≤ length body → length body ≤ 131086 → kept_length body ≤ 65536 →
+    length body ≤ 65550 + kept_length body → ((number_at body 1 8 % 2 ≡ 0) × (get_or body 9 0 ≡ 0)) ⊎ (number_at body 1 8 % 2 ≡ 0 → ⊥) →
+    bad_version_2 body ≡ false
+lawful_second body e least most tail cmpr padded =
+    bad_second_is body e
+    ∙ or_from _ _ (or_from _ _ (or_from _ _ (or_from _ _ (le-ltb (length body) 30 least) (le-ltb 131086 (length body) most))
+    (le-ltb 65536 (kept_length body) tail)) (le-ltb (65550 + kept_length body) (length body) cmpr))
+    (no_needless_pad (number_at body 1 8) (get_or body 9 0) padded)
 
 -- `CMPR` of a body that is too short for one is empty
 pub cmpr_part : (body : List ℕ) (end : ℕ) → take (end - min end 14) (drop (min end 14) body) ≡ between body 14 end
@@ -103,9 +136,9 @@ cmpr_part body end = elim (cases_lt end 14) [
   | inr long ↦ let a : min end 14 ≡ 14 = omega arith in ap (λ k. take (end - k) (drop k body)) a
 ]
 
-pub no_needless_pad : (sound pad : ℕ) → ((sound % 2 ≡ 0) × (pad ≡ 0)) ⊎ (sound % 2 ≡ 0 → ⊥) → (sound % 2 == 0 && not (pad == 0)) ≡ false
-no_needless_pad sound pad (inl both) = and_right (sound % 2 == 0) (not (pad == 0)) (ap not (eq-eqb pad 0 both.1))
-no_needless_pad sound pad (inr odd) = and_left (sound % 2 == 0) (not (pad == 0)) (ne_eqb (sound % 2) 0 odd)
+pub pad_of_even : (sound pad : ℕ) → ((sound % 2 ≡ 0) × (pad ≡ 0)) ⊎ (sound % 2 ≡ 0 → ⊥) → sound % 2 ≡ 0 → pad ≡ 0
+pad_of_even sound pad (inl both) even = both.1
+pad_of_even sound pad (inr odd) even = absurd (odd even)
 
 same_second : (body : List ℕ) (sound s : ℕ) (cmpr w tail t : List ℕ) → sound ≡ s → cmpr ≡ w → tail ≡ t →
     kept_by body sound cmpr tail ≡ kept_by body s w t

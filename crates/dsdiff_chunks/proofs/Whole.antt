@@ -1,5 +1,6 @@
 -- A form is as its parts tell, and the rules on its kind speak of them.
-use Rattle.std.proofs.Common.{◌≡◌, ℕ, ◌+◌, ◌-◌, ◌/◌, ◌%◌, ◌≤◌, List, [], length, drop, Bool, true, false, Option, Some, None, refl, sym, ap, ◌∙◌, arith, lit<}
+use Rattle.std.proofs.Common.{◌≡◌, ℕ, ◌+◌, ◌-◌, ◌/◌, ◌%◌, ◌≤◌, List, [], length, drop, Bool, true, false, Option, Some, None, Ok, refl, sym, ap, subst, ◌∙◌, arith}
+use Rattle.std.proofs.Common.{lit<}
 use Rattle.std.specs.Prelude.{◌==◌, not, ◌||◌, filter, if◌then◌else◌, nat_le}
 use Rattle.std.proofs.lemmas.List.{take_all, length-drop}
 use Rattle.std.proofs.lemmas.List.Elements.{All-contains}
@@ -12,15 +13,18 @@ use Rattle.dsdiff_spec.specs.Faults.{◌when◌, ◌otherwise◌}
 use Rattle.dsdiff_spec.specs.Form.{Form, Kind, Origin, plain, coded, shape_of, frames_for}
 use Rattle.dsdiff_spec.specs.Parts.{form_size, form_end, top_level, prop_head, prop, sound_head, channel_count, multiple, sound_bytes_in, kind}
 use Rattle.dsdiff_spec.specs.Parts.{frames_needed, behind_form, frame_count, frame_rate}
-use Rattle.dsdiff_spec.specs.Rules.{room_fault, plain_fault, coded_fault, form_fault, kind_fault}
+use Rattle.dsdiff_spec.specs.Rules.{room_fault, plain_fault, coded_fault, form, form_fault, form_of_kind, kind_fault, local_fault}
 use Rattle.dsdiff_spec.specs.Rules.{is_frte, has_bad_origin}
 use Rattle.dsdiff_spec.specs.declared.faults.FileFault.{FileFault}
 use Rattle.dsdiff_spec.specs.declared.faults.FileFault.TheVariants.{SoundUneven, TooManyFrames, CodedChunk, TailTooLong, FrameRate, KeptBad}
+use Rattle.dsdiff_spec.proofs.Lawful.{rules_at_0}
 use Rattle.dsdiff_chunks.specs.declared.build.Parts.{Parts}
 use Rattle.dsdiff_chunks.specs.declared.common.Kind as sounds
 use Rattle.dsdiff_chunks.specs.Kinds.{kind_seen}
+use Rattle.dsdiff_chunks.specs.Lawful.{IsLawful, IsOfKind, TileTo}
 use Rattle.dsdiff_chunks.specs.Prepared.{AreParts, heads_of}
 use Rattle.dsdiff_chunks.specs.Seen.{head_seen}
+use Rattle.dsdiff_chunks.proofs.Chain.{form_is_accepted}
 use Rattle.dsdiff_chunks.proofs.Only.{passed_is_there}
 use Rattle.dsdiff_chunks.specs.Opening.{may_lack_pad, is_sound, plain_parts_fault, space_fault, is_of_coded, coded_sound_fault, are_bad_origins}
 
@@ -54,14 +58,14 @@ same_made : (k k' : Kind) (c c' m m' e e' : ℕ) (hs hs' : List Head) (p p' : Li
 same_made k k' c c' m m' e e' hs hs' p p' s s' n n' o o' b b' t t' a1 a2 a3 a4 a5 a6 a7 a8 a9 a10 a11 =
     rw (a1, a2, a3, a4, a5, a6, a7, a8, a9, a10, a11) refl
 
-pub same_form : (f g : Form) → f.kind ≡ g.kind → f.channels ≡ g.channels → f.multiple ≡ g.multiple → f.end ≡ g.end → f.chunks ≡ g.chunks →
+same_form : (f g : Form) → f.kind ≡ g.kind → f.channels ≡ g.channels → f.multiple ≡ g.multiple → f.end ≡ g.end → f.chunks ≡ g.chunks →
     f.prop ≡ g.prop → f.sound ≡ g.sound → f.frames ≡ g.frames → f.origin ≡ g.origin → f.pad ≡ g.pad → f.behind ≡ g.behind → f ≡ g
 same_form f g a1 a2 a3 a4 a5 a6 a7 a8 a9 a10 a11 =
     same_made f.kind g.kind f.channels g.channels f.multiple g.multiple f.end g.end f.chunks g.chunks f.prop g.prop f.sound g.sound
     f.frames g.frames f.origin g.origin f.pad g.pad f.behind g.behind a1 a2 a3 a4 a5 a6 a7 a8 a9 a10 a11
 
 -- ---- the shape of a frame
-pub multiple_back : (s : Shape) (c m : ℕ) → s ≡ shape_of c m → s.octets / 4704 ≡ m
+multiple_back : (s : Shape) (c m : ℕ) → s ≡ shape_of c m → s.octets / 4704 ≡ m
 multiple_back s c m e = ap (λ t. t.octets / 4704) e ∙ mul-div_cancel_left m {n = 4704} (lit< tt)
 
 pub shape_back : (s : Shape) (c m : ℕ) → s ≡ shape_of c m → shape_of s.channels (s.octets / 4704) ≡ s
@@ -72,10 +76,10 @@ pub frame_bytes_of : (xs body : List ℕ) (s : Shape) → prop xs ≡ body → s
     sound_bytes_in (prop xs) ≡ sound_bytes s
 frame_bytes_of xs body s e is_shape = ap sound_bytes_in e ∙ sym (ap sound_bytes is_shape)
 
-pub channels_of : (xs body : List ℕ) (s : Shape) → prop xs ≡ body → s ≡ shape_of (channel_count body) (multiple body) → channel_count (prop xs) ≡ s.channels
+channels_of : (xs body : List ℕ) (s : Shape) → prop xs ≡ body → s ≡ shape_of (channel_count body) (multiple body) → channel_count (prop xs) ≡ s.channels
 channels_of xs body s e is_shape = ap channel_count e ∙ sym (ap (λ t. t.channels) is_shape)
 
-pub multiple_of : (xs body : List ℕ) (s : Shape) → prop xs ≡ body → s ≡ shape_of (channel_count body) (multiple body) → multiple (prop xs) ≡ s.octets / 4704
+multiple_of : (xs body : List ℕ) (s : Shape) → prop xs ≡ body → s ≡ shape_of (channel_count body) (multiple body) → multiple (prop xs) ≡ s.octets / 4704
 multiple_of xs body s e is_shape = ap multiple e ∙ sym (multiple_back s (channel_count body) (multiple body) is_shape)
 
 -- ---- the kind
@@ -169,7 +173,7 @@ coded_at_sound xs sound f snd e =
 pub count_by_parts : (xs : List ℕ) (sound : Head) (n : ℕ) → sound_head xs ≡ sound → n ≡ number_at xs (sound.place + 12 + 12) 4 → frame_count xs ≡ n
 count_by_parts xs sound n snd e = ap (λ h. number_at xs (h.place + 12 + 12) 4) snd ∙ sym e
 
-pub coded_past_sound : (xs body : List ℕ) (heads : List Head) (sound : Head) (s : Shape) (n : ℕ) →
+coded_past_sound : (xs body : List ℕ) (heads : List Head) (sound : Head) (s : Shape) (n : ℕ) →
     (top_level xs).heads ≡ heads → prop xs ≡ body → sound_head xs ≡ sound → s ≡ shape_of (channel_count body) (multiple body) →
     n ≡ number_at xs (sound.place + 12 + 12) 4 → coded_sound_fault xs sound ≡ None →
     coded_fault xs ≡ (KeptBad when are_bad_origins s.channels (sound_bytes s) n xs (named "KEPT" heads))
@@ -182,3 +186,53 @@ coded_past_sound xs body heads sound s n top b snd is_shape is_count e =
     ∙ ap (λ c. KeptBad when are_bad_origins s.channels c (frame_count xs) xs (named "KEPT" (top_level xs).heads)) (frame_bytes_of xs body s b is_shape)
     ∙ ap (λ m. KeptBad when are_bad_origins s.channels (sound_bytes s) m xs (named "KEPT" (top_level xs).heads)) (count_by_parts xs sound n snd is_count)
     ∙ ap (λ hs. KeptBad when are_bad_origins s.channels (sound_bytes s) n xs (named "KEPT" hs)) top
+
+-- of parts whose coded sound is accepted, only the rule on the place in the original is left
+pub coded_left : {bytes : Option (List ℕ)} {known : Option ℕ} {p : Parts} → AreParts bytes known p → p.sound.kind ≡ sounds.Kind.Coded →
+    (xs : List ℕ) → bytes ≡ Some xs → (n : ℕ) → n ≡ number_at xs (p.sound.head.place + 12 + 12) 4 → coded_sound_fault xs (head_seen p.sound.head) ≡ None →
+    form_fault xs ≡ (KeptBad when are_bad_origins p.prop.fields.channels.channels (sound_bytes p.prop.fields.channels) n xs (named "KEPT" (heads_of p)))
+coded_left {p = p} parts of_kind xs told n is_count accepted =
+    let has = parts.told xs told in
+    (kind_left parts of_kind xs told).1
+    ∙ coded_past_sound xs p.prop.body.items (heads_of p) (head_seen p.sound.head) p.prop.fields.channels n has.chunks has.body has.sound parts.shape
+    is_count accepted
+
+-- ---- the form of some parts, and what its kind adds: frames, place in the original, pad byte and what stands behind
+abbrev pub form_of_parts : Parts → Kind → List Head → List ℕ → ℕ → Option Origin → ℕ → List ℕ → Form
+form_of_parts p k heads body n o b t =
+    made k p.prop.fields.channels.channels (p.prop.fields.channels.octets / 4704) p.chunks.end heads body (head_seen p.sound.head) n o b t
+
+pub form_is : {bytes : Option (List ℕ)} {known : Option ℕ} {p : Parts} {k : sounds.Kind} → AreParts bytes known p → p.sound.kind ≡ k →
+    (xs : List ℕ) → bytes ≡ Some xs → form_fault xs ≡ None → {heads : List Head} {body : List ℕ} {n : ℕ} {o : Option Origin} {b : ℕ} {t : List ℕ} →
+    heads_of p ≡ heads → p.prop.body.items ≡ body →
+    (form_of_kind (kind_seen k) xs).frames ≡ n → (form_of_kind (kind_seen k) xs).origin ≡ o →
+    (form_of_kind (kind_seen k) xs).pad ≡ b → (form_of_kind (kind_seen k) xs).behind ≡ t →
+    form xs ≡ Ok (form_of_parts p (kind_seen k) heads body n o b t)
+form_is {p = p} {k = k} parts of_kind xs told accepted heads_are body_is frames origin pad behind =
+    let has = parts.told xs told in
+    form_is_accepted xs accepted
+    ∙ ap Ok
+    (ap (λ k. form_of_kind k xs) (kind_left parts of_kind xs told).0
+    ∙ same_form (form_of_kind (kind_seen k) xs) _ refl (channels_of xs p.prop.body.items p.prop.fields.channels has.body parts.shape)
+    (multiple_of xs p.prop.body.items p.prop.fields.channels has.body parts.shape) has.ends (has.chunks ∙ heads_are) (has.body ∙ body_is) has.sound
+    frames origin pad behind)
+
+-- it is lawful, where it is by what its kind adds
+pub form_is_lawful : {bytes : Option (List ℕ)} {known : Option ℕ} {p : Parts} → AreParts bytes known p →
+    {k : Kind} {heads : List Head} {body : List ℕ} {n : ℕ} {o : Option Origin} {b : ℕ} {t : List ℕ} →
+    heads_of p ≡ heads → p.prop.body.items ≡ body → n ≤ 1000000 → IsOfKind k (form_of_parts p k heads body n o b t) →
+    IsLawful (form_of_parts p k heads body n o b t)
+form_is_lawful {p = p} parts heads_are body_is few of_kind = record {
+  end = parts.chunks.most;
+  few = subst (λ (hs : List Head). length hs ≤ 1024) heads_are parts.chunks.few;
+  chunks = subst (λ (hs : List Head). TileTo p.chunks.end 16 hs) heads_are parts.chunks.tiled;
+  sound = ap (filter is_sound) (sym heads_are) ∙ parts.sound.found;
+  prop = record {
+    most = subst (λ (b : List ℕ). length b ≤ 65536) body_is parts.most;
+    rules = ap (λ b. local_fault 0 b) (sym body_is) ∙ rules_at_0 (p.prop_head.place + 12) p.prop.body.items parts.rules;
+  };
+  channels = ap (λ s. s.channels) parts.shape ∙ ap channel_count body_is;
+  multiple = multiple_back p.prop.fields.channels (channel_count p.prop.body.items) (multiple p.prop.body.items) parts.shape ∙ ap multiple body_is;
+  frames = few;
+  of_kind = of_kind;
+}

@@ -8,7 +8,6 @@ ghost use Rattle.dsdiff_chunks.specs.Seen.{origin_seen};
 
 use crate::lists::Octets;
 use byteorder::{BigEndian, ByteOrder};
-use chunk_view::compression_of;
 use dst_num::Channels;
 use std::alloc::{AllocError, Global};
 
@@ -132,21 +131,15 @@ fn parts_of_second<'a>(body: &'a [u8]) -> Option<OriginParts<'a>>
 fn is_plain_cmpr(cmpr: &[u8]) -> bool
     ensures { MatchBool result (is_bad_cmpr cmpr.now ≡ false) (is_bad_cmpr cmpr.now ≡ true) }
 {
-    if cmpr.len() < 16 || !cmpr.starts_with(b"CMPR") {
+    if cmpr.len() < 16 || cmpr[..4] != b"CMPR"[..] {
         return false;
     }
     let size = BigEndian::read_u64(&cmpr[4..]);
     let long = (cmpr.len() - 12) as u64;
-    if size < 4 {
+    if size < 4 || size > long || long - size != size % 2 {
         return false;
     }
-    if size > long || long - size != size % 2 {
-        return false;
-    }
-    match compression_of(&cmpr[12..]) {
-        Some(compression) => compression == *b"DSD ",
-        None => false,
-    }
+    cmpr[12..16] == b"DSD "[..]
 }
 
 // Whether a sound of this size is of these channels, and stands in so many frames.

@@ -1,24 +1,20 @@
 -- The rules on a coded form speak of its parts, and where none fails the form is as they tell.
-use Rattle.std.proofs.Common.{◌≡◌, ℕ, ◌+◌, ◌≤◌, List, length, map, Some, Ok, refl, sym, ap, ◌∙◌, subst, arith}
-use Rattle.std.specs.Prelude.{filter, option_map}
+use Rattle.std.proofs.Common.{◌≡◌, ℕ, ◌≤◌, List, map, Some, refl, sym, ap, ◌∙◌, subst, arith}
+use Rattle.std.specs.Prelude.{option_map}
 use Rattle.dst_spec.specs.Sample.{sound_bytes}
-use Rattle.dsdiff_spec.specs.Chunks.{Head, named, body_end}
+use Rattle.dsdiff_spec.specs.Chunks.{named, body_end}
 use Rattle.dsdiff_spec.specs.Faults.{◌when◌}
-use Rattle.dsdiff_spec.specs.Form.{coded}
 use Rattle.dsdiff_spec.specs.Parts.{channel_count, multiple}
-use Rattle.dsdiff_spec.specs.Rules.{local_fault, form_fault, form_of_kind, origin_in}
+use Rattle.dsdiff_spec.specs.Rules.{form_fault, origin_in}
 use Rattle.dsdiff_spec.specs.declared.faults.FileFault.TheVariants.{KeptBad}
-use Rattle.dsdiff_spec.proofs.Lawful.{rules_at_0}
 use Rattle.dsdiff_chunks.specs.declared.lists.ChunkHead.{ChunkHead}
-use Rattle.dsdiff_chunks.specs.Lawful.{TileTo, IsOriginIfAny}
+use Rattle.dsdiff_chunks.specs.Lawful.{IsOriginIfAny}
 use Rattle.dsdiff_chunks.specs.Opening.{is_sound, are_bad_origins}
 use Rattle.dsdiff_chunks.specs.Prepared.{heads_of}
 use Rattle.dsdiff_chunks.specs.Seen.{head_seen, origin_seen}
-use Rattle.dsdiff_chunks.proofs.Chain.{form_is_accepted}
 use Rattle.dsdiff_chunks.proofs.Only.{only_within}
 use Rattle.dsdiff_chunks.proofs.Stopping.{Stops-in}
-use Rattle.dsdiff_chunks.proofs.Whole.{kind_left, same_form, multiple_back, shape_back, channels_of, multiple_of, coded_at_sound, count_by_parts}
-use Rattle.dsdiff_chunks.proofs.Whole.{coded_past_sound}
+use Rattle.dsdiff_chunks.proofs.Whole.{kind_left, coded_left, shape_back, coded_at_sound, count_by_parts, form_is, form_is_lawful}
 use Rattle.dsdiff_chunks.proofs.build.coded_form.Given.{Over}
 use Rattle.dsdiff_chunks.proofs.build.coded_form.Goals as goal
 use Rattle.dsdiff_chunks.proofs.build.coded_form.Goals.{After-as_slice}
@@ -52,13 +48,8 @@ origin_left : (g : Over) (c : After-as_slice g) (xs : List ℕ) → g.S.Source.b
     form_fault xs ≡ (KeptBad when are_bad_origins c.args.parts.prop.fields.channels.channels (sound_bytes c.args.parts.prop.fields.channels) c.in-Ok.frames xs
     (named "KEPT" (map head_seen c.as_slice.result.now)))
 origin_left g c xs told =
-    let p = c.args.parts in
-    let parts = c.requires.parts in
-    let has = parts.told xs told in
-    let shape = p.prop.fields.channels in
-    (kind_left parts c.requires.kind xs told).1
-    ∙ coded_past_sound xs p.prop.body.items (heads_of p) (head_seen p.sound.head) shape c.in-Ok.frames has.chunks has.body has.sound parts.shape
-    (c.in-Ok.ensures.count xs told) (c.in-Ok.ensures.accepted xs told)
+    let shape = c.args.parts.prop.fields.channels in
+    coded_left c.requires.parts c.requires.kind xs told c.in-Ok.frames (c.in-Ok.ensures.count xs told) (c.in-Ok.ensures.accepted xs told)
     ∙ ap (λ (hs : List ChunkHead). KeptBad when are_bad_origins shape.channels (sound_bytes shape) c.in-Ok.frames xs (named "KEPT" (map head_seen hs)))
     (sym c.as_slice.ensures.value)
 
@@ -72,56 +63,31 @@ returns-in-Err-read_any_origin-clause-stops g c =
 
 pub returns-clause-form : goal.returns-clause-form
 returns-clause-form g c xs told =
-    let p = c.args.parts in
-    let parts = c.requires.parts in
-    let has = parts.told xs told in
-    let shape = p.prop.fields.channels in
+    let has = c.requires.parts.told xs told in
     let kept = c.in-Ok-read_any_origin.ensures in
     let there = c.in-Ok.ensures.source.same_bytes ∙ told in
-    form_is_accepted xs (origin_left g c.before.before.before.before.before.before xs told ∙ ap (λ b. KeptBad when b) (kept.accepted xs there))
-    ∙ ap Ok
-    (ap (λ k. form_of_kind k xs) (kind_left parts c.requires.kind xs told).0
-    ∙ same_form (form_of_kind coded xs) _ refl (channels_of xs p.prop.body.items shape has.body parts.shape)
-    (multiple_of xs p.prop.body.items shape has.body parts.shape)
-    has.ends
-    (has.chunks ∙ sym (ap (map head_seen) c.from_vec.ensures))
-    (has.body ∙ sym c.from_vec-2.ensures)
-    has.sound
-    (count_by_parts xs (head_seen p.sound.head) c.in-Ok.frames has.sound (c.in-Ok.ensures.count xs told))
+    form_is c.requires.parts c.requires.kind xs told
+    (origin_left g c.before.before.before.before.before.before xs told ∙ ap (λ b. KeptBad when b) (kept.accepted xs there))
+    (sym (ap (map head_seen) c.from_vec.ensures)) (sym c.from_vec-2.ensures)
+    (count_by_parts xs (head_seen c.args.parts.sound.head) c.in-Ok.frames has.sound (c.in-Ok.ensures.count xs told))
     (ap (λ hs. origin_in xs (named "KEPT" hs)) has.chunks
     ∙ ap (λ (hs : List ChunkHead). origin_in xs (named "KEPT" (map head_seen hs))) (sym c.as_slice.ensures.value)
     ∙ sym (kept.origin xs there))
-    refl
-    refl)
+    refl refl
 
 pub invariant_of-result : goal.invariant_of-result
 invariant_of-result g c =
-    let p = c.args.parts in
-    let parts = c.requires.parts in
-    let shape = p.prop.fields.channels in
-    let heads : heads_of p ≡ map head_seen c.from_vec.result = sym (ap (map head_seen) c.from_vec.ensures) in
-    let body : p.prop.body.items ≡ c.from_vec-2.result = sym c.from_vec-2.ensures in
-    let back = shape_back shape (channel_count p.prop.body.items) (multiple p.prop.body.items) parts.shape in
+    let shape = c.args.parts.prop.fields.channels in
+    let body = c.args.parts.prop.body.items in
+    let back = shape_back shape (channel_count body) (multiple body) c.requires.parts.shape in
     record {
-      lawful = record {
-        end = parts.chunks.most;
-        few = subst (λ (hs : List Head). length hs ≤ 1024) heads parts.chunks.few;
-        chunks = subst (λ (hs : List Head). TileTo p.chunks.end 16 hs) heads parts.chunks.tiled;
-        sound = ap (filter is_sound) (sym heads) ∙ parts.sound.found;
-        prop = record {
-          most = subst (λ (b : List ℕ). length b ≤ 65536) body parts.most;
-          rules = ap (λ b. local_fault 0 b) (sym body) ∙ rules_at_0 (p.prop_head.place + 12) p.prop.body.items parts.rules;
-        };
-        channels = ap (λ s. s.channels) parts.shape ∙ ap channel_count body;
-        multiple = multiple_back shape (channel_count p.prop.body.items) (multiple p.prop.body.items) parts.shape ∙ ap multiple body;
-        frames = c.in-Ok.ensures.few;
-        of_kind = record {
-          least = c.in-Ok.ensures.least;
-          origin = subst (λ (n : ℕ). IsOriginIfAny shape.channels n c.in-Ok.frames (option_map origin_seen c.in-Ok-read_any_origin.origin))
-              (sym (ap sound_bytes back)) c.in-Ok-read_any_origin.ensures.lawful;
-          pad = refl;
-          behind = refl;
-        };
-      };
+      lawful = form_is_lawful c.requires.parts (sym (ap (map head_seen) c.from_vec.ensures)) (sym c.from_vec-2.ensures) c.in-Ok.ensures.few
+          (record {
+            least = c.in-Ok.ensures.least;
+            origin = subst (λ (n : ℕ). IsOriginIfAny shape.channels n c.in-Ok.frames (option_map origin_seen c.in-Ok-read_any_origin.origin))
+                (sym (ap sound_bytes back)) c.in-Ok-read_any_origin.ensures.lawful;
+            pad = refl;
+            behind = refl;
+          });
       shape = back;
     }

@@ -13,7 +13,7 @@ use Rattle.dsdiff_spec.specs.Parts.{local, rate, channel_count}
 use Rattle.dsdiff_spec.specs.Rules.{rate_fault, channels_fault, compression_fault}
 use Rattle.dsdiff_chunks.specs.Local.{is_bad_rate, is_bad_count, is_bad_compression}
 use Rattle.dsdiff_chunks.proofs.Fields.{first_refuses, later, rate_of_one, count_of_one, compression_of_one, count_of_others, compression_of_others, rate_reads}
-use Rattle.dsdiff_chunks.proofs.Fields.{count_reads}
+use Rattle.dsdiff_chunks.proofs.Fields.{compression_reads, count_reads, rate_of_others}
 use Rattle.dsdiff_chunks.proofs.prop.read_fields.Goals as goal
 
 -- a chunk that is the only one of its name, and what is said of its body
@@ -32,6 +32,10 @@ compression_said body v b one e bad = compression_of_one body v.body.now (head_b
 
 abbrev behind_rate : List ℕ → Option FileFault
 behind_rate body = channels_fault body otherwise compression_fault body
+
+pub returns-in_default-clause-refused : goal.returns-in_default-clause-refused
+returns-in_default-clause-refused c =
+    first_refuses (rate_fault c.args.body.now) (behind_rate c.args.body.now) Rate (rate_of_others c.args.body.now c.in_default.ensures.none)
 
 pub returns-in_default-rate_in-clause-refused : goal.returns-in_default-rate_in-clause-refused
 returns-in_default-rate_in-clause-refused c =
@@ -95,3 +99,10 @@ returns-clause-channels c =
     ∙ sym c.in-Some-count_in.ensures.count)
     (rate_reads body fs.body.now (head_behind 4 (seen fs)) c.in-Some.ensures.one c.in-Some.ensures.body refl c.in-Some-rate_in.ensures.some
     ∙ sym c.in-Some-rate_in.ensures.rate)
+
+pub returns-clause-compression : goal.returns-clause-compression
+returns-clause-compression c =
+    let cmpr = c.in-Some-local-2.cmpr in
+    c.in-Some-compression_in.ensures.compression
+    ∙ sym (compression_reads c.args.body.now cmpr.body.now (head_behind 4 (seen cmpr)) c.in-Some-local-2.ensures.one c.in-Some-local-2.ensures.body refl
+    c.in-Some-compression_in.ensures.some)
