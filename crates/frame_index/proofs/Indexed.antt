@@ -1,16 +1,18 @@
 -- The index of a form, and a frame that is found by it.
-use Rattle.std.proofs.Common.{◌≡◌, ℕ, ◌+◌, ◌-◌, ◌*◌, ◌≤◌, Bool, true, false, List, [], ◌∷◌, length, Option, Some, None, refl, sym, ap, ◌∙◌, arith, add-zero}
+use Rattle.std.proofs.Common.{◌≡◌, ℕ, ◌+◌, ◌-◌, ◌*◌, ◌<◌, ◌≤◌, Bool, true, false, List, [], ◌∷◌, length, Option, Some, None, refl, sym, ap, ◌∙◌}
+use Rattle.std.proofs.Common.{add-zero, arith}
 use Rattle.std.specs.Prelude.{◌==◌, ◌&&◌, ◌||◌, not, if◌then◌else◌}
-use Rattle.std.proofs.lemmas.Bool.{and_parts, le-ltb, ltb-false, not-true}
+use Rattle.std.proofs.lemmas.Bool.{and_parts, le-ltb, lt-ltb, ltb-false, not-true}
 use Rattle.dsdiff_spec.specs.Bytes.{bytes_at, number_at, ◌is◌, ◌above◌}
 use Rattle.dsdiff_spec.specs.Chunks.{Head, head_at, named, body_place, body_end, next_place}
 use Rattle.dsdiff_spec.specs.Faults.{◌when◌, ◌otherwise◌}
 use Rattle.dsdiff_spec.specs.Form.{Form, longest_frame}
 use Rattle.dsdiff_spec.specs.Walk.{Entry, index_heads, index_head, indexed, has_index_of, names_frame, by_index_fault}
 use Rattle.dsdiff_spec.specs.declared.faults.FileFault.{FileFault}
-use Rattle.dsdiff_spec.specs.declared.faults.FileFault.TheVariants.{IndexMissing, IndexBad}
+use Rattle.dsdiff_spec.specs.declared.faults.FileFault.TheVariants.{FrameTooLong, IndexMissing, IndexBad}
 use Rattle.dsdiff_chunks.specs.Lawful.{TileTo}
 use Rattle.frame_index.specs.Entries.{entries_in, entry_at}
+use Rattle.frame_index.specs.Fitting.{IsInside}
 use Rattle.frame_index.specs.Lookup.{IsRead, index_fault, lies_inside}
 use Rattle.frame_index.proofs.Entries.{length-entries_in, entry-entries_in}
 use Rattle.chunk_view.proofs.InParts.{number_in_part}
@@ -70,6 +72,12 @@ frame_is_named xs form e h inside reads =
     ∙ ap (λ i. bytes_at xs at 4 is "DSTF" && number_at xs i 8 == e.size) size_place
     ∙ ap (λ b. b && bytes_at xs at 4 is "DSTF" && number_at xs (e.offset - 8) 8 == e.size) (sym inside)
 
+-- the entry that was read at its place in the index
+pub entry_read : (xs : List ℕ) (form : Form) (h : Head) (e : Entry) (k n : ℕ) → index_head form ≡ h → n ≡ k → e ≡ entry_from xs (body_place h + 12 * n) →
+    indexed xs form k ≡ e
+entry_read xs form h e k n first same reads =
+    ap (λ i. entry_from xs (body_place i + 12 * k)) first ∙ ap (λ m. entry_from xs (body_place h + 12 * m)) (sym same) ∙ sym reads
+
 -- ---- the fault of a look-up
 missing_or_bad : (missing has names : Bool) (k : ℕ) (later : Option FileFault) (fault : FileFault) →
     (IndexMissing when missing otherwise IndexBad k when not has) ≡ Some fault →
@@ -82,16 +90,42 @@ pub no_index : (xs : List ℕ) (form : Form) (k : ℕ) (fault : FileFault) → i
 no_index xs form k fault p =
     missing_or_bad (length (index_heads form) == 0) (has_index_of form form.frames) (names_frame xs form (indexed xs form k)) k _ fault p
 
+not_named : (missing has names : Bool) (k : ℕ) (later : Option FileFault) → (IndexMissing when missing otherwise IndexBad k when not has) ≡ None →
+    names ≡ false → (IndexMissing when missing otherwise IndexBad k when not has || not names otherwise later) ≡ Some (IndexBad k)
+not_named true has names k later e n = absurd cc
+not_named false false names k later e n = absurd cc
+not_named false true names k later e n = rw n refl
+
+pub names_none : (xs : List ℕ) (form : Form) (k : ℕ) (e : Entry) → index_fault form k ≡ None → indexed xs form k ≡ e → names_frame xs form e ≡ false →
+    by_index_fault xs form k ≡ Some (IndexBad k)
+names_none xs form k e accepted here names =
+    not_named (length (index_heads form) == 0) (has_index_of form form.frames) (names_frame xs form (indexed xs form k)) k _ accepted
+    (ap (names_frame xs form) here ∙ names)
+
 -- ---- a frame that is found
-none_fails : (missing has names long : Bool) (k : ℕ) (fault : FileFault) → (IndexMissing when missing otherwise IndexBad k when not has) ≡ None →
-    names ≡ true → long ≡ false → (IndexMissing when missing otherwise IndexBad k when not has || not names otherwise fault when long) ≡ None
-none_fails true has names long k fault e n l = absurd cc
-none_fails false false names long k fault e n l = absurd cc
-none_fails false true names long k fault e n l = rw (n, l) refl
+only_length : (missing has names : Bool) (k : ℕ) (later : Option FileFault) → (IndexMissing when missing otherwise IndexBad k when not has) ≡ None →
+    names ≡ true → (IndexMissing when missing otherwise IndexBad k when not has || not names otherwise later) ≡ later
+only_length true has names k later e n = absurd cc
+only_length false false names k later e n = absurd cc
+only_length false true names k later e n = rw n refl
+
+-- only the rule on its length is left of a frame that its entry names
+length_left : (xs : List ℕ) (form : Form) (k : ℕ) (e : Entry) → index_fault form k ≡ None → indexed xs form k ≡ e → names_frame xs form e ≡ true →
+    by_index_fault xs form k ≡ (FrameTooLong k e.size when e.size above longest_frame form)
+length_left xs form k e accepted here names =
+    only_length (length (index_heads form) == 0) (has_index_of form form.frames) (names_frame xs form (indexed xs form k)) k _ accepted
+    (ap (names_frame xs form) here ∙ names)
+    ∙ ap (λ i. FrameTooLong k i.size when i.size above longest_frame form) here
+
+pub found_too_long : (xs : List ℕ) (form : Form) (k : ℕ) (e : Entry) → index_fault form k ≡ None → indexed xs form k ≡ e → names_frame xs form e ≡ true →
+    longest_frame form < e.size → by_index_fault xs form k ≡ Some (FrameTooLong k e.size)
+found_too_long xs form k e accepted here names long =
+    length_left xs form k e accepted here names ∙ ap (λ b. FrameTooLong k e.size when b) (lt-ltb (longest_frame form) e.size long)
 
 pub found_by_index : (xs : List ℕ) (form : Form) (k : ℕ) (e : Entry) → index_fault form k ≡ None → indexed xs form k ≡ e →
     names_frame xs form e ≡ true → e.size ≤ longest_frame form → by_index_fault xs form k ≡ None
-found_by_index xs form k e accepted here named short =
-    none_fails (length (index_heads form) == 0) (has_index_of form form.frames) (names_frame xs form (indexed xs form k))
-    ((indexed xs form k).size above longest_frame form) k _ accepted
-    (ap (names_frame xs form) here ∙ named) (ap (λ i. i.size above longest_frame form) here ∙ le-ltb (longest_frame form) e.size short)
+found_by_index xs form k e accepted here names short =
+    length_left xs form k e accepted here names ∙ ap (λ b. FrameTooLong k e.size when b) (le-ltb (longest_frame form) e.size short)
+
+pub frame_inside : (form : Form) (e : Entry) → lies_inside form e ≡ true → e.size ≤ longest_frame form → IsInside form e
+frame_inside form e inside short = record { behind = behind_head form e inside; before = before_end form e inside; short = short }

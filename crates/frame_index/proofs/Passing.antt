@@ -1,6 +1,6 @@
 -- A walk from chunk to chunk.
 use Rattle.std.proofs.Common.{◌≡◌, ℕ, suc, ◌+◌, ◌-◌, ◌<◌, ◌≤◌, true, false, List, [], length, take, Option, Some, None, Result, Err, Ok, refl, sym}
-use Rattle.std.proofs.Common.{ap, ◌∙◌, subst, arith}
+use Rattle.std.proofs.Common.{ap, ◌∙◌, subst, arith, length-take}
 use Rattle.std.proofs.Math.Seq.{take-nil}
 use Rattle.std.proofs.lemmas.List.{take_all}
 use Rattle.dsdiff_spec.specs.Bytes.{◌is◌}
@@ -25,6 +25,10 @@ pub record HasWalked (form : Form) (bytes : Option (List ℕ)) (passed place fra
   pub keeps : kept ≡ take form.frames found
   pub fit : AreInOrder form place found
   pub told : (xs : List ℕ) → bytes ≡ Some xs → IsLeft xs form found (chunks_behind xs form passed place)
+
+pub kept_are_few : {form : Form} {bytes : Option (List ℕ)} {passed place frames : ℕ} {kept : List Entry} → HasWalked form bytes passed place frames kept →
+    length kept ≤ frames
+kept_are_few {form = form} w = omega (arith, ap length w.keeps, length-take form.frames w.found, w.count)
 
 pub walk_begins : (form : Form) (bytes : Option (List ℕ)) (kept : List Entry) → kept ≡ [] →
     HasWalked form bytes 0 (body_place form.sound + 18) 0 kept

@@ -1,5 +1,6 @@
 -- The loop keeps what was found up to its place.
-use Rattle.std.proofs.Common.{◌≡◌, ℕ, ◌+◌, ◌^◌, ◌%◌, ◌<◌, ◌≤◌, Ok, Err, refl, sym, ap, subst, ◌∙◌, arith}
+use Rattle.std.proofs.Common.{◌≡◌, ℕ, ◌+◌, ◌*◌, ◌^◌, ◌%◌, ◌<◌, ◌≤◌, Ok, Err, refl, sym, ap, subst, ◌∙◌, arith}
+use Rattle.dst_streams.proofs.Counts.{Rose-earlier}
 use Rattle.dsdiff_spec.specs.Chunks.{body_end, next_place}
 use Rattle.dsdiff_chunks.specs.Forms.{coded_seen}
 use Rattle.dsdiff_chunks.specs.Seen.{head_seen}
@@ -8,7 +9,7 @@ use Rattle.dsdiff_chunks.specs.declared.lists.ChunkHead.{ChunkHead}
 use Rattle.dsdiff_chunks.proofs.LawfulForms.{sound_inside}
 use Rattle.frame_index.specs.Entries.{Gathered}
 use Rattle.frame_index.specs.Fitting.{IsIndexOf}
-use Rattle.frame_index.proofs.Passing.{walk_begins, walk_goes_on, same_error, same_fault, stops_at_limit, stops_at_misfit, stops_at_bad_frame}
+use Rattle.frame_index.proofs.Passing.{kept_are_few, walk_begins, walk_goes_on, same_error, same_fault, stops_at_limit, stops_at_misfit, stops_at_bad_frame}
 use Rattle.frame_index.proofs.Passing.{stops_at_other_count, walk_is, walk_fits}
 use Rattle.frame_index.proofs.frames.walk_from.Goals as goal
 
@@ -23,6 +24,13 @@ more_chunks most differ = omega (arith, most, differ)
 -- a chunk whose head stands at the place has its body before the end
 chunk_within : {place end : ℕ} (head : ChunkHead) → head.place ≡ place → place + 12 + head.size ≤ end → body_end (head_seen head) ≤ end
 chunk_within head at within = omega (arith, at, within)
+
+-- what is given of so many heads, and of one more
+given_next : (before mid passed now : ℕ) → mid ≤ before + 12 * passed → now ≤ mid + 12 → now ≤ before + 12 * (passed + 1)
+given_next before mid passed now all next = omega arith
+
+given_in_all : (before mid passed now : ℕ) → mid ≤ before + 12 * passed → passed < 4000000 → now ≤ mid + 12 → now ≤ before + 48000000
+given_in_all before mid passed now all few next = omega arith
 
 pub overflow_add-end : goal.overflow_add-end
 overflow_add-end g c = omega (arith, sound_low c.args.form.now)
@@ -106,7 +114,7 @@ loop-place-preserved g c =
       known = c.in-Ok.ensures.size_stays ∙ c.loop-place.invariant.known;
       loan = c.in-Ok.ensures.loan ∙ c.loop-place.invariant.loan;
       faults = omega (arith, c.in-Ok.ensures.later, c.loop-place.invariant.faults);
-      given = omega (arith, c.in-Ok.ensures.given, c.loop-place.invariant.given);
+      given = given_next _ _ c.loop-place.passed _ c.loop-place.invariant.given c.in-Ok.ensures.given;
       few = omega (arith, few);
       behind = omega (arith, c.loop-place.invariant.behind);
       before = omega (arith, c.in-Ok.ensures.within);
@@ -139,3 +147,22 @@ returns-clause-fits g c =
     subst (IsIndexOf (coded_seen c.args.form.now)) (sym c.into_index.ensures)
     (walk_fits (coded_seen c.args.form.now) (g.S.Source.bytes c.args.source.now) c.loop-place.passed c.loop-place.place c.loop-place.frames
     c.loop-place.entries.entries c.loop-place.invariant.walked c.if-frames-form.false)
+
+pub returns-in-Err-clause-given : goal.returns-in-Err-clause-given
+returns-in-Err-clause-given g c =
+    given_in_all _ _ c.loop-place.passed _ c.loop-place.invariant.given (more_chunks c.loop-place.invariant.few c.if-passed-eq-MOST_CHUNKS.false)
+    c.in-Err.ensures.given
+
+pub returns-in-Err-clause-read : goal.returns-in-Err-clause-read
+returns-in-Err-clause-read g c e = Rose-earlier _ _ _ c.loop-place.invariant.faults (c.in-Err.ensures.read (ap Err (same_error _ _ e)))
+
+pub returns-in-Err-clause-never_memory : goal.returns-in-Err-clause-never_memory
+returns-in-Err-clause-never_memory g c refused e = c.in-Err.ensures.never_memory refused (ap Err (same_error _ _ e))
+
+pub pass_chunk-requires-clause-few : goal.pass_chunk-requires-clause-few
+pass_chunk-requires-clause-few g c = kept_are_few c.loop-place.invariant.walked
+
+pub returns-in-Err-pass_chunk-clause-given : goal.returns-in-Err-pass_chunk-clause-given
+returns-in-Err-pass_chunk-clause-given g c =
+    given_in_all _ _ c.loop-place.passed _ c.loop-place.invariant.given (more_chunks c.loop-place.invariant.few c.if-passed-eq-MOST_CHUNKS.false)
+    c.in-Ok.ensures.given
