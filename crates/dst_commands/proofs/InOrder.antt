@@ -1,5 +1,5 @@
 -- Rules in order: what the ones before leave, and the first that fails.
-use Rattle.std.proofs.Common.{◌≡◌, ℕ, ◌<◌, List, true, false, Option, Some, None, Result, refl, ap, ◌∙◌}
+use Rattle.std.proofs.Common.{◌≡◌, ℕ, ◌<◌, List, true, false, Option, Some, None, Result, Ok, refl, ap, sym, subst, ◌∙◌}
 use Rattle.std.specs.Prelude.{not}
 use Rattle.std.proofs.lemmas.Bool.{ltb-true, not-false}
 use Rattle.dst_streams.specs.Causes.{Rose}
@@ -8,10 +8,11 @@ use Rattle.dsdiff_spec.specs.Faults.{◌when◌, ◌otherwise◌}
 use Rattle.dsdiff_spec.specs.Form.{Form, plain, coded, is_plain}
 use Rattle.dsdiff_spec.specs.Refusal.{command_fault, form_refusal, no_frame, not_coded, refusal}
 use Rattle.dsdiff_spec.specs.Rules.{form}
-use Rattle.dsdiff_spec.specs.Walk.{by_index_fault}
+use Rattle.dsdiff_spec.specs.Walk.{Entry, by_index_fault, check_index_fault, entries, walk, walk_fault}
 use Rattle.dsdiff_spec.specs.Words.{Command, check, decode, frame, index, show, show_frame}
 use Rattle.dsdiff_spec.specs.declared.faults.FileFault.{FileFault}
 use Rattle.dsdiff_spec.specs.declared.faults.FileFault.TheVariants.{NotCoded, Range}
+use Rattle.dsdiff_spec.proofs.ByRules.{walk_is}
 use Rattle.dsdiff_spec.proofs.CodedFiles.{refused_by}
 use Rattle.dsdiff_spec.proofs.Lawful.{when_not}
 use Rattle.dsdiff_chunks.specs.declared.open.OpenFault.{OpenFault}
@@ -32,6 +33,9 @@ coded_passes f e = ap (λ k. NotCoded when is_plain k) e
 pub plain_fails : (f : Form) → f.kind ≡ plain → not_coded f ≡ Some NotCoded
 plain_fails f e = ap (λ k. NotCoded when is_plain k) e
 
+pub plain_refused : (f : Form) (fault : FileFault) (rest : Option FileFault) → (fault ≡ NotCoded) × (f.kind ≡ plain) → (not_coded f otherwise rest) ≡ Some fault
+plain_refused f fault rest is = ap (λ o. o otherwise rest) (plain_fails f is.1) ∙ ap Some (sym is.0)
+
 -- ---- a number that names a frame
 pub names_one : (k frames : ℕ) → no_frame k frames ≡ None → k < frames
 names_one k frames e = ltb-true k frames (not-false (frames above k) (when_not (Range k frames) (not (frames above k)) e))
@@ -44,12 +48,27 @@ stops_by rules (File f) bytes before now h read = h f refl
 stops_by rules Read bytes before now h read = read refl
 stops_by rules (Memory refused) bytes before now h read = tt
 
+-- a rule that refuses a file before others does
+pub stops_ahead : (rule rest : List ℕ → Option FileFault) (fault : OpenFault) (bytes : Option (List ℕ)) (before now : ℕ) → Stops rule bytes before now fault →
+    Stops (λ file. rule file otherwise rest file) bytes before now fault
+stops_ahead rule rest (File f) bytes before now stops = λ file told. ap (λ o. o otherwise rest file) (stops file told)
+stops_ahead rule rest Read bytes before now stops = stops
+stops_ahead rule rest (Memory refused) bytes before now stops = stops
+
 -- ---- the index behind the number
 pub indexed_is : (k : ℕ) (file : List ℕ) (f : Form) (fault : FileFault) → no_frame k f.frames ≡ None → by_index_fault file f k ≡ Some fault → f.kind ≡ coded →
     command_fault (frame k true) file f ≡ Some fault
 indexed_is k file f fault none e is_coded =
     then_is (not_coded f) (no_frame k f.frames otherwise by_index_fault file f k) (coded_passes f is_coded)
     ∙ then_is (no_frame k f.frames) (by_index_fault file f k) none ∙ e
+
+-- behind a walk that passes only the rule on the index is left, of the form by another name
+pub index_left : (file : List ℕ) (f g : Form) (es : List Entry) {answer : Option FileFault} → g ≡ f → walk_fault file f ≡ None → entries file f ≡ es →
+    (walk file g ≡ Ok es → check_index_fault file g ≡ answer) → (walk_fault file f otherwise check_index_fault file f) ≡ answer
+index_left file f g es same passes found left =
+    then_is (walk_fault file f) (check_index_fault file f) passes
+    ∙ ap (check_index_fault file) (sym same)
+    ∙ left (subst (λ f. walk file f ≡ Ok es) (sym same) (walk_is file f es passes found))
 
 -- ---- the commands whose rules are these
 pub rules_of_decode : (file : List ℕ) → refusal decode file ≡ form_refusal index file

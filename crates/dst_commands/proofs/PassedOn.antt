@@ -9,7 +9,7 @@ use Rattle.dsdiff_chunks.specs.declared.copy.CopyFault.{CopyFault}
 use Rattle.dsdiff_chunks.specs.declared.copy.CopyFault.TheVariants.{Read, Write}
 use Rattle.dst_streams.proofs.Counts.{Rose-earlier}
 use Rattle.dst_commands.specs.Writing.{Adds, Stops}
-use Rattle.dst_commands.proofs.Writing.{copied}
+use Rattle.dst_commands.proofs.Writing.{adds_same, adds_then, copied, stops_in, stops_same, stops_then}
 use Rattle.std.proofs.lemmas.List.{length-take, length-map, get_or-map, take_all, take_more}
 use Rattle.std.proofs.lemmas.List.Elements.{filter-append}
 use Rattle.std.proofs.Math.Nat.{mul-le-mul, mul-le-mul_right, div-add-mod}
@@ -132,7 +132,14 @@ one_more_counted side p xs j d b is l e =
     alone true false h e = absurd cc
     alone false true h e = absurd cc
 
-pub one_more_passed : (side : Side) (file : List ℕ) (p : Passed) (xs : List ChunkHead) (j : ℕ) (d : ChunkHead) → (form_of p).chunks ≡ map head_seen xs →
+-- and of all
+pub all_counted : (side : Side) (p : Passed) (xs : List ChunkHead) (n : ℕ) → (form_of p).chunks ≡ map head_seen xs → length xs ≤ n →
+    length (filter (goes side (form_of p)) (take n (form_of p).chunks)) ≡ length (filter (goes side (form_of p)) (form_of p).chunks)
+all_counted side p xs n is h =
+    let long : length (form_of p).chunks ≡ length xs = ap length is ∙ length-map xs head_seen in
+    ap (λ hs. length (filter (goes side (form_of p)) hs)) (take_all n (form_of p).chunks (omega arith))
+
+one_more_passed : (side : Side) (file : List ℕ) (p : Passed) (xs : List ChunkHead) (j : ℕ) (d : ChunkHead) → (form_of p).chunks ≡ map head_seen xs →
     j < length xs →
     goes side (form_of p) (head_seen (get_or xs j d)) ≡ true →
     passed_to side file p j ++ bytes_of file p (head_seen (get_or xs j d)) ≡ passed_to side file p (j + 1)
@@ -153,11 +160,32 @@ passed_all_of side file p xs n is h =
     let long : length (form_of p).chunks ≡ length xs = ap length is ∙ length-map xs head_seen in
     passed_all side file p n (omega arith)
 
-pub begins_with_some : (side : Side) (file : List ℕ) (p : Passed) (n : ℕ) → BeginsWith (all_of side file p) (passed_to side file p n)
+begins_with_some : (side : Side) (file : List ℕ) (p : Passed) (n : ℕ) → BeginsWith (all_of side file p) (passed_to side file p n)
 begins_with_some side file p n = record {
   rest = passed (goes side (form_of p)) (bytes_of file p) (drop n (form_of p).chunks);
   is = sym (all_passed side file p) ∙ passed_in_front (goes side (form_of p)) (bytes_of file p) (form_of p).chunks n;
 }
+
+-- ---- a chunk that goes, behind what is written of those in front of it
+module _ (side : Side) (file : List ℕ) (p : Passed) (xs : List ChunkHead) (j : ℕ) (d : ChunkHead) (is : (form_of p).chunks ≡ map head_seen xs)
+    (l : j < length xs) (gone : goes side (form_of p) (head_seen (get_or xs j d)) ≡ true) where
+  pub length_more : length (passed_to side file p (j + 1)) ≡ length (passed_to side file p j) + length (bytes_of file p (head_seen (get_or xs j d)))
+  length_more =
+      ap length (sym (one_more_passed side file p xs j d is l gone))
+      ∙ length-append (passed_to side file p j) (bytes_of file p (head_seen (get_or xs j d)))
+
+  pub adds_more : (old mid new : Option (List ℕ)) (room half left : Option ℕ) → Adds (passed_to side file p j) old mid room half →
+      Adds (bytes_of file p (head_seen (get_or xs j d))) mid new half left → Adds (passed_to side file p (j + 1)) old new room left
+  adds_more old mid new room half left before chunk =
+      adds_same _ _ old new room left (one_more_passed side file p xs j d is l gone)
+      (adds_then (passed_to side file p j) (bytes_of file p (head_seen (get_or xs j d))) old mid new room half left before chunk)
+
+  pub stops_in_chunk : (P : Type 0) (old mid new : Option (List ℕ)) (room half : Option ℕ) → Adds (passed_to side file p j) old mid room half →
+      Stops P (bytes_of file p (head_seen (get_or xs j d))) mid new half → Stops P (all_of side file p) old new room
+  stops_in_chunk P old mid new room half before stops =
+      stops_in P (all_of side file p) (passed_to side file p (j + 1)) old new room (begins_with_some side file p (j + 1))
+      (stops_same P _ _ old new room (one_more_passed side file p xs j d is l gone)
+      (stops_then P (passed_to side file p j) (bytes_of file p (head_seen (get_or xs j d))) old mid new room half before stops))
 
 -- ---- the form that is lent is lawful
 pub lent_is_lawful : (f : FormRef) → IsLawful (ref_seen f)

@@ -1,10 +1,9 @@
 -- The loop passes chunk by chunk.
-use Rattle.std.proofs.Common.{[], length, get_or, ap, sym, ◌∙◌, arith, length-append}
-use Rattle.dsdiff_chunks.specs.Seen.{head_seen}
+use Rattle.std.proofs.Common.{[], length, ap, sym, ◌∙◌, arith}
 use Rattle.dsdiff_chunks.specs.declared.lists.ChunkHead.{ChunkHead}
-use Rattle.dst_commands.specs.Passing.{form_of, bytes_of}
+use Rattle.dst_commands.specs.Passing.{form_of}
 use Rattle.dsdiff_chunks.proofs.LawfulForms.{head_inside}
-use Rattle.dst_commands.proofs.PassedOn.{few_heads, lent_is_lawful, passed_to, one_more_passed, one_more_left, passed_all_of}
+use Rattle.dst_commands.proofs.PassedOn.{few_heads, length_more, lent_is_lawful, one_more_left, passed_all_of}
 use Rattle.dst_commands.proofs.chunks.chunks_length.Goals as goal
 
 abbrev none : ChunkHead
@@ -35,12 +34,9 @@ pub loop-head-preserved : goal.loop-head-preserved
 loop-head-preserved c = record {
   most = omega (arith, c.chunk_length-length.ensures.most);
   length_is = λ file fits.
-      let p = c.args.passed.now in
-      let head = get_or c.heads-head-items.result.now c.loop-head.head-index none in
-      let more = one_more_passed c.args.side file p c.heads-head-items.result.now c.loop-head.head-index none
+      let more = length_more c.args.side file c.args.passed.now c.heads-head-items.result.now c.loop-head.head-index none
       (sym c.heads-head-items.ensures) c.loop-head-test.true (sym c.passes.ensures ∙ c.if-not-passes.false) in
-      let both = length-append (passed_to c.args.side file p c.loop-head.head-index) (bytes_of file p (head_seen head)) in
-      omega (arith, c.loop-head.invariant.length_is file fits, c.chunk_length-length.ensures.length file fits, ap length more);
+      omega (arith, c.loop-head.invariant.length_is file fits, c.chunk_length-length.ensures.length file fits, more);
 }
 
 pub returns-clause-length : goal.returns-clause-length

@@ -1,12 +1,11 @@
 -- The loop writes chunk by chunk.
-use Rattle.std.proofs.Common.{◌≡◌, ◌+◌, [], length, get_or, ap, sym, ◌∙◌, arith, length-append}
-use Rattle.dsdiff_chunks.specs.Seen.{head_seen}
+use Rattle.std.proofs.Common.{◌≡◌, ◌+◌, [], length, ap, sym, ◌∙◌, arith}
 use Rattle.dsdiff_chunks.specs.declared.lists.ChunkHead.{ChunkHead}
 use Rattle.dsdiff_chunks.specs.declared.copy.CopyFault.{CopyFault}
-use Rattle.dst_commands.specs.Passing.{form_of, bytes_of, all_of}
-use Rattle.dst_commands.proofs.Writing.{adds_same, adds_then, stops_same, stops_then, stops_in}
+use Rattle.dst_commands.specs.Passing.{form_of}
+use Rattle.dst_commands.proofs.Writing.{adds_same}
 use Rattle.dsdiff_chunks.proofs.LawfulForms.{head_inside}
-use Rattle.dst_commands.proofs.PassedOn.{failed_since, lent_is_lawful, passed_to, one_more_passed, one_more_left, passed_all_of, begins_with_some}
+use Rattle.dst_commands.proofs.PassedOn.{adds_more, failed_since, length_more, lent_is_lawful, one_more_left, passed_all_of, stops_in_chunk}
 use Rattle.dst_commands.proofs.Taken.{one_more_taken, one_gone_taken, taken_on_side}
 use Rattle.dst_commands.proofs.chunks.pass_chunks.Goals as goal
 
@@ -57,32 +56,20 @@ loop-head-preserved g c = record {
       (sym c.heads-head-items.ensures) c.loop-head-test.true (sym c.passes.ensures ∙ c.if-not-passes.false) in
       omega (arith, c.loop-head.invariant.given, c.in_default.ensures.given, more);
   appended = λ file fits.
-      let p = c.args.passed.now in
-      let head = get_or c.heads-head-items.result.now c.loop-head.head-index none in
-      let more = one_more_passed c.args.side file p c.heads-head-items.result.now c.loop-head.head-index none
+      let more = length_more c.args.side file c.args.passed.now c.heads-head-items.result.now c.loop-head.head-index none
       (sym c.heads-head-items.ensures) c.loop-head-test.true (sym c.passes.ensures ∙ c.if-not-passes.false) in
-      let both = length-append (passed_to c.args.side file p c.loop-head.head-index) (bytes_of file p (head_seen head)) in
-      omega (arith, c.loop-head.invariant.appended file fits, c.in_default.ensures.appended file fits, ap length more);
+      omega (arith, c.loop-head.invariant.appended file fits, c.in_default.ensures.appended file fits, more);
   written = λ file told.
-      let p = c.args.passed.now in
-      let head = get_or c.heads-head-items.result.now c.loop-head.head-index none in
-      adds_same _ _ _ _ _ _ (one_more_passed c.args.side file p c.heads-head-items.result.now c.loop-head.head-index none
-      (sym c.heads-head-items.ensures) c.loop-head-test.true (sym c.passes.ensures ∙ c.if-not-passes.false))
-      (adds_then (passed_to c.args.side file p c.loop-head.head-index) (bytes_of file p (head_seen head)) _ _ _ _ _ _ (c.loop-head.invariant.written file told)
-      (c.in_default.ensures.written file (c.loop-head.invariant.bytes ∙ told)));
+      adds_more c.args.side file c.args.passed.now c.heads-head-items.result.now c.loop-head.head-index none
+      (sym c.heads-head-items.ensures) c.loop-head-test.true (sym c.passes.ensures ∙ c.if-not-passes.false) _ _ _ _ _ _
+      (c.loop-head.invariant.written file told) (c.in_default.ensures.written file (c.loop-head.invariant.bytes ∙ told));
 }
 
 pub returns-in-Err-clause-written : goal.returns-in-Err-clause-written
 returns-in-Err-clause-written g c file told =
-    let p = c.args.passed.now in
-    let head = get_or c.heads-head-items.result.now c.loop-head.head-index none in
-    stops_in (c.in-Err.fault ≡ CopyFault.Write) (all_of c.args.side file p) (passed_to c.args.side file p (c.loop-head.head-index + 1)) _ _ _
-    (begins_with_some c.args.side file p (c.loop-head.head-index + 1))
-    (stops_same (c.in-Err.fault ≡ CopyFault.Write) _ _ _ _ _
-    (one_more_passed c.args.side file p c.heads-head-items.result.now c.loop-head.head-index none (sym c.heads-head-items.ensures) c.loop-head-test.true
-    (sym c.passes.ensures ∙ c.if-not-passes.false))
-    (stops_then (c.in-Err.fault ≡ CopyFault.Write) (passed_to c.args.side file p c.loop-head.head-index) (bytes_of file p (head_seen head)) _ _ _ _ _
-    (c.loop-head.invariant.written file told) (c.in-Err.ensures.written file (c.loop-head.invariant.bytes ∙ told))))
+    stops_in_chunk c.args.side file c.args.passed.now c.heads-head-items.result.now c.loop-head.head-index none (sym c.heads-head-items.ensures)
+    c.loop-head-test.true (sym c.passes.ensures ∙ c.if-not-passes.false) (c.in-Err.fault ≡ CopyFault.Write) _ _ _ _ _
+    (c.loop-head.invariant.written file told) (c.in-Err.ensures.written file (c.loop-head.invariant.bytes ∙ told))
 
 pub returns-in-Err-clause-given : goal.returns-in-Err-clause-given
 returns-in-Err-clause-given g c =
