@@ -1,15 +1,17 @@
 // A sound, stored.
-ghost use Rattle.std.specs.Prelude.{◌≡◌, ℕ, ◌+◌, ◌*◌, ◌<◌, ◌≤◌, ◌^◌, List, [], ◌∷◌, length, get_or, All, IfSome, IfNone};
+ghost use Rattle.std.specs.Prelude.{◌≡◌, ℕ, ◌+◌, ◌*◌, ◌<◌, ◌≤◌, ◌^◌, false, List, [], ◌∷◌, length, get_or, All, IfSome, IfNone, IsTrue};
 ghost use Rattle.dst_spec.specs.Sample.{Shape, IsShape, sound_bytes};
 ghost use Rattle.dst_spec.specs.Header.{IsParams, Params as Parameters};
 ghost use Rattle.dst_spec.specs.Spell.{spell, stored as stored_of};
 ghost use Rattle.frame_store.specs.Choosing.{IsChosen};
+ghost use Rattle.frame_store.specs.Storing.{written, IsWriter};
 
 use crate::lay_out::lay_out;
 use crate::measure::spelling_lengths;
 use crate::picker::Picker;
 use crate::scratch::{Latest, StoreScratch};
 use crate::spell::{spell_shorter, write_into};
+use bit_io::BitWriter;
 use dst_num::{Channels, Params};
 use frame_predictions::Predictions;
 
@@ -36,30 +38,54 @@ pub fn store_frame<P: Picker>(
         &mut scratch.predictions,
         &mut scratch.found,
     );
-    let found = scratch.found.as_slice();
-    let symbols = scratch.symbols.as_mut_slice();
-    if found.len() == 1 {
-        let predictions = &mut scratch.predictions;
-        let shorter = spell_shorter(&found[0], predictions, symbols, &mut scratch.writer);
-        if shorter {
-            scratch.latest = Latest::SpelledFrame;
-        } else {
-            keep_plain(scratch.plain.as_mut_slice(), sound);
-            scratch.latest = Latest::PlainFrame;
-        }
-        return;
+    let shorter = write_shortest(
+        scratch.found.as_slice(),
+        &mut scratch.predictions,
+        scratch.symbols.as_mut_slice(),
+        scratch.steps.as_mut_slice(),
+        &mut scratch.writer,
+    );
+    if shorter {
+        scratch.latest = Latest::SpelledFrame;
+    } else {
+        keep_plain(scratch.plain.as_mut_slice(), sound);
+        scratch.latest = Latest::PlainFrame;
     }
-    let steps = scratch.steps.as_mut_slice();
-    match shortest(found, &mut scratch.predictions, symbols, steps, sound.len()) {
-        None => {
-            keep_plain(scratch.plain.as_mut_slice(), sound);
-            scratch.latest = Latest::PlainFrame;
-        }
+}
+
+// Writes the first of the shortest spellings in place of what the writer has. False where none is shorter than the plain form.
+fn write_shortest(
+    found: &[Params],
+    predictions: &mut Predictions,
+    symbols: &mut [u8],
+    steps: &mut [[u16; 8]],
+    writer: &mut Option<BitWriter>,
+) -> bool
+    requires lawful { All (IsParams predictions.old.channels.channels) found.now }
+    requires few { length found.now ≤ 11 }
+    requires shape { IsShape predictions.old.channels }
+    requires sound { length predictions.old.sound ≡ sound_bytes predictions.old.channels }
+    requires many { length symbols.old ≡ 8 * sound_bytes predictions.old.channels }
+    requires some { 6 ≤ length steps.old }
+    requires most { length steps.old ≤ 8000 }
+    requires writer { IsWriter predictions.old.channels writer.old }
+    ensures written { IsTrue result → written writer.new ≡ stored_of predictions.old.channels predictions.old.sound found.now }
+    ensures none { result ≡ false → stored_of predictions.old.channels predictions.old.sound found.now ≡ 0 ∷ predictions.old.sound }
+    ensures writer { IsWriter predictions.old.channels writer.new }
+    ensures many { length symbols.new ≡ length symbols.old }
+    ensures steps { length steps.new ≡ length steps.old }
+    ensures channels { predictions.new.channels ≡ predictions.old.channels }
+{
+    if found.len() == 1 {
+        return spell_shorter(&found[0], predictions, symbols, writer);
+    }
+    let channels = predictions.channels();
+    match shortest(found, predictions, symbols, steps, channels.sound_bytes()) {
+        None => false,
         Some(place) => {
             let params = &found[place];
-            lay_out(params, &mut scratch.predictions, symbols);
-            write_into(params, symbols, channels, &mut scratch.writer);
-            scratch.latest = Latest::SpelledFrame;
+            lay_out(params, predictions, symbols);
+            write_into(params, symbols, channels, writer)
         }
     }
 }
