@@ -82,3 +82,6 @@ moved_up v n x fits few below e = omega (arith, ints)
 pub moved_down : (v l : ℤ) (x : ℕ) → SFits w32 v → SFits w32 l → x < 512 → v -ℤ l ≡ pos x →
     to_z w32 (of_z w32 (to_z w32 (of_z w32 v) -ℤ to_z w32 (of_z w32 l))) ≡ pos x
 moved_down v l x fits fits_l below e = omega (arith, ints)
+
+pub raised : (x : ℕ) (l : ℤ) → x < 512 → pos 0 ≤ℤ l → (pos x +ℤ l) ≤ℤ pos 255 → to_z w32 (of_z w32 (to_z w32 x +ℤ to_z w32 (of_z w32 l))) ≡ pos x +ℤ l
+raised x l few some most = omega (arith, ints)

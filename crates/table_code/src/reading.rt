@@ -204,8 +204,9 @@ fn plain_value<K: TableKind>(number: u32) -> i32
     ensures { result ≡ value_of K.kind number }
 {
     let number = number as i32;
-    if K::LEAST >= 0 {
-        number + K::LEAST
+    let least = K::LEAST;
+    if least >= 0 {
+        number + least
     } else if number < 1 << (K::VALUE_BITS - 1) {
         number
     } else {

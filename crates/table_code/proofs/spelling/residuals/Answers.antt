@@ -12,6 +12,19 @@ use Rattle.table_code.proofs.Weighing.{abs_most}
 use Rattle.table_code.proofs.Lengths.{residuals_next}
 use Rattle.table_code.proofs.spelling.residuals.Goals as goal
 
+pub overflow_add-values : goal.overflow_add-values
+overflow_add-values g c =
+    let K = g.K.TableKind.kind in
+    let small = g.met.K.TableKind.small in
+    let v : ℤ = get_or c.args.values.now c.loop-j.j (pos 0) in
+    let range = get_all (InRange K) c.args.values.now c.loop-j.j (pos 0) c.requires.each (omega arith) in
+    let fits_v : SFits w32 v = search rules in
+    let fits_e : SFits w32 c.eighth.result = search rules in
+    let r : ℤ = v +ℤ c.eighth.result in
+    let low : negsuc 2047 ≤ℤ r = omega (arith, ints, range.0, small.least, c.eighth.ensures.lowest) in
+    let high : r ≤ℤ pos 2047 = omega (arith, ints, range.1, small.greatest, c.eighth.ensures.highest) in
+    rw (to_z-of_z w32 v fits_v, to_z-of_z w32 c.eighth.result fits_e) (omega (arith, ints))
+
 pub loop-j-preserved : goal.loop-j-preserved
 loop-j-preserved g c =
     let K = g.K.TableKind.kind in
