@@ -4,7 +4,7 @@ use mir.Syntax.{w64, w128}
 use mir.Val.{SFits}
 use native.Mathlib.Numerals.{unary_clauses}
 use Rattle.std.specs.Int.{int_div_euclid}
-use Rattle.std.proofs.lemmas.Int.{ints}
+use Rattle.std.proofs.lemmas.Int.{ints, fits_signed_from_abs}
 use Rattle.std.proofs.lemmas.Nat.{div_below}
 use Rattle.filter_refiner.proofs.Numbers.{product-most, same_64, same_128}
 
@@ -42,6 +42,16 @@ part-is g pp sp a b d q h positive most agree e f k is small =
     ap (λ z. to_z w128 (of_z w128 (to_z w128 (of_z w128 z) *ℤ pos 131072))) product
     ∙ ap (λ z. to_z w128 (of_z w128 (z *ℤ pos 131072))) (same_128 P (omega arith)) ∙ same_128 (P *ℤ pos 131072) (omega (arith, ints)) in
     is ∙ ap (λ z. int_div_euclid z (to_z w128 (of_z w128 d))) raised ∙ ap (int_div_euclid (P *ℤ pos (2 ^ 17))) third
+
+pub products-fit : (g pp a b : ℤ) → nat_abs g ≤ 2 ^ 28 → nat_abs pp ≤ 2 ^ 45 → a ≡ to_z w64 (of_z w64 g) → b ≡ to_z w64 (of_z w64 pp) →
+    SFits w128 (to_z w128 (of_z w128 a) *ℤ to_z w128 (of_z w128 b))
+    × SFits w128 (to_z w128 (of_z w128 (to_z w128 (of_z w128 a) *ℤ to_z w128 (of_z w128 b))) *ℤ pos 131072)
+products-fit g pp a b h k e f =
+    let first : to_z w128 (of_z w128 a) ≡ g = omega (arith, ints) in
+    let second : to_z w128 (of_z w128 b) ≡ pp = omega (arith, ints) in
+    let P = g *ℤ pp in
+    let size : nat_abs P ≤ 2 ^ 73 = product-most g pp (2 ^ 28) (2 ^ 45) h k in
+    rw (first, second) (fits_signed_from_abs w128 P (omega arith), rw (same_128 P (omega arith)) (omega (arith, ints)))
 
 pub pull-is : (r0 q part : ℤ) → nat_abs r0 ≤ 2 ^ 20 → nat_abs q ≤ 256 → nat_abs part ≤ 2 ^ 58 →
     (nat_abs (to_z w64 (of_z w64 (to_z w64 (of_z w64 r0) *ℤ to_z w64 (of_z w64 q)))) ≤ 2 ^ 28)

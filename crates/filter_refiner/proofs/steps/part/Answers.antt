@@ -3,8 +3,16 @@ use Rattle.std.proofs.Common.{◌≡◌, ◌^◌, ◌≤◌, pos, ◌*ℤ◌, na
 use mir.Syntax.{w64, w128}
 use Rattle.std.specs.Int.{int_div_euclid}
 use Rattle.std.proofs.lemmas.Int.{ints}
-use Rattle.filter_refiner.proofs.Pulling.{part-bounds, part-is}
+use Rattle.filter_refiner.proofs.Pulling.{part-bounds, part-is, products-fit}
 use Rattle.filter_refiner.proofs.steps.part.Goals as goal
+
+pub overflow_mul-product : goal.overflow_mul-product
+overflow_mul-product c =
+    (products-fit c.args.gradient c.args.sums.power c.from.result c.from-2.result c.requires.gradient c.requires.most c.from.ensures c.from-2.ensures).0
+
+pub overflow_mul-product-2 : goal.overflow_mul-product-2
+overflow_mul-product-2 c =
+    (products-fit c.args.gradient c.args.sums.power c.from.result c.from-2.result c.requires.gradient c.requires.most c.from.ensures c.from-2.ensures).1
 
 pub div_euclid-requires-clause-no_overflow : goal.div_euclid-requires-clause-no_overflow
 div_euclid-requires-clause-no_overflow c = λ h _.
