@@ -5,41 +5,55 @@ use std::test::Fail;
 #[test]
 fn numbers_are_put_behind_each_other(rt: HostRuntime) -> Result<(), Fail> {
     let mut writer = BitWriter::new(rt.alloc(), 3)?;
-    assert!(rt; writer.put(0, 0));
-    assert!(rt; writer.put(5, 3));
-    assert!(rt; writer.put(9, 4));
-    assert!(rt; writer.put(0x1ab, 9));
-    assert!(rt; !writer.put(1, 9));
-    assert!(rt; writer.put(3, 2));
+    let put = [
+        writer.put(0, 0),
+        writer.put(5, 3),
+        writer.put(9, 4),
+        writer.put(0x1ab, 9),
+        writer.put(1, 9),
+        writer.put(3, 2),
+    ];
+    assert_eq!(rt; put, [true, true, true, true, false, true]);
     assert_eq!(rt; (writer.length(), writer.room()), (18, 6));
     writer.finish();
-    assert_eq!(rt; (writer.length(), writer.room()), (24, 0));
     // 101 1001 110101011 11 000000
-    assert_eq!(rt; writer.bytes(), [0xb3, 0xab, 0xc0].as_slice());
+    assert_eq!(rt;
+        (writer.length(), writer.room(), writer.bytes()),
+        (24, 0, [0xb3, 0xab, 0xc0].as_slice())
+    );
     Ok(())
 }
 
 #[test]
 fn numbers_are_read_behind_each_other(rt: HostRuntime) -> Result<(), Fail> {
     let mut reader = BitReader::new(&[0xb3, 0xab, 0xc0]);
-    assert_eq!(rt; reader.read(3), Some(5));
-    assert_eq!(rt; reader.read_signed(4), Some(-7));
-    assert_eq!(rt; (reader.place(), reader.left()), (7, 17));
-    assert_eq!(rt; reader.read(18), None);
-    assert_eq!(rt; reader.read_signed(18), None);
-    assert_eq!(rt; (reader.place(), reader.left()), (7, 17));
-    assert_eq!(rt; (reader.rest().first, reader.rest().bytes.len()), (7, 3));
-    assert_eq!(rt; reader.read_or_zero(32), 0xd5e0_0000);
-    assert_eq!(rt; (reader.place(), reader.left()), (39, 0));
+    let read = (reader.read(3), reader.read_signed(4));
+    assert_eq!(rt;
+        (read, reader.place(), reader.left()),
+        ((Some(5), Some(-7)), 7, 17)
+    );
+    let past = (reader.read(18), reader.read_signed(18));
+    assert_eq!(rt;
+        (past, reader.place(), reader.left()),
+        ((None, None), 7, 17)
+    );
+    let rest = reader.rest();
+    assert_eq!(rt; (rest.first, rest.bytes.len()), (7, 3));
+    assert_eq!(rt;
+        (reader.read_or_zero(32), reader.place(), reader.left()),
+        (0xd5e0_0000, 39, 0)
+    );
     Ok(())
 }
 
 #[test]
 fn no_bit_fits_in_no_bytes(rt: HostRuntime) -> Result<(), Fail> {
     let mut writer = BitWriter::new(rt.alloc(), 0)?;
-    assert!(rt; !writer.put(1, 1));
-    assert_eq!(rt; (writer.length(), writer.room()), (0, 0));
-    assert_eq!(rt; writer.bytes(), [].as_slice());
+    let put = writer.put(1, 1);
+    assert_eq!(rt;
+        (put, writer.length(), writer.room(), writer.bytes()),
+        (false, 0, 0, [].as_slice())
+    );
     Ok(())
 }
 
@@ -59,24 +73,21 @@ fn numbers_are_read_at_every_place(rt: HostRuntime) -> Result<(), Fail> {
         (90, 1, None, None),
     ];
     for (place, n, unsigned, signed) in cases {
-        assert!(rt; n >= 1);
-        assert!(rt; n <= 32);
+        assert!(rt; 1 <= n && n <= 32);
         let slice = BitSlice {
             bytes: &bytes,
             first: u64::from(place),
         };
-        assert_eq!(rt;
-            BitReader::over(slice).read(n),
-            unsigned,
-            "{n} bits at {place}"
-        );
-        assert_eq!(rt;
-            BitReader::over(slice).read_signed(n),
-            signed,
-            "{n} bits at {place}"
-        );
         let padded = BitReader::over(slice).read_or_zero(n);
-        assert_eq!(rt; unsigned.unwrap_or(padded), padded, "{n} bits at {place}");
+        assert_eq!(rt;
+            (
+                BitReader::over(slice).read(n),
+                BitReader::over(slice).read_signed(n),
+                unsigned.unwrap_or(padded),
+            ),
+            (unsigned, signed, padded),
+            "{n} bits at {place}"
+        );
     }
     Ok(())
 }
@@ -84,11 +95,11 @@ fn numbers_are_read_at_every_place(rt: HostRuntime) -> Result<(), Fail> {
 #[test]
 fn cleared_writers_begin_anew(rt: HostRuntime) -> Result<(), Fail> {
     let mut writer = BitWriter::new(rt.alloc(), 2)?;
-    assert!(rt; writer.put(0x7ff, 11));
+    let before = writer.put(0x7ff, 11);
     writer.clear();
-    assert_eq!(rt; (writer.length(), writer.room()), (0, 16));
-    assert!(rt; writer.put(0x8001, 16));
+    assert_eq!(rt; (before, writer.length(), writer.room()), (true, 0, 16));
+    let anew = writer.put(0x8001, 16);
     writer.finish();
-    assert_eq!(rt; writer.bytes(), [0x80, 0x01].as_slice());
+    assert_eq!(rt; (anew, writer.bytes()), (true, [0x80, 0x01].as_slice()));
     Ok(())
 }

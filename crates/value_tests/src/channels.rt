@@ -35,13 +35,22 @@ fn channels_have_their_tables(rt: HostRuntime) -> Result<(), Fail> {
         if params.half_prob.len() != 2 {
             return Err("two channels")?;
         }
-        assert_eq!(rt; channel_filter(&params, 1).coefs(), [coef, -1].as_slice());
-        assert_eq!(rt; channel_probs(&params, 1).entries(), [7, 128].as_slice());
-        assert_eq!(rt; channel_half_prob(&params, 0), false);
-        assert_eq!(rt; channel_half_prob(&params, 1), second);
-        assert_eq!(rt; alike_channel(&params, 0), 0);
-        assert_eq!(rt; alike_channel(&params, 1), alike, "{coef}");
-        assert_eq!(rt; reserved_probability(&params).value(), reserved, "{coef}");
+        assert_eq!(rt;
+            (
+                channel_filter(&params, 1).coefs(),
+                channel_probs(&params, 1).entries(),
+                [channel_half_prob(&params, 0), channel_half_prob(&params, 1)],
+                [alike_channel(&params, 0), alike_channel(&params, 1)],
+                reserved_probability(&params).value(),
+            ),
+            (
+                [coef, -1].as_slice(),
+                [7, 128].as_slice(),
+                [false, second],
+                [0, alike],
+                reserved,
+            )
+        );
     }
     Ok(())
 }

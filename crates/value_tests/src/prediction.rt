@@ -102,14 +102,12 @@ fn sums_ahead_predict_what_the_tables_do(rt: HostRuntime) -> Result<(), Fail> {
             for place in 0..8usize {
                 state = next(state);
                 let sample = state >> 31 == 1;
-                let early = ahead.upward_after(&rows, place, sample);
-                assert_eq!(rt;
-                    rows.prediction(ahead.upward(&rows, place)),
-                    predict(&filter, &history)
-                );
+                let early = rows.prediction(ahead.upward_after(&rows, place, sample));
+                let now = rows.prediction(ahead.upward(&rows, place));
+                let plain = predict(&filter, &history);
                 history.push(sample);
                 ahead.push(sample);
-                assert_eq!(rt; rows.prediction(early), predict(&filter, &history));
+                assert_eq!(rt; (now, early), (plain, predict(&filter, &history)));
             }
             ahead.take_byte(&rows);
             assert_eq!(rt; ahead.newest(), history.bytes()[0]);
@@ -136,10 +134,11 @@ fn sums_side_by_side_and_of_known_samples_are_those_ahead(rt: HostRuntime) -> Re
         let mut whole = KnownAhead::fresh(&known);
         for _ in 0..40 {
             let mut upward = [0u16; 8];
+            let mut beside = [0u16; 8];
             for place in 0..8usize {
                 state = next(state);
                 upward[place] = ahead.upward(&rows, place);
-                assert_eq!(rt; eight.upward(5, &rows, place), upward[place]);
+                beside[place] = eight.upward(5, &rows, place);
                 ahead.push(state >> 31 == 1);
                 let mut given = [2u16; 8];
                 given[5] = u16::from(state >> 31 == 1);
@@ -147,8 +146,11 @@ fn sums_side_by_side_and_of_known_samples_are_those_ahead(rt: HostRuntime) -> Re
             }
             ahead.take_byte(&rows);
             eight.take_byte(5, &rows);
-            assert_eq!(rt; eight.newest(5), ahead.newest());
-            assert_eq!(rt; whole.take_byte(&known, ahead.newest()), upward);
+            let newest = ahead.newest();
+            assert_eq!(rt;
+                (eight.newest(5), beside, whole.take_byte(&known, newest)),
+                (newest, upward, upward)
+            );
         }
     }
     Ok(())

@@ -19,8 +19,7 @@ fn a_fault_shows_its_number_name_and_bit(rt: HostRuntime) -> Result<(), Fail> {
     for (reason, number, text) in shown {
         let fault = FrameFault { reason, bit: 45 };
         let line = format!(in rt.alloc(); "{fault}")?;
-        assert_eq!(rt; line.as_str(), text);
-        assert_eq!(rt; reason.number(), number);
+        assert_eq!(rt; (line.as_str(), reason.number()), (text, number));
     }
     Ok(())
 }

@@ -1,4 +1,6 @@
 // Residuals and tables in worked examples.
+ghost use Rattle.std.specs.Prelude.{◌≤◌};
+
 use bit_io::{BitReader, BitWriter};
 use dst_num::{FilterTable, FrameFault, ProbTable, Reason};
 use std::test::Fail;
@@ -6,6 +8,19 @@ use table_code::{
     Filters, Probs, Spelling, best_spelling, read_table, rice_length, rice_read, rice_write,
     write_table,
 };
+
+// The residual at the head of few bytes, and the place behind it; none of more bytes than 272.
+fn residual_of(bytes: &[u8], m: u32) -> Option<(Option<i32>, u64)>
+    requires { m ≤ 7 }
+{
+    if bytes.len() > 272 {
+        return None;
+    }
+    let mut reader = BitReader::new(bytes);
+    let _left = reader.left();
+    let residual = rice_read(&mut reader, m);
+    Some((residual, reader.place()))
+}
 
 #[test]
 fn residuals_have_their_bits(rt: HostRuntime) -> Result<(), Fail> {
@@ -18,21 +33,18 @@ fn residuals_have_their_bits(rt: HostRuntime) -> Result<(), Fail> {
         (0, 2, 0b100, 3),
     ];
     for (r, m, bits, length) in cases {
-        assert!(rt; r >= -5);
-        assert!(rt; r <= 5);
-        assert!(rt; m <= 2);
-        assert!(rt; length <= 5);
+        assert!(rt; -5 <= r && r <= 5 && m <= 2 && length <= 5);
         let mut writer = BitWriter::new(rt.alloc(), 1)?;
-        assert_eq!(rt; rice_length(r, m), length);
-        assert!(rt; rice_write(&mut writer, r, m));
+        let written = (rice_length(r, m), rice_write(&mut writer, r, m));
+        assert_eq!(rt; written, (length, true));
         writer.finish();
         let bytes = writer.bytes();
         assert_eq!(rt; bytes.len(), 1);
-        assert_eq!(rt; BitReader::new(bytes).read(length), Some(bits));
-        let mut reader = BitReader::new(bytes);
-        assert!(rt; reader.left() <= 8);
-        assert_eq!(rt; rice_read(&mut reader, m), Some(r));
-        assert_eq!(rt; reader.place(), u64::from(length));
+        let read = BitReader::new(bytes).read(length);
+        assert_eq!(rt;
+            (read, residual_of(bytes, m)),
+            (Some(bits), Some((Some(r), u64::from(length))))
+        );
     }
     Ok(())
 }
@@ -44,16 +56,12 @@ fn every_residual_is_read_back(rt: HostRuntime) -> Result<(), Fail> {
         for size in 0..4096u32 {
             let r = size as i32 - 2048;
             writer.clear();
-            assert!(rt; rice_write(&mut writer, r, m));
-            let length = writer.length();
-            assert_eq!(rt; length, u64::from(rice_length(r, m)));
+            let written = rice_write(&mut writer, r, m);
+            let length = u64::from(rice_length(r, m));
+            assert_eq!(rt; (written, writer.length()), (true, length));
             writer.finish();
-            let bytes = writer.bytes();
-            assert!(rt; bytes.len() <= 272);
-            let mut reader = BitReader::new(bytes);
-            assert!(rt; reader.left() <= 2176);
-            assert_eq!(rt; rice_read(&mut reader, m), Some(r));
-            assert_eq!(rt; reader.place(), length);
+            let found = residual_of(writer.bytes(), m);
+            assert_eq!(rt; found, Some((Some(r), length)));
         }
     }
     Ok(())
@@ -62,9 +70,9 @@ fn every_residual_is_read_back(rt: HostRuntime) -> Result<(), Fail> {
 #[test]
 fn cut_residual_leaves_the_reader(rt: HostRuntime) -> Result<(), Fail> {
     let mut reader = BitReader::new(&[0x00]);
-    assert!(rt; reader.left() <= 8);
-    assert_eq!(rt; rice_read(&mut reader, 0), None);
-    assert_eq!(rt; (reader.place(), reader.left()), (0, 8));
+    let _left = reader.left();
+    let residual = rice_read(&mut reader, 0);
+    assert_eq!(rt; (residual, reader.place(), reader.left()), (None, 0, 8));
     Ok(())
 }
 
@@ -92,29 +100,47 @@ fn tables_take_their_least_spelling(rt: HostRuntime) -> Result<(), Fail> {
     Ok(())
 }
 
+// A filter and a table of probabilities behind each other: 0000010 1 01 000001010 000010100 000 1, then 000001 1 00 1111111 000 1.
+const TWO_TABLES: [u8; 7] = [0x05, 0x41, 0x41, 0x41, 0x06, 0x7f, 0x10];
+
+fn two_tables() -> Result<(FilterTable, ProbTable), Fail> {
+    let filter = FilterTable::new(&[10, 20, 30]).ok_or("a filter")?;
+    let probs = ProbTable::new(&[128, 128]).ok_or("probabilities")?;
+    Ok((filter, probs))
+}
+
 #[test]
-fn tables_are_written_and_read_back(rt: HostRuntime) -> Result<(), Fail> {
+fn tables_are_written(rt: HostRuntime) -> Result<(), Fail> {
     let mut writer = BitWriter::new(rt.alloc(), 8)?;
-    let filter = FilterTable::new(&[10, 20, 30]).expect(&rt, "a filter");
-    let probs = ProbTable::new(&[128, 128]).expect(&rt, "probabilities");
-    assert!(rt; write_table::<Filters>(&filter, &mut writer));
-    assert!(rt; write_table::<Probs>(&probs, &mut writer));
-    assert!(rt; !write_table::<Filters>(&filter, &mut writer));
-    assert_eq!(rt; writer.length(), 52);
+    let (filter, probs) = two_tables()?;
+    let written = [
+        write_table::<Filters>(&filter, &mut writer),
+        write_table::<Probs>(&probs, &mut writer),
+        write_table::<Filters>(&filter, &mut writer),
+    ];
+    assert_eq!(rt; (written, writer.length()), ([true, true, false], 52));
     writer.finish();
-    // 0000010 1 01 000001010 000010100 000 1, then 000001 1 00 1111111 000 1
-    assert_eq!(rt;
-        writer.bytes(),
-        [0x05, 0x41, 0x41, 0x41, 0x06, 0x7f, 0x10].as_slice()
-    );
-    let mut reader = BitReader::new(writer.bytes());
-    assert!(rt; reader.left() <= 64);
+    assert_eq!(rt; writer.bytes(), TWO_TABLES.as_slice());
+    Ok(())
+}
+
+// The tables at the head of the bytes above, and the place behind them.
+fn read_two_tables() -> Result<(FilterTable, ProbTable, u64), FrameFault> {
+    let mut reader = BitReader::new(&TWO_TABLES);
+    let _left = reader.left();
     let filter = read_table::<Filters>(&mut reader)?;
-    assert_eq!(rt; filter.coefs(), [10, 20, 30].as_slice());
-    assert!(rt; reader.left() <= 64);
+    let _left = reader.left();
     let probs = read_table::<Probs>(&mut reader)?;
-    assert_eq!(rt; probs.entries(), [128, 128].as_slice());
-    assert_eq!(rt; reader.place(), 52);
+    Ok((filter, probs, reader.place()))
+}
+
+#[test]
+fn written_tables_are_read_back(rt: HostRuntime) -> Result<(), Fail> {
+    let (filter, probs, place) = read_two_tables()?;
+    assert_eq!(rt;
+        (filter.coefs(), probs.entries(), place),
+        ([10, 20, 30].as_slice(), [128, 128].as_slice(), 52)
+    );
     Ok(())
 }
 
@@ -122,10 +148,12 @@ fn tables_are_written_and_read_back(rt: HostRuntime) -> Result<(), Fail> {
 fn fourth_value_by_method_2_is_1(rt: HostRuntime) -> Result<(), Fail> {
     // 0000011 1 10, 0, 0 and 1 in nine bits each, 000, 1
     let mut reader = BitReader::new(&[0x07, 0x80, 0x00, 0x00, 0x08, 0x80]);
-    assert!(rt; reader.left() <= 48);
+    let _left = reader.left();
     let table = read_table::<Filters>(&mut reader)?;
-    assert_eq!(rt; table.coefs(), [0, 0, 1, 1].as_slice());
-    assert_eq!(rt; reader.place(), 41);
+    assert_eq!(rt;
+        (table.coefs(), reader.place()),
+        ([0, 0, 1, 1].as_slice(), 41)
+    );
     Ok(())
 }
 
@@ -144,7 +172,7 @@ fn first_field_at_fault_is_told(rt: HostRuntime) -> Result<(), Fail> {
     for (bytes, reason, bit) in filters {
         assert!(rt; bytes.len() <= 4);
         let mut reader = BitReader::new(bytes);
-        assert!(rt; reader.left() <= 32);
+        let _left = reader.left();
         let fault = read_table::<Filters>(&mut reader).err();
         assert_eq!(rt; fault, Some(FrameFault { reason, bit }));
     }

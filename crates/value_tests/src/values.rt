@@ -24,8 +24,10 @@ fn channels_give_the_bytes_of_a_frame(rt: HostRuntime) -> Result<(), Fail> {
         ));
         assert_eq!(rt; found, given, "{count} channels at multiple {multiple}");
     }
-    assert_eq!(rt; Channels::new(6), Channels::at(6, 1));
-    assert_eq!(rt; Channels::new(7), None);
+    assert_eq!(rt;
+        [Channels::new(6), Channels::new(7)],
+        [Channels::at(6, 1), None]
+    );
     Ok(())
 }
 
@@ -90,34 +92,38 @@ fn maps_number_tables_in_order_of_first_use(rt: HostRuntime) -> Result<(), Fail>
         (&[0; 7], None),
     ];
     for (elements, count) in cases {
-        match Map::new(elements) {
-            Some(map) => {
-                assert_eq!(rt; Some(map.count()), count, "{elements:?}");
-                assert_eq!(rt; map.elements(), elements);
-            }
-            None => assert_eq!(rt; None, count, "{elements:?}"),
-        }
+        let made = Map::new(elements);
+        let found = made.as_ref().map(|map| (map.count(), map.elements()));
+        let given = count.map(|count| (count, elements));
+        assert_eq!(rt; found, given, "{elements:?}");
     }
     Ok(())
+}
+
+// Parameters of two channels with these numbers of filters, one filter and one table, where they can be.
+fn with_one_filter(numbers: [u8; 2]) -> Result<Option<Params>, Fail> {
+    let filter_map = Map::new(&numbers).ok_or("filters")?;
+    let prob_map = Map::new(&[0, 0]).ok_or("probabilities")?;
+    let mut half_prob = ArrayVec::new();
+    half_prob.push(false);
+    half_prob.push(true);
+    let mut filters = ArrayVec::new();
+    filters.push(FilterTable::default());
+    let mut probs = ArrayVec::new();
+    probs.push(ProbTable::default());
+    Ok(Params::new(filter_map, prob_map, half_prob, filters, probs))
 }
 
 #[test]
 fn parameters_have_a_table_for_each_number(rt: HostRuntime) -> Result<(), Fail> {
     for (numbers, given) in [([0, 0], true), ([0, 1], false)] {
-        let filter_map = Map::new(&numbers).ok_or("filters")?;
-        let prob_map = Map::new(&[0, 0]).ok_or("probabilities")?;
-        let mut half_prob = ArrayVec::new();
-        half_prob.push(false);
-        half_prob.push(true);
-        let mut filters = ArrayVec::new();
-        filters.push(FilterTable::default());
-        let mut probs = ArrayVec::new();
-        probs.push(ProbTable::default());
-        let made = Params::new(filter_map, prob_map, half_prob, filters, probs);
-        assert_eq!(rt; made.is_some(), given, "{numbers:?}");
+        let made = with_one_filter(numbers)?.is_some();
+        assert_eq!(rt; made, given, "{numbers:?}");
     }
-    let one_channel = Params::default();
-    assert_eq!(rt; one_channel.filter_map.elements(), [0].as_slice());
-    assert_eq!(rt; one_channel.half_prob.as_slice(), [false].as_slice());
+    let one = Params::default();
+    assert_eq!(rt;
+        (one.filter_map.elements(), one.half_prob.as_slice()),
+        ([0].as_slice(), [false].as_slice())
+    );
     Ok(())
 }
