@@ -66,15 +66,18 @@ fn rows_are_found_again(rt: HostRuntime) -> Result<(), Fail> {
     {
         *row = row_of(&mut predictions, channel, &[coef])?.0;
     }
-    assert_eq!(rt; rows, [0, 1, 2, 0, 2]);
     predictions.release();
-    assert_eq!(rt; row_of(&mut predictions, 1, &[1])?, (0, [0; 4]));
+    let released = row_of(&mut predictions, 1, &[1])?;
+    assert_eq!(rt; (rows, released), ([0, 1, 2, 0, 2], (0, [0; 4])));
     // sixteen rows, and then the first one anew
     for place in 0..15usize {
         let (row, _) = row_of(&mut predictions, 0, &[place as i16])?;
         assert_eq!(rt; row, place + 1);
     }
-    assert_eq!(rt; row_of(&mut predictions, 1, &[8])?, (0, [1; 4]));
-    assert_eq!(rt; predictions.sound().first(), Some(&0xff));
+    let anew = row_of(&mut predictions, 1, &[8])?;
+    assert_eq!(rt;
+        (anew, predictions.sound().first()),
+        ((0, [1; 4]), Some(&0xff))
+    );
     Ok(())
 }

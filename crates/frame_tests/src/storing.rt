@@ -3,7 +3,7 @@ use arrayvec::ArrayVec;
 use dst_frames::{Scratch, decode_frame};
 use dst_num::{Channels, FilterTable, Map, Params, ProbTable};
 use frame_store::{OnePick, StoreScratch, spell_frame, store_frame};
-use std::alloc::Global;
+use std::alloc::{AllocError, Global};
 use std::test::Fail;
 
 // Parameters by which each channel has a filter and a table of its own, or all have the first ones.
@@ -38,14 +38,23 @@ fn spelled(
     params: &Params,
     sound: &[u8],
 ) -> Result<Option<Vec<u8>>, Fail> {
-    let mut scratch = StoreScratch::new(alloc, channels)?;
     if params.half_prob.len() != channels.count() || sound.len() != channels.sound_bytes() {
         return Err("other channels")?;
     }
+    let mut scratch = StoreScratch::new(alloc, channels)?;
     if !spell_frame(params, sound, &mut scratch) {
         return Ok(None);
     }
     Ok(Some(Vec::from_slice(alloc, scratch.spelled())?))
+}
+
+// These bytes with zeros behind them, as many as the longest spelling has.
+fn with_zeros(front: &[u8]) -> [u8; 36] {
+    let mut bytes = [0; 36];
+    for (byte, place) in front.iter().zip(bytes.iter_mut()) {
+        *place = *byte;
+    }
+    bytes
 }
 
 #[test]
@@ -67,16 +76,37 @@ fn spellings_are_those_worked_out(rt: HostRuntime) -> Result<(), Fail> {
     for (sound, entry, half_prob, front, length) in cases {
         let params = params_of(&[0], &[&[0]], &[&[entry, entry]], half_prob)?;
         let bytes = spelled(rt.alloc(), mono, &params, sound)?;
-        assert_eq!(rt; bytes.is_some(), length > 0);
-        let Some(bytes) = bytes else {
-            continue;
-        };
-        assert_eq!(rt; bytes.len(), length);
-        for (i, byte) in bytes.iter().enumerate() {
-            assert_eq!(rt; *byte, front.get(i).copied().unwrap_or(0), "byte {i}");
-        }
+        let found = bytes.as_ref().map(|bytes| bytes.as_slice());
+        let wanted = with_zeros(front);
+        assert_eq!(rt; found, (length > 0).then_some(&wanted[..length.min(36)]));
     }
     Ok(())
+}
+
+// The frame that is stored by these parameters alone.
+fn stored_alone(
+    alloc: Global,
+    channels: Channels,
+    params: Params,
+    sound: &[u8],
+) -> Result<Vec<u8>, Fail> {
+    if sound.len() != channels.sound_bytes() {
+        return Err("another length")?;
+    }
+    let mut scratch = StoreScratch::new(alloc, channels)?;
+    store_frame(&OnePick::new(params), sound, channels, &mut scratch);
+    Ok(Vec::from_slice(alloc, scratch.stored())?)
+}
+
+// Whether a frame is decoded to the sound, with no byte unread.
+fn comes_back(alloc: Global, channels: Channels, frame: &[u8], sound: &[u8]) -> Result<bool, Fail> {
+    if frame.len() > 1 + channels.sound_bytes() {
+        return Err("longer than the plain form")?;
+    }
+    let mut again = vec![in alloc; 0u8; channels.sound_bytes()]?;
+    let mut decoding = Scratch::new(alloc, channels)?;
+    let tail = decode_frame(frame, channels, &mut decoding, &mut again);
+    Ok(tail == Ok(0) && again.as_slice() == sound)
 }
 
 // The frame that is stored by these parameters alone, and whether it is decoded to the sound.
@@ -86,21 +116,9 @@ fn stored_by(
     params: Params,
     sound: &[u8],
 ) -> Result<(Vec<u8>, bool), Fail> {
-    let picker = OnePick::new(params);
-    let mut scratch = StoreScratch::new(alloc, channels)?;
-    if sound.len() != channels.sound_bytes() {
-        return Err("another length")?;
-    }
-    store_frame(&picker, sound, channels, &mut scratch);
-    let stored = Vec::from_slice(alloc, scratch.stored())?;
-    let mut again = vec![in alloc; 0u8; channels.sound_bytes()]?;
-    let mut decoding = Scratch::new(alloc, channels)?;
-    let frame = stored.as_slice();
-    if frame.len() > 1 + sound.len() {
-        return Err("longer than the plain form")?;
-    }
-    let tail = decode_frame(frame, channels, &mut decoding, &mut again);
-    Ok((stored, tail == Ok(0) && again.as_slice() == sound))
+    let stored = stored_alone(alloc, channels, params, sound)?;
+    let same = comes_back(alloc, channels, &stored, sound)?;
+    Ok((stored, same))
 }
 
 #[test]
@@ -109,37 +127,39 @@ fn shorter_spellings_are_stored(rt: HostRuntime) -> Result<(), Fail> {
     let stereo = Channels::new(2).ok_or("two channels")?;
     let ones = [0xff; 9408];
     let (long, short) = (ones.as_slice(), &ones[..4704]);
-    // the sound, its channels, the parameters, the length, the first byte
-    let cases = [
-        (
-            short,
-            mono,
-            params_of(&[0], &[&[0]], &[&[128, 128]], false)?,
-            4705usize,
-            0x00,
-        ),
-        (
-            short,
-            mono,
-            params_of(&[0], &[&[0]], &[&[1, 1]], false)?,
-            35,
-            0xfc,
-        ),
-        (
-            long,
-            stereo,
-            params_of(&[0], &[&[0]], &[&[1, 1]], false)?,
-            9409,
-            0x00,
-        ),
+    // the sound, its channels, the probabilities, the length, the first byte
+    let cases: [(&[u8], Channels, [u8; 2], usize, u8); 3] = [
+        (short, mono, [128, 128], 4705, 0x00),
+        (short, mono, [1, 1], 35, 0xfc),
+        (long, stereo, [1, 1], 9409, 0x00),
     ];
-    for (sound, channels, params, length, first) in cases {
+    for (sound, channels, probs, length, first) in cases {
+        let params = params_of(&[0], &[&[0]], &[&probs], false)?;
         let (stored, same) = stored_by(rt.alloc(), channels, params, sound)?;
-        assert_eq!(rt; stored.len(), length);
-        assert_eq!(rt; stored.first(), Some(&first));
-        assert!(rt; same);
+        assert_eq!(rt;
+            (stored.len(), stored.first(), same),
+            (length, Some(&first), true)
+        );
     }
     Ok(())
+}
+
+// Four samples of a kind in turn, and another one now and then by the numbers behind this state.
+fn uneven_sound(alloc: Global, channels: Channels, state: &mut u32) -> Result<Vec<u8>, AllocError> {
+    let mut sound = vec![in alloc; 0xc3u8; channels.sound_bytes()]?;
+    for byte in sound.iter_mut() {
+        *state = state.wrapping_mul(1_664_525).wrapping_add(1_013_904_223);
+        *byte ^= (*state >> 24 & *state >> 16 & *state >> 8 & 0x41) as u8;
+    }
+    Ok(sound)
+}
+
+// Parameters with this map, and of three filters and tables as many as it has places for.
+fn params_by(map: &[u8], half_prob: bool) -> Result<Params, Fail> {
+    let filters: [&[i16]; 3] = [&[0, 0, 0, -90], &[10, -7, 30, -60, 15], &[-20, 0, 0, -100]];
+    let probs: [&[u8]; 3] = [&[60, 40, 30, 25, 20], &[128, 100, 12], &[128]];
+    let count = map.len().min(3);
+    params_of(map, &filters[..count], &probs[..count], half_prob)
 }
 
 #[test]
@@ -149,23 +169,11 @@ fn stored_frames_are_decoded_to_their_sound(rt: HostRuntime) -> Result<(), Fail>
     for (map, multiple) in own.iter().zip([2u32, 1, 1]) {
         let channels = Channels::at(map.len() as u32, multiple).ok_or("channels")?;
         for half_prob in [false, true] {
-            // four samples of a kind in turn, and another one now and then
-            let mut sound = vec![in rt.alloc(); 0xc3u8; channels.sound_bytes()]?;
-            for byte in sound.iter_mut() {
-                state = state.wrapping_mul(1_664_525).wrapping_add(1_013_904_223);
-                *byte ^= (state >> 24 & state >> 16 & state >> 8 & 0x41) as u8;
-            }
-            let filters: [&[i16]; 3] = [
-                &[0, 0, 0, -90],
-                &[10, -7, 30, -60, 15],
-                &[-20, 0, 0, -100],
-            ];
-            let probs: [&[u8]; 3] = [&[60, 40, 30, 25, 20], &[128, 100, 12], &[128]];
-            let count = map.len().min(3);
-            let params = params_of(map, &filters[..count], &probs[..count], half_prob)?;
+            let sound = uneven_sound(rt.alloc(), channels, &mut state)?;
+            let params = params_by(map, half_prob)?;
             let (stored, same) = stored_by(rt.alloc(), channels, params, &sound)?;
-            assert!(rt; same, "{map:?}");
-            assert!(rt; stored.len() < sound.len());
+            let is_shorter = stored.len() < sound.len();
+            assert_eq!(rt; (same, is_shorter), (true, true), "{map:?}");
         }
     }
     Ok(())
