@@ -27,21 +27,21 @@ fn codes_give_their_symbols(rt: HostRuntime) {
         for (p, symbol, used) in symbols {
             let p = Prob::new(*p).expect(&rt, "a probability");
             assert!(rt; decoder.used() <= 100);
-            assert_eq!(rt; decoder.decode(p), *symbol);
-            assert_eq!(rt; decoder.used(), *used);
+            let decoded = decoder.decode(p);
+            assert_eq!(rt; (decoded, decoder.used()), (*symbol, *used));
         }
     }
 }
 
 #[test]
 fn codes_with_a_fault_are_refused_at_its_bit(rt: HostRuntime) {
-    let cases: [(&[u8], u64, Reason, u64); 4] = [
+    const CASES: [(&[u8], u64, Reason, u64); 4] = [
         (&[0x80], 0, Reason::FirstCodeBit, 0),
         (&[0xff, 0xff], 3, Reason::FirstCodeBit, 3),
         (&[0x7f, 0xf8], 0, Reason::CodeRange, 1),
         (&[0xfb, 0xff, 0xc0], 5, Reason::CodeRange, 6),
     ];
-    for (bytes, first, reason, bit) in cases {
+    for &(bytes, first, reason, bit) in &CASES {
         let refused = ArithDecoder::new(BitSlice { bytes, first }).err();
         assert_eq!(rt; refused, Some(FrameFault { reason, bit }));
     }
@@ -54,8 +54,8 @@ fn next(state: u64) -> u64 {
         .wrapping_add(1442695040888963407)
 }
 
-#[test]
-fn a_long_code_gives_the_symbols_of_whole_numbers(rt: HostRuntime) {
+// A code of bytes without a pattern, whose first bit is 0.
+fn long_code() -> [u8; 20_000] {
     let mut bytes = [0; 20_000];
     let mut state = 7;
     for i in 0..20_000usize {
@@ -63,6 +63,12 @@ fn a_long_code_gives_the_symbols_of_whole_numbers(rt: HostRuntime) {
         bytes[i] = (state >> 56) as u8;
     }
     bytes[0] %= 128;
+    bytes
+}
+
+#[test]
+fn a_long_code_gives_the_symbols_of_whole_numbers(rt: HostRuntime) {
+    let bytes = long_code();
     let code = BitSlice {
         bytes: &bytes,
         first: 0,
@@ -71,7 +77,7 @@ fn a_long_code_gives_the_symbols_of_whole_numbers(rt: HostRuntime) {
     // each symbol goes into a hash by Fowler, Noll and Vo, FNV-1a of 64 bits
     let mut hash: u64 = 0xcbf2_9ce4_8422_2325;
     let mut ones: u32 = 0;
-    state = 1;
+    let mut state = 1;
     for _ in 0..100_000 {
         state = next(state);
         let p = Prob::new((state >> 57) as u32 + 1).expect(&rt, "a probability");
@@ -81,7 +87,8 @@ fn a_long_code_gives_the_symbols_of_whole_numbers(rt: HostRuntime) {
         ones = u32::from(symbol).wrapping_add(ones);
     }
     // by another program, which takes the code's number bit by bit
-    assert_eq!(rt; decoder.used(), 72_076);
-    assert_eq!(rt; ones, 75_041);
-    assert_eq!(rt; hash, 0x0932_d52a_ffc8_0c86);
+    assert_eq!(rt;
+        (decoder.used(), ones, hash),
+        (72_076, 75_041, 0x0932_d52a_ffc8_0c86)
+    );
 }

@@ -1,7 +1,10 @@
 // Codes written, codes that don't fit, a long run that is turned over, and a long code.
+ghost use Rattle.std.specs.Prelude.{◌≤◌, ◌^◌};
+
 use arith_encoder::ArithEncoder;
 use bit_io::BitWriter;
 use dst_num::Prob;
+use std::alloc::Global;
 use std::test::Fail;
 
 #[test]
@@ -16,13 +19,13 @@ fn symbols_are_written_as_far_as_they_fit(rt: HostRuntime) -> Result<(), Fail> {
         (false, 128),
     ];
     // room in bytes, how many symbols are tried, how many of them fit, the code
-    let cases: [(usize, usize, usize, &[u8]); 4] = [
+    const CASES: [(usize, usize, usize, &[u8]); 4] = [
         (4, 3, 3, &[0x23, 0xf8]),
         (4, 6, 6, &[0x40, 0x18, 0x00]),
         (2, 6, 4, &[0x34, 0xd8]),
         (2, 0, 0, &[0x00, 0x00]),
     ];
-    for (room, count, fitting, code) in cases {
+    for &(room, count, fitting, code) in &CASES {
         let writer = BitWriter::new(rt.alloc(), room)?;
         let mut encoder = ArithEncoder::new(writer)
             .ok()
@@ -36,20 +39,30 @@ fn symbols_are_written_as_far_as_they_fit(rt: HostRuntime) -> Result<(), Fail> {
     Ok(())
 }
 
+// An encoder over so many bytes, of which five bits are written, is given up: whether there was one, and the writer's length and room.
+fn handed_back(alloc: Global, room: usize) -> Result<(bool, u64, u64), Fail>
+    requires { room ≤ 2 ^ 50 }
+{
+    let mut writer = BitWriter::new(alloc, room)?;
+    if !writer.put(0x1f, 5) {
+        return Err("five bits")?;
+    }
+    Ok(match ArithEncoder::new(writer) {
+        Ok(encoder) => {
+            let writer = encoder.abandon();
+            (true, writer.length(), writer.room())
+        }
+        Err(writer) => (false, writer.length(), writer.room()),
+    })
+}
+
 #[test]
 fn writers_are_handed_back(rt: HostRuntime) -> Result<(), Fail> {
-    let mut writer = BitWriter::new(rt.alloc(), 2)?;
-    assert!(rt; writer.put(0x1f, 5));
-    let refused = ArithEncoder::new(writer).err();
-    let writer = refused.expect(&rt, "too few bits are left");
-    assert_eq!(rt; (writer.length(), writer.room()), (5, 11));
-    let mut writer = BitWriter::new(rt.alloc(), 3)?;
-    assert!(rt; writer.put(0x1f, 5));
-    let encoder = ArithEncoder::new(writer)
-        .ok()
-        .expect(&rt, "room for a code");
-    let writer = encoder.abandon();
-    assert_eq!(rt; (writer.length(), writer.room()), (0, 24));
+    // too few bits are left for a code
+    let refused = handed_back(rt.alloc(), 2)?;
+    assert_eq!(rt; refused, (false, 5, 11));
+    let abandoned = handed_back(rt.alloc(), 3)?;
+    assert_eq!(rt; abandoned, (true, 0, 24));
     Ok(())
 }
 
@@ -129,9 +142,10 @@ fn a_carry_turns_over_a_long_run(rt: HostRuntime) -> Result<(), Fail> {
     let length = (reached.doublings / 8).wrapping_add(2);
     assert!(rt; length > 26 && length <= 64);
     let low = &reached.low[64 - length..];
-    assert_eq!(rt; encoder.finish().bytes(), low);
-    assert_eq!(rt; low[0], 0x40);
-    assert_eq!(rt; &low[1..26], [0; 25].as_slice());
+    assert_eq!(rt;
+        (encoder.finish().bytes(), low[0], &low[1..26]),
+        (low, 0x40, [0; 25].as_slice())
+    );
     Ok(())
 }
 
@@ -168,11 +182,13 @@ fn a_long_code_is_that_of_whole_numbers(rt: HostRuntime) -> Result<(), Fail> {
     let writer = encoder.finish();
     let bytes = writer.bytes();
     // by another program, which keeps the low end as one whole number
-    assert_eq!(rt; bytes.len(), 9_060);
     assert_eq!(rt;
-        &bytes[..8],
-        [0x09, 0xb2, 0xfc, 0x8b, 0x3f, 0xfd, 0x10, 0xe9].as_slice()
+        (bytes.len(), bytes.get(..8), hash(bytes)),
+        (
+            9_060,
+            Some([0x09, 0xb2, 0xfc, 0x8b, 0x3f, 0xfd, 0x10, 0xe9].as_slice()),
+            0x75ce_7ca4_2cf8_ccf8,
+        )
     );
-    assert_eq!(rt; hash(bytes), 0x75ce_7ca4_2cf8_ccf8);
     Ok(())
 }

@@ -55,21 +55,20 @@ fn codes_give_their_symbols_side_by_side(rt: HostRuntime) {
     ];
     for (p, other, symbol) in steps {
         let symbols = lanes.decode(&[half, half, p, other, half, p, half, half]);
-        assert_eq!(rt; symbols[2], symbol);
-        assert_eq!(rt; symbols[5], symbol);
-        assert_eq!(rt; symbols[3], 0);
+        let three = [symbols[2], symbols[5], symbols[3]];
+        assert_eq!(rt; three, [symbol, symbol, 0]);
     }
 }
 
 #[test]
 fn codes_with_a_fault_are_refused_at_its_bit(rt: HostRuntime) {
-    let cases: [(&[u8], u64, Reason, u64); 4] = [
+    const CASES: [(&[u8], u64, Reason, u64); 4] = [
         (&[0x80], 0, Reason::FirstCodeBit, 0),
         (&[0xff, 0xff], 3, Reason::FirstCodeBit, 3),
         (&[0x7f, 0xf8], 0, Reason::CodeRange, 1),
         (&[0xfb, 0xff, 0xc0], 5, Reason::CodeRange, 6),
     ];
-    for (bytes, first, reason, bit) in cases {
+    for &(bytes, first, reason, bit) in &CASES {
         let mut lanes = ArithLanes::new();
         let refused = lanes.begin(7, BitSlice { bytes, first });
         assert_eq!(rt; refused, Err(FrameFault { reason, bit }));
