@@ -40,7 +40,7 @@ fn codes_tell_place_and_guess(rt: HostRuntime) -> Result<(), Fail> {
     let mut predictions = begun(rt.alloc())?;
     assert_eq!(rt; predictions.channels().count(), 2);
     // the coefficients, the channel, the codes of its first four samples
-    let cases: [(&[i16], usize, [u8; 4]); 6] = [
+    const CASES: [(&[i16], usize, [u8; 4]); 6] = [
         (&[0], 0, [0, 0, 0, 0]),
         (&[0], 1, [64, 64, 64, 64]),
         (&[128], 0, [80, 16, 16, 16]),
@@ -49,7 +49,7 @@ fn codes_tell_place_and_guess(rt: HostRuntime) -> Result<(), Fail> {
         (&[100, 200], 0, [12, 76, 37, 37]),
         (&[-256, -256, -256], 1, [96, 96, 127, 127]),
     ];
-    for (coefs, channel, expected) in cases {
+    for &(coefs, channel, expected) in &CASES {
         let (_, codes) = row_of(&mut predictions, channel, coefs)?;
         assert_eq!(rt; codes, expected, "{coefs:?} and channel {channel}");
     }
