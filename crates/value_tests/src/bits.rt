@@ -60,7 +60,7 @@ fn no_bit_fits_in_no_bytes(rt: HostRuntime) -> Result<(), Fail> {
 #[test]
 fn numbers_are_read_at_every_place(rt: HostRuntime) -> Result<(), Fail> {
     let bytes = [0x01, 0x23, 0x45, 0x67, 0x89, 0xab, 0xcd, 0xef, 0xff];
-    let cases: [(u32, u32, Option<u32>, Option<i32>); 10] = [
+    const CASES: [(u32, u32, Option<u32>, Option<i32>); 10] = [
         (0, 32, Some(0x0123_4567), Some(0x0123_4567)),
         (4, 32, Some(0x1234_5678), Some(0x1234_5678)),
         (7, 32, Some(0x91a2_b3c4), Some(-0x6e5d_4c3c)),
@@ -72,7 +72,7 @@ fn numbers_are_read_at_every_place(rt: HostRuntime) -> Result<(), Fail> {
         (72, 1, None, None),
         (90, 1, None, None),
     ];
-    for (place, n, unsigned, signed) in cases {
+    for &(place, n, unsigned, signed) in &CASES {
         assert!(rt; 1 <= n && n <= 32);
         let slice = BitSlice {
             bytes: &bytes,

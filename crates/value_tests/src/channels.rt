@@ -25,12 +25,12 @@ fn two_channels(coef: i16, second: bool) -> Result<Params, Fail> {
 fn channels_have_their_tables(rt: HostRuntime) -> Result<(), Fail> {
     // coefficient 0, the half bit of channel 1, the channel that it is alike, the reserved symbol's probability: 1 and the low
     // seven bits 0000101 turned round, those of -1, and 0001000
-    let cases: [(i16, bool, usize, u32); 3] = [
+    const CASES: [(i16, bool, usize, u32); 3] = [
         (5, false, 0, 81),
         (-1, true, 1, 128),
         (8, true, 1, 9),
     ];
-    for (coef, second, alike, reserved) in cases {
+    for &(coef, second, alike, reserved) in &CASES {
         let params = two_channels(coef, second)?;
         if params.half_prob.len() != 2 {
             return Err("two channels")?;

@@ -23,7 +23,7 @@ fn has_tables(params: &Params, coefs: &[i16], entries: &[u8]) -> bool {
 #[test]
 fn headers_end_where_their_code_begins(rt: HostRuntime) -> Result<(), Fail> {
     let mono = Channels::new(1).ok_or("one channel")?;
-    let cases: [(&[u8], u64, &[i16], &[u8]); 5] = [
+    const CASES: [(&[u8], u64, &[i16], &[u8]); 5] = [
         (&COEFFICIENT_0, 45, &[0], &[128, 128]),
         // a table of one probability
         (&[0xfc, 0x00, 0x00, 0x00], 30, &[0], &[128]),
@@ -39,7 +39,7 @@ fn headers_end_where_their_code_begins(rt: HostRuntime) -> Result<(), Fail> {
             &[128, 128],
         ),
     ];
-    for (frame, first, coefs, entries) in cases {
+    for &(frame, first, coefs, entries) in &CASES {
         assert!(rt; frame.len() <= 9);
         match view_frame(frame, mono) {
             Ok(FrameView::Coded(params, code)) => {
@@ -55,7 +55,7 @@ fn headers_end_where_their_code_begins(rt: HostRuntime) -> Result<(), Fail> {
 
 #[test]
 fn the_first_field_at_fault_is_told(rt: HostRuntime) -> Result<(), Fail> {
-    let cases: [(u32, &[u8], Reason, u64); 12] = [
+    const CASES: [(u32, &[u8], Reason, u64); 12] = [
         (1, &[], Reason::Truncated, 0),
         (1, &[0x01], Reason::PlainStuffing, 2),
         (1, &[0x40, 0x00], Reason::Truncated, 8),
@@ -80,7 +80,7 @@ fn the_first_field_at_fault_is_told(rt: HostRuntime) -> Result<(), Fail> {
             43,
         ),
     ];
-    for (count, frame, reason, bit) in cases {
+    for &(count, frame, reason, bit) in &CASES {
         let channels = Channels::new(count).ok_or("channels")?;
         let _bytes = channels.sound_bytes();
         assert!(rt; frame.len() <= 6);

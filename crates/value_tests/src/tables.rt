@@ -25,14 +25,14 @@ fn residual_of(bytes: &[u8], m: u32) -> Option<(Option<i32>, u64)>
 #[test]
 fn residuals_have_their_bits(rt: HostRuntime) -> Result<(), Fail> {
     // each residual with m, and its bits as a number
-    let cases: [(i32, u32, u32, u32); 5] = [
+    const CASES: [(i32, u32, u32, u32); 5] = [
         (0, 0, 0b1, 1),
         (-1, 0, 0b011, 3),
         (5, 1, 0b00110, 5),
         (-5, 1, 0b00111, 5),
         (0, 2, 0b100, 3),
     ];
-    for (r, m, bits, length) in cases {
+    for &(r, m, bits, length) in &CASES {
         assert!(rt; -5 <= r && r <= 5 && m <= 2 && length <= 5);
         let mut writer = BitWriter::new(rt.alloc(), 1)?;
         let written = (rice_length(r, m), rice_write(&mut writer, r, m));

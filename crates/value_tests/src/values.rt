@@ -42,7 +42,7 @@ fn probabilities_are_1_to_128(rt: HostRuntime) -> Result<(), Fail> {
 
 #[test]
 fn filters_have_1_to_128_coefficients_of_nine_bits(rt: HostRuntime) -> Result<(), Fail> {
-    let cases: [(&[i16], bool); 6] = [
+    const CASES: [(&[i16], bool); 6] = [
         (&[], false),
         (&[-256, 255], true),
         (&[0, -257], false),
@@ -50,7 +50,7 @@ fn filters_have_1_to_128_coefficients_of_nine_bits(rt: HostRuntime) -> Result<()
         (&[7; 128], true),
         (&[7; 129], false),
     ];
-    for (coefs, given) in cases {
+    for &(coefs, given) in &CASES {
         match FilterTable::new(coefs) {
             Some(table) => assert!(rt; given && table.coefs() == coefs, "{coefs:?}"),
             None => assert!(rt; !given, "{coefs:?}"),
@@ -61,7 +61,7 @@ fn filters_have_1_to_128_coefficients_of_nine_bits(rt: HostRuntime) -> Result<()
 
 #[test]
 fn probability_tables_have_1_to_64_entries(rt: HostRuntime) -> Result<(), Fail> {
-    let cases: [(&[u8], bool); 8] = [
+    const CASES: [(&[u8], bool); 8] = [
         (&[], false),
         (&[128], true),
         (&[64], false),
@@ -71,7 +71,7 @@ fn probability_tables_have_1_to_64_entries(rt: HostRuntime) -> Result<(), Fail> 
         (&[9; 64], true),
         (&[9; 65], false),
     ];
-    for (entries, given) in cases {
+    for &(entries, given) in &CASES {
         match ProbTable::new(entries) {
             Some(table) => assert!(rt; given && table.entries() == entries, "{entries:?}"),
             None => assert!(rt; !given, "{entries:?}"),
@@ -82,7 +82,7 @@ fn probability_tables_have_1_to_64_entries(rt: HostRuntime) -> Result<(), Fail> 
 
 #[test]
 fn maps_number_tables_in_order_of_first_use(rt: HostRuntime) -> Result<(), Fail> {
-    let cases: [(&[u8], Option<usize>); 7] = [
+    const CASES: [(&[u8], Option<usize>); 7] = [
         (&[], None),
         (&[0], Some(1)),
         (&[1], None),
@@ -91,7 +91,7 @@ fn maps_number_tables_in_order_of_first_use(rt: HostRuntime) -> Result<(), Fail>
         (&[0, 1, 2, 3, 4, 5], Some(6)),
         (&[0; 7], None),
     ];
-    for (elements, count) in cases {
+    for &(elements, count) in &CASES {
         let made = Map::new(elements);
         let found = made.as_ref().map(|map| (map.count(), map.elements()));
         let given = count.map(|count| (count, elements));
