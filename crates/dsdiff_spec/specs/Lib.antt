@@ -16,6 +16,7 @@ pub mod Dsf
 pub mod Words
 pub mod Refusal
 pub mod Texts
+pub mod Numbers
 pub mod Lines
 pub mod Ranges
 pub mod Outcome

@@ -1,6 +1,6 @@
 // Why a file is refused, with the numbers that the refusal tells.
 
-use Numbers::{Nothing, One, Two};
+use crate::{Numbers, Text, text_of_file};
 use std::fmt::{self, Display, Formatter, Write};
 use thiserror::Error;
 
@@ -76,66 +76,13 @@ pub enum FileFault {
     RangePast { end: u64, groups: u64 },
 }
 
-// The numbers behind a fault's name.
-#[derive(Clone, Copy, Drop)]
-enum Numbers {
-    Nothing,
-    One(u64),
-    Two(u64, u64),
-}
-
-// A fault's number, its name and its numbers.
-#[derive(Clone, Copy, Drop)]
-struct Text(u8, &'static str, Numbers);
-
-// What shows of each fault.
-fn text_of(fault: FileFault) -> Text {
-    use FileFault::*;
-
-    match fault {
-        NotForm => Text(1, "NotForm", Nothing),
-        FormType => Text(2, "FormType", Nothing),
-        Overrun { place } => Text(3, "Overrun", One(place)),
-        Version => Text(4, "Version", Nothing),
-        PropMissing => Text(5, "PropMissing", Nothing),
-        PropTwice => Text(6, "PropTwice", Nothing),
-        PropType => Text(7, "PropType", Nothing),
-        PropTooLong => Text(8, "PropTooLong", Nothing),
-        Rate => Text(9, "Rate", Nothing),
-        Channels => Text(10, "Channels", Nothing),
-        Compression => Text(11, "Compression", Nothing),
-        SoundMissing => Text(12, "SoundMissing", Nothing),
-        SoundTwice => Text(13, "SoundTwice", Nothing),
-        SoundUneven => Text(14, "SoundUneven", Nothing),
-        FrameRate => Text(15, "FrameRate", Nothing),
-        CountDiffers { count, found } => Text(16, "CountDiffers", Two(count as u64, found as u64)),
-        FrameTooLong { frame, length } => Text(17, "FrameTooLong", Two(frame as u64, length)),
-        TooManyFrames => Text(18, "TooManyFrames", Nothing),
-        TooManyChunks => Text(19, "TooManyChunks", Nothing),
-        NotPlain => Text(20, "NotPlain", Nothing),
-        KeptBad => Text(21, "KeptBad", Nothing),
-        Range { asked, frames } => Text(22, "Range", Two(asked as u64, frames as u64)),
-        IndexMissing => Text(23, "IndexMissing", Nothing),
-        IndexBad { entry } => Text(24, "IndexBad", One(entry as u64)),
-        FormTooLarge => Text(25, "FormTooLarge", Nothing),
-        CodedChunk { place } => Text(26, "CodedChunk", One(place)),
-        NotCoded => Text(27, "NotCoded", Nothing),
-        TailTooLong { length } => Text(28, "TailTooLong", One(length)),
-        DsfForm => Text(29, "DsfForm", Nothing),
-        DsfFormat => Text(30, "DsfFormat", Nothing),
-        DsfCount { samples, size } => Text(31, "DsfCount", Two(samples, size)),
-        DsfKeptBad => Text(32, "DsfKeptBad", Nothing),
-        RangePast { end, groups } => Text(33, "RangePast", Two(end, groups)),
-    }
-}
-
 impl Display for FileFault {
     fn fmt<W: Write>(&self, f: &mut Formatter<W>) -> fmt::Result {
-        let Text(number, name, numbers) = text_of(*self);
+        let Text(number, name, numbers) = text_of_file(*self);
         match numbers {
-            Nothing => write!(f, "{number} {name}"),
-            One(n) => write!(f, "{number} {name} {n}"),
-            Two(m, n) => write!(f, "{number} {name} {m} {n}"),
+            Numbers::Nothing => write!(f, "{number} {name}"),
+            Numbers::One(n) => write!(f, "{number} {name} {n}"),
+            Numbers::Two(m, n) => write!(f, "{number} {name} {m} {n}"),
         }
     }
 }

@@ -1,6 +1,6 @@
 //! Files of one-bit sound (Philips DSDIFF 1.5) and the product's runs over them, as definitions.
 //!
-//! The crate has no code but [`FileFault`]; its substance is in `specs/`, which contracts of the crates above cite:
+//! The crate has no code but [`FileFault`] and the texts of refusals ([`text_of_file`], [`text_of_frame`]); its substance is in `specs/`, which contracts of the crates above cite:
 //!
 //! - `Chunks`, `Form`, `Parts`, `Rules`: chunks, the form of a file, and the rules in their order
 //!   (`form file` is `Ok` of a form, or `Err` of the first fault);
@@ -27,5 +27,7 @@
 
 mod faults;
 pub mod laws;
+mod refusal_texts;
 
 pub use faults::FileFault;
+pub use refusal_texts::{Numbers, Text, text_of_file, text_of_frame};

@@ -1,4 +1,4 @@
-//! The lines of a report, and the texts of refusals.
+//! The lines of a report. The texts of refusals are those of `dsdiff_spec`.
 //!
 //! ```text
 //! report.append(lines::decoded(2, 4705).as_bytes());       // "decoded 2 frames into 4705 bytes", with its line feed
@@ -9,4 +9,3 @@
 #![tactic(auto)]
 
 pub mod lines;
-mod texts;

@@ -2,11 +2,10 @@
 ghost use Rattle.std.specs.Prelude.{◌≡◌, ◌+◌, ◌<◌, ◌≤◌, ◌∷◌, ◌++◌, [], length, decimal, codes, flat_map};
 ghost use Rattle.arrayvec.specs.ArrayString.{array_string_len};
 ghost use Rattle.dsdiff_spec.specs.Lines.{report, words_line, read_fault_line, write_fault_line, memory_line, file_line, frame_fault_line, coded_line, decoded_line, cut_line, frame_line, range_line, check_line, made_line, made_run_line, plain_frame_line, coded_frame_line};
-ghost use Rattle.dst_lines.specs.Numbers.{numbers_seen};
+ghost use Rattle.dsdiff_spec.specs.Numbers.{numbers_seen};
 
-use crate::texts::{Numbers, Text, text_of_file, text_of_frame};
 use arrayvec::ArrayString;
-use dsdiff_spec::FileFault;
+use dsdiff_spec::{FileFault, Numbers, Text, text_of_file, text_of_frame};
 use dst_spec::FrameFault;
 use itoa::{Buffer, Integer};
 

@@ -1,7 +1,7 @@
 -- The numbers that a refusal keeps, as the list that the definitions have.
 use Rattle.std.specs.Prelude.{ℕ, List, [], ◌∷◌}
-use Rattle.dst_lines.specs.declared.texts.Numbers.{Numbers}
-use Rattle.dst_lines.specs.declared.texts.Numbers.TheVariants.{Nothing, One, Two}
+use Rattle.dsdiff_spec.specs.declared.refusal_texts.Numbers.{Numbers}
+use Rattle.dsdiff_spec.specs.declared.refusal_texts.Numbers.TheVariants.{Nothing, One, Two}
 
 abbrev pub numbers_seen : Numbers → List ℕ
 numbers_seen Nothing = []

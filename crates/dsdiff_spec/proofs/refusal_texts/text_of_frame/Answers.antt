@@ -3,7 +3,7 @@ use Rattle.std.proofs.Common.{◌≡◌, ap, sym}
 use Rattle.std.specs.Prelude.{codes}
 use Rattle.dst_spec.specs.declared.faults.Reason.{Reason}
 use Rattle.dsdiff_spec.specs.Texts.{text_of_reason}
-use Rattle.dst_lines.proofs.texts.text_of_frame.Goals as goal
+use Rattle.dsdiff_spec.proofs.refusal_texts.text_of_frame.Goals as goal
 
 same_name : {a b : Reason} → a ≡ b → codes (text_of_reason b).name ≡ codes (text_of_reason a).name
 same_name e = ap (λ a. codes (text_of_reason a).name) (sym e)

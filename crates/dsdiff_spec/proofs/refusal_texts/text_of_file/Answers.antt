@@ -3,7 +3,7 @@ use Rattle.std.proofs.Common.{◌≡◌, ap, sym}
 use Rattle.std.specs.Prelude.{codes}
 use Rattle.dsdiff_spec.specs.declared.faults.FileFault.{FileFault}
 use Rattle.dsdiff_spec.specs.Texts.{text_of}
-use Rattle.dst_lines.proofs.texts.text_of_file.Goals as goal
+use Rattle.dsdiff_spec.proofs.refusal_texts.text_of_file.Goals as goal
 
 same_name : {a b : FileFault} → a ≡ b → codes (text_of b).name ≡ codes (text_of a).name
 same_name e = ap (λ a. codes (text_of a).name) (sym e)

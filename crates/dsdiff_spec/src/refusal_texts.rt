@@ -1,26 +1,26 @@
-// The texts of refusals.
+// The texts of refusals. Report lines and what faults show have them from here.
 ghost use Rattle.std.specs.Prelude.{◌≡◌, ◌≤◌, [], ◌∷◌, length, codes};
 ghost use Rattle.dsdiff_spec.specs.Texts.{text_of, text_of_reason};
-ghost use Rattle.dst_lines.specs.Numbers.{numbers_seen};
+ghost use Rattle.dsdiff_spec.specs.Numbers.{numbers_seen};
 
+use crate::FileFault;
 use Numbers::{Nothing, One, Two};
-use dsdiff_spec::FileFault;
 use dst_spec::Reason;
 
-// The numbers behind a refusal's name.
+/// The numbers behind a refusal's name.
 #[derive(Clone, Copy, Drop)]
-pub(crate) enum Numbers {
+pub enum Numbers {
     Nothing,
     One(u64),
     Two(u64, u64),
 }
 
-// A refusal's number, its name and the numbers behind it.
+/// A refusal's number, its name and the numbers behind it.
 #[derive(Clone, Copy, Drop)]
-pub(crate) struct Text(pub(crate) u8, pub(crate) &'static str, pub(crate) Numbers);
+pub struct Text(pub u8, pub &'static str, pub Numbers);
 
-// Why a file is refused.
-pub(crate) fn text_of_file(fault: FileFault) -> Text
+/// Why a file is refused.
+pub fn text_of_file(fault: FileFault) -> Text
     ensures number { result.0 ≡ (text_of fault).number }
     ensures name { result.1.now ≡ codes (text_of fault).name }
     ensures numbers { numbers_seen result.2 ≡ (text_of fault).numbers }
@@ -65,8 +65,8 @@ pub(crate) fn text_of_file(fault: FileFault) -> Text
     }
 }
 
-// Why a frame is refused.
-pub(crate) fn text_of_frame(reason: Reason) -> Text
+/// Why a frame is refused.
+pub fn text_of_frame(reason: Reason) -> Text
     ensures number { result.0 ≡ (text_of_reason reason).number }
     ensures name { result.1.now ≡ codes (text_of_reason reason).name }
     ensures numbers { numbers_seen result.2 ≡ (text_of_reason reason).numbers }
