@@ -1,10 +1,11 @@
 -- A read goes on with a frame, or ends: at a frame that is refused, where the source fails, or behind the last frame.
-use Rattle.std.proofs.Common.{◌≡◌, ℕ, zero, suc, ◌+◌, ◌-◌, ◌*◌, ◌<◌, ◌≤◌, false, List, [], ◌∷◌, ◌++◌, length, take, Option, Some, refl}
+use Rattle.std.proofs.Common.{◌≡◌, ℕ, zero, suc, ◌+◌, ◌-◌, ◌*◌, ◌/◌, ◌<◌, ◌≤◌, false, List, [], ◌∷◌, ◌++◌, length, take, Option, Some, refl}
 use Rattle.std.proofs.Common.{sym, ap, subst, ◌∙◌, arith}
 use Rattle.std.specs.Prelude.{min}
 use Rattle.std.specs.List.{range_with_len}
 use Rattle.std.proofs.Math.Nat.{mul-le-mul}
 use Rattle.std.proofs.lemmas.List.{take_all}
+use Rattle.std.proofs.lemmas.Nat.{div-add-mod'}
 use Rattle.dst_spec.specs.Sample.{IsShape, sound_bytes}
 use Rattle.dst_spec.specs.Means.{Means}
 use Rattle.dst_spec.specs.Offends.{Offends}
@@ -14,12 +15,12 @@ use Rattle.dst_spec.proofs.SymbolsBefore.{range-more}
 use Rattle.dsdiff_spec.specs.Bytes.{bytes_at}
 use Rattle.dsdiff_spec.specs.Form.{Form, shape, sound_bytes_of}
 use Rattle.dsdiff_spec.specs.Walk.{entry, entries, frame_at}
-use Rattle.dsdiff_spec.specs.Ranges.{Sound, is_kept}
-use Rattle.frame_cache.specs.Reader.{Reader, HoldsTogether, order, frame_in, IsSame, IsReaderOf, KeepsSounds}
+use Rattle.dsdiff_spec.specs.Ranges.{Sound, is_kept, touched}
+use Rattle.frame_cache.specs.Reader.{Reader, HoldsTogether, order, wanted, frame_in, IsSame, IsReaderOf, KeepsSounds}
 use Rattle.frame_cache.specs.Reads.{HasWanted, IsPartWay, IsRefusedAt}
 use Rattle.frame_cache.proofs.Orders.{HasInFront, in_front_of, range-parts, few_decoded}
 use Rattle.frame_cache.proofs.Sounding.{part_of_sound}
-use Rattle.frame_cache.proofs.Wanting.{wanted_then}
+use Rattle.frame_cache.proofs.Wanting.{none_wanted, wanted_then}
 
 -- ---- bounds
 pub frame_below : (r : Reader) (n k bytes : ℕ) → HoldsTogether r → n ≡ sound_bytes r.shape → bytes ≤ r.size → k * n < bytes → k < length r.index
@@ -50,6 +51,18 @@ all_bytes from (suc len) end n frame reached is =
     let enough = reached (omega arith) in
     let product = ap (λ k. k * n) is in
     omega arith
+
+-- ---- in front of the first frame
+pub nothing_wanted : (r : Reader) (a : ℕ) (bytes : Option (List ℕ)) (given : ℕ) → HasWanted r r (range_with_len a (a - a)) 0 bytes given given
+nothing_wanted r a bytes given =
+    let none : 0 ≡ a - a = omega arith in
+    subst (λ m. HasWanted r r (range_with_len a m) 0 bytes given given) none (none_wanted r bytes given)
+
+pub nothing_read : (sound out : List ℕ) (from len n : ℕ) →
+    take (min (from + len) (from / n * n) - from) out ≡ bytes_at sound from (min (from + len) (from / n * n) - from)
+nothing_read sound out from len n =
+    let none : min (from + len) (from / n * n) - from ≡ 0 = omega (arith, div-add-mod' from n) in
+    rw none refl
 
 -- ---- one frame more
 pub front_is : (r r1 r2 : Reader) (k : ℕ) (ks : List ℕ) (n m : ℕ) (bytes bytes' : Option (List ℕ)) (g g' h h' : ℕ) → 0 < r.capacity →
@@ -90,6 +103,14 @@ front_part file form sound s r r' k n end of lawful whole same keeps h is l byte
     (omega (arith, n_is, fits))
     (omega (arith, place, within, most, of.size_is))
     ∙ ap (λ w. bytes_at w i m) (sym is)
+
+-- ---- the frames that a part wants stand in a row
+pub wants_are : (r : Reader) (n from len end : ℕ) → n ≡ sound_bytes r.shape → touched n from (from + len) ≡ range_with_len (from / n) (end - from / n) →
+    wanted r from len ≡ range_with_len (from / n) (end - from / n)
+wants_are r n from len end bytes row = ap (λ n. touched n from (from + len)) (sym bytes) ∙ row
+
+pub is_among : (first k end : ℕ) → first ≤ k → k < end → k - first < end - first
+is_among first k end after before = omega arith
 
 -- ---- a read that ends before its last frame
 wants_from : (wants : List ℕ) (a e k : ℕ) → wants ≡ range_with_len a e → a ≤ k → k - a < e →

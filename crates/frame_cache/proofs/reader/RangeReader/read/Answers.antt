@@ -1,19 +1,31 @@
 -- Frame by frame the buffer is filled; a frame that can't be had leaves what was wanted before it.
-use Rattle.std.proofs.Common.{◌≡◌, ◌+◌, ◌-◌, ◌*◌, ◌/◌, ◌<◌, ◌++◌, length, take, Err, ap, sym, subst}
+use Rattle.std.proofs.Common.{◌≡◌, ◌+◌, ◌-◌, ◌*◌, ◌/◌, ◌<◌, ◌++◌, length, take, Err, refl, ap, sym, subst}
 use Rattle.std.proofs.Common.{◌∙◌, arith}
 use Rattle.std.specs.Prelude.{min, max}
 use Rattle.std.specs.List.{range_with_len}
 use Rattle.dst_spec.specs.Sample.{sound_bytes}
 use Rattle.dst_spec.proofs.Lists.{same_err}
 use Rattle.dsdiff_spec.specs.Bytes.{bytes_at, between}
-use Rattle.dsdiff_spec.specs.Ranges.{touched}
 use Rattle.frame_cache.specs.declared.reader.RangeFault.TheVariants.{Frame}
 use Rattle.frame_cache.specs.Reader.{Reader, wanted, order}
 use Rattle.frame_cache.specs.Reads.{IsRefusedAt}
 use Rattle.frame_cache.proofs.Ending.{frame_below, size_is_small, decoded_below, one_decoded, front_is, one_more_wanted, front_part, part_way}
-use Rattle.frame_cache.proofs.Ending.{refused_at, all_read, some_bytes, all_bytes}
+use Rattle.frame_cache.proofs.Ending.{refused_at, all_read, some_bytes, all_bytes, is_among, nothing_read, nothing_wanted, wants_are}
 use Rattle.frame_cache.proofs.Filling.{part_more}
+use Rattle.frame_cache.proofs.reader.RangeReader.read.Given.{Over}
 use Rattle.frame_cache.proofs.reader.RangeReader.read.Goals as goal
+
+pub loop-frame-init : goal.loop-frame-init
+loop-frame-init g c = record {
+  bytes = refl;
+  known = refl;
+  later = omega arith;
+  quiet = refl;
+  long = refl;
+  wanted = nothing_wanted c.args.self.now (c.args.from / c.frame_bytes-bytes.result) (g.S.Source.bytes c.args.source.now) (g.S.Source.given c.args.source.now);
+  sound = λ file form sound told keeps of whole.
+      nothing_read sound c.args.out.now c.args.from (length c.args.out.now) c.frame_bytes-bytes.result;
+}
 
 pub overflow_add-decoded : goal.overflow_add-decoded
 overflow_add-decoded g c =
@@ -25,27 +37,27 @@ overflow_add-decoded g c =
     let here = one_decoded c.loop-frame.self c.bring.new.self c.loop-frame.frame _ _ _ _ c.in-Ok.ensures.wanted in
     omega (arith, below, before, here, c.frame_bytes-bytes.ensures.together.few)
 
+-- the frames of the part stand in a row
+wants : (g : Over) (c : goal.In-Err g) →
+    wanted c.args.self.now c.args.from (length c.args.out.now)
+    ≡ range_with_len (c.args.from / c.frame_bytes-bytes.result) (c.end_of_touched-end.result - c.args.from / c.frame_bytes-bytes.result)
+wants g c =
+    wants_are c.args.self.now c.frame_bytes-bytes.result c.args.from (length c.args.out.now) c.end_of_touched-end.result c.frame_bytes-bytes.ensures.bytes
+    c.end_of_touched-end.ensures.touched
+
 pub returns-in-Err-clause-frame : goal.returns-in-Err-clause-frame
 returns-in-Err-clause-frame g c k fault e =
     let r = c.args.self.now in
-    let first = c.args.from / c.frame_bytes-bytes.result in
     let it = c.in-Err.ensures.fault k fault (ap Err (same_err c.in-Err.fault (Frame k fault) e)) in
-    let is : wanted r c.args.from (length c.args.out.now) ≡ range_with_len first (c.end_of_touched-end.result - first) =
-    ap (λ n. touched n c.args.from (c.args.from + length c.args.out.now)) (sym c.frame_bytes-bytes.ensures.bytes) ∙ c.end_of_touched-end.ensures.touched in
-    let below : c.loop-frame.frame - first < c.end_of_touched-end.result - first = omega (arith, c.loop-frame.auto.frame, c.loop-frame-test.true) in
     subst (λ j. IsRefusedAt r (wanted r c.args.from (length c.args.out.now)) (order c.bring.new.self) (g.S.Source.bytes c.args.source.now) j fault) (sym it.0)
-    (refused_at r c.loop-frame.self c.bring.new.self _ first _ c.loop-frame.frame _ _ _ _ _ fault is c.loop-frame.auto.frame below
+    (refused_at r c.loop-frame.self c.bring.new.self _ (c.args.from / c.frame_bytes-bytes.result) _ c.loop-frame.frame _ _ _ _ _ fault (wants g c)
+    c.loop-frame.auto.frame (is_among _ _ _ c.loop-frame.auto.frame c.loop-frame-test.true)
     c.loop-frame.invariant.wanted c.in-Err.ensures.unchanged c.in-Err.ensures.not_kept c.loop-frame.invariant.bytes it.1)
 
 pub returns-in-Err-clause-part_way : goal.returns-in-Err-clause-part_way
 returns-in-Err-clause-part_way g c =
-    let r = c.args.self.now in
-    let first = c.args.from / c.frame_bytes-bytes.result in
-    let is : wanted r c.args.from (length c.args.out.now) ≡ range_with_len first (c.end_of_touched-end.result - first) =
-    ap (λ n. touched n c.args.from (c.args.from + length c.args.out.now)) (sym c.frame_bytes-bytes.ensures.bytes) ∙ c.end_of_touched-end.ensures.touched in
-    let below : c.loop-frame.frame - first < c.end_of_touched-end.result - first = omega (arith, c.loop-frame.auto.frame, c.loop-frame-test.true) in
-    part_way r c.loop-frame.self c.bring.new.self _ first _ c.loop-frame.frame _ _ _ _ is c.loop-frame.auto.frame below c.loop-frame.invariant.wanted
-    c.in-Err.ensures.unchanged
+    part_way c.args.self.now c.loop-frame.self c.bring.new.self _ (c.args.from / c.frame_bytes-bytes.result) _ c.loop-frame.frame _ _ _ _ (wants g c)
+    c.loop-frame.auto.frame (is_among _ _ _ c.loop-frame.auto.frame c.loop-frame-test.true) c.loop-frame.invariant.wanted c.in-Err.ensures.unchanged
 
 pub front-requires : goal.front-requires
 front-requires g c =
@@ -112,9 +124,9 @@ loop-frame-preserved g c =
 
 pub returns-clause-sound : goal.returns-clause-sound
 returns-clause-sound g c file form sound told keeps of whole =
-    let n = c.frame_bytes-bytes.result in
-    let len = length c.args.out.now in
     let last : c.loop-frame.frame ≡ c.end_of_touched-end.result =
     omega (arith, c.loop-frame-test.false, c.loop-frame.auto.frame-end, c.end_of_touched-end.ensures.least) in
-    let done = all_bytes c.args.from len c.end_of_touched-end.result n c.loop-frame.frame c.end_of_touched-end.ensures.reached last in
-    all_read sound c.loop-frame.out c.args.from len _ c.loop-frame.invariant.long done (c.loop-frame.invariant.sound file form sound told keeps of whole)
+    let done = all_bytes c.args.from (length c.args.out.now) c.end_of_touched-end.result c.frame_bytes-bytes.result c.loop-frame.frame
+    c.end_of_touched-end.ensures.reached last in
+    all_read sound c.loop-frame.out c.args.from (length c.args.out.now) _ c.loop-frame.invariant.long done
+    (c.loop-frame.invariant.sound file form sound told keeps of whole)
