@@ -89,6 +89,15 @@ impl Gate for Holding {
     }
 }
 
+// Numbers of which the first `count` are one, and the others another.
+fn first_are<const N: usize>(count: usize, one: u32, other: u32) -> [u32; N] {
+    let mut numbers = [other; N];
+    for number in numbers.iter_mut().take(count) {
+        *number = one;
+    }
+    numbers
+}
+
 #[test]
 fn as_many_jobs_as_workers_are_worked_at_once(rt: HostRuntime) -> Result<(), Fail> {
     for workers in 2..17usize {
@@ -104,15 +113,12 @@ fn as_many_jobs_as_workers_are_worked_at_once(rt: HostRuntime) -> Result<(), Fai
             &mut jobs[..count],
         );
         let passes = gate.passes.load(Ordering::SeqCst);
-        assert_eq!(rt; passes, count as u64, "{workers} workers");
         let most = gate.most.load(Ordering::SeqCst);
-        assert_eq!(rt; most, workers as u64, "{workers} workers");
-        for job in &jobs[..count] {
-            assert_eq!(rt; job.value, 2, "{workers} workers");
-        }
-        for scratch in &scratches[..workers] {
-            assert_eq!(rt; scratch.count, 3, "{workers} workers");
-        }
+        let all = (count as u64, workers as u64);
+        assert_eq!(rt; (passes, most), all, "{workers} workers");
+        let worked = (jobs.map(|job| job.value), scratches.map(|it| it.count));
+        let wanted = (first_are(count, 2, 1), first_are(workers, 3, 0));
+        assert_eq!(rt; worked, wanted, "{workers} workers");
     }
     Ok(())
 }
@@ -139,38 +145,55 @@ fn share(place: usize, workers: usize, count: usize) -> usize {
     (count / workers).wrapping_add(usize::from(place < count % workers))
 }
 
+// What becomes of jobs: the value of each, how many each worker has, how often the gate is passed, and the sum of the places.
+type Shares = ([u32; 64], [usize; 16], u64, u64);
+
+// Some of 64 jobs are worked, which are 7 before.
+fn shared_out<R: Threads + Sync>(rt: &R, workers: usize, count: usize) -> Shares
+    requires some { 0 < workers }
+    requires most { workers ≤ 16 }
+    requires jobs { count ≤ 64 }
+{
+    let gate = Counting {
+        passes: AtomicU64::new(0),
+        places: AtomicU64::new(0),
+    };
+    let mut scratches = [IDLE; 16];
+    let mut jobs = [Number { value: 7 }; 64];
+    run_batch(
+        rt,
+        &ADD_ONE,
+        &gate,
+        &mut scratches[..workers],
+        &mut jobs[..count],
+    );
+    (
+        jobs.map(|job| job.value),
+        scratches.map(|it| it.count as usize),
+        gate.passes.load(Ordering::SeqCst),
+        gate.places.load(Ordering::SeqCst),
+    )
+}
+
+// The same where the jobs are shared out evenly.
+fn even_shares(workers: usize, count: usize) -> Shares {
+    let mut counts = [0usize; 16];
+    for place in 0..16usize {
+        counts[place] = share(place, workers, count);
+    }
+    let all = count.wrapping_mul(count.saturating_sub(1)) / 2;
+    (first_are(count, 8, 7), counts, count as u64, all as u64)
+}
+
 #[test]
 fn the_jobs_are_shared_out_evenly(rt: HostRuntime) -> Result<(), Fail> {
     for workers in 1..17usize {
         for count in 0..65usize {
-            let gate = Counting {
-                passes: AtomicU64::new(0),
-                places: AtomicU64::new(0),
-            };
-            let mut scratches = [IDLE; 16];
-            let mut jobs = [Number { value: 7 }; 64];
-            run_batch(
-                &rt,
-                &ADD_ONE,
-                &gate,
-                &mut scratches[..workers],
-                &mut jobs[..count],
+            assert_eq!(rt;
+                shared_out(&rt, workers, count),
+                even_shares(workers, count),
+                "{count} jobs, {workers} workers"
             );
-            for (place, job) in jobs.iter().enumerate() {
-                let wanted = if place < count { 8 } else { 7 };
-                assert_eq!(rt; job.value, wanted, "job {place} of {count}");
-            }
-            for (place, scratch) in scratches.iter().enumerate() {
-                let wanted = share(place, workers, count);
-                assert_eq!(rt;
-                    scratch.count as usize,
-                    wanted,
-                    "worker {place} of {workers}"
-                );
-            }
-            let all = count.wrapping_mul(count.saturating_sub(1)) / 2;
-            assert_eq!(rt; gate.passes.load(Ordering::SeqCst), count as u64);
-            assert_eq!(rt; gate.places.load(Ordering::SeqCst), all as u64);
         }
     }
     Ok(())

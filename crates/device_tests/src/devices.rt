@@ -51,18 +51,15 @@ fn reads(
 ) {
     let mut out = [0u8; 4];
     let read = source.read_at(place, &mut out);
-    assert_eq!(rt; read, answer, "at {place}");
-    assert_eq!(rt; out.as_slice(), held, "at {place}");
+    assert_eq!(rt; (read, out.as_slice()), (answer, held), "at {place}");
 }
 
 #[test]
 fn a_source_in_memory_gives_its_pieces_and_fails_as_planned(rt: HostRuntime) -> Result<(), Fail> {
     let bytes = [1u8, 2, 3, 4, 5];
     let mut source = MemorySource::new(&bytes, &[3, 0], &[0, 3]);
-    let refused = source.size();
-    assert_eq!(rt; refused, Err(Failed));
-    let size = source.size();
-    assert_eq!(rt; size, Ok(5));
+    let sizes = (source.size(), source.size());
+    assert_eq!(rt; sizes, (Err(Failed), Ok(5)));
     let steps: [(u64, Result<usize, Failed>, [u8; 4]); 5] = [
         (1, Ok(3), [2, 3, 4, 0]),
         (1, Err(Failed), [0, 0, 0, 0]),
@@ -82,10 +79,8 @@ fn an_honest_source_gives_all_that_is_asked(rt: HostRuntime) -> Result<(), Fail>
     let mut source = HonestSource::new(&bytes);
     let mut out = [0u8; 4];
     let size = source.size();
-    assert_eq!(rt; size, Ok(5));
     let read = source.read_at(1, &mut out);
-    assert_eq!(rt; read, Ok(4));
-    assert_eq!(rt; out.as_slice(), [2, 3, 4, 5].as_slice());
+    assert_eq!(rt; (size, read, out), (Ok(5), Ok(4), [2, 3, 4, 5]));
     Ok(())
 }
 
@@ -98,8 +93,7 @@ fn appends(
     held: &[u8],
 ) {
     let appended = sink.append(piece);
-    assert_eq!(rt; appended, answer);
-    assert_eq!(rt; sink.written(), held);
+    assert_eq!(rt; (appended, sink.written()), (answer, held));
 }
 
 #[test]
@@ -116,6 +110,11 @@ fn a_sink_in_memory_keeps_half_of_a_refused_piece(rt: HostRuntime) -> Result<(),
     }
     let refused = sink.overwrite(0, &[]);
     assert_eq!(rt; refused, Err(Failed));
+    Ok(())
+}
+
+#[test]
+fn a_sink_in_memory_is_written_over(rt: HostRuntime) -> Result<(), Fail> {
     let mut sure = MemorySink::new(rt.alloc(), 3, &[])?;
     write_over(&mut sure)?;
     assert_eq!(rt; sure.written(), [1, 9, 3].as_slice());
@@ -129,20 +128,27 @@ fn write_over<K: Sink>(sink: &mut K) -> Result<(), Failed> {
     sink.finish()
 }
 
+// Which of four calls of a sink fail.
+fn failing_calls<K: Sink>(sink: &mut K) -> [bool; 4] {
+    [
+        sink.append(&[1, 2]).is_err(),
+        sink.overwrite(0, &[]).is_err(),
+        sink.finish().is_err(),
+        sink.append(&[3]).is_err(),
+    ]
+}
+
 #[test]
 fn each_call_of_a_sink_in_memory_fails_in_its_turn(rt: HostRuntime) -> Result<(), Fail> {
-    let fails: [&[u64]; 4] = [&[0], &[1], &[2], &[3]];
-    for (turn, failing) in fails.iter().enumerate() {
-        let mut sink = MemorySink::new(rt.alloc(), 9, failing)?;
-        let calls = [
-            sink.append(&[1, 2]),
-            sink.overwrite(0, &[]),
-            sink.finish(),
-            sink.append(&[3]),
-        ];
-        for (call, answer) in calls.iter().enumerate() {
-            assert_eq!(rt; answer.is_err(), call == turn, "call {call} of {turn}");
-        }
+    let cases: [(&[u64], [bool; 4]); 4] = [
+        (&[0], [true, false, false, false]),
+        (&[1], [false, true, false, false]),
+        (&[2], [false, false, true, false]),
+        (&[3], [false, false, false, true]),
+    ];
+    for (fails, failing) in cases {
+        let mut sink = MemorySink::new(rt.alloc(), 9, fails)?;
+        assert_eq!(rt; failing_calls(&mut sink), failing);
     }
     Ok(())
 }
@@ -154,11 +160,10 @@ fn a_short_sink_keeps_its_prefix_and_then_fails(rt: HostRuntime) -> Result<(), F
     sink.overwrite(0, &[9])?;
     sink.finish()?;
     let cut = sink.append(&[4, 5]);
-    assert_eq!(rt; cut, Err(Failed));
-    assert_eq!(rt; sink.written(), [9, 2, 3, 4].as_slice());
-    let after = (sink.append(&[]), sink.overwrite(1, &[8]), sink.finish());
-    assert_eq!(rt; after, (Err(Failed), Err(Failed), Err(Failed)));
-    assert_eq!(rt; sink.written(), [9, 2, 3, 4].as_slice());
+    let held: &[u8] = &[9, 2, 3, 4];
+    assert_eq!(rt; (cut, sink.written()), (Err(Failed), held));
+    let after = [sink.append(&[]), sink.overwrite(1, &[8]), sink.finish()];
+    assert_eq!(rt; (after, sink.written()), ([Err(Failed); 3], held));
     Ok(())
 }
 
@@ -166,8 +171,7 @@ fn a_short_sink_keeps_its_prefix_and_then_fails(rt: HostRuntime) -> Result<(), F
 fn moves<F: Flow>(rt: &impl Abort, flow: &mut F, answer: Result<usize, Failed>, held: &[u8]) {
     let mut out = [0u8; 3];
     let moved = flow.next(&mut out);
-    assert_eq!(rt; moved, answer);
-    assert_eq!(rt; out.as_slice(), held);
+    assert_eq!(rt; (moved, out.as_slice()), (answer, held));
 }
 
 #[test]
@@ -197,21 +201,32 @@ fn write_in_pieces<K: Sink>(sink: &mut K) -> Result<(), Failed> {
     sink.finish()
 }
 
+// The size of a file that is made, as its sink tells it.
+fn made_size<D: Files>(disk: &D) -> Result<Option<u64>, Failed> {
+    let mut made = FileSink::new(disk, "made.bin");
+    write_in_pieces(&mut made)?;
+    Ok(made.held())
+}
+
+// What a sink whose file is there already answers to a piece, why, and what size it tells.
+fn made_again<D: Files>(disk: &D) -> (Result<(), Failed>, Option<ErrorKind>, Option<u64>) {
+    let mut again = FileSink::new(disk, "made.bin");
+    let refused = again.append(b"x");
+    (refused, kind_of(again.reason()), again.held())
+}
+
 #[test]
 fn a_file_is_made_where_there_is_none(rt: HostRuntime) -> Result<(), Fail> {
     let _ = fs::remove_file(&rt, "made.bin");
-    let mut made = FileSink::new(&rt, "made.bin");
-    write_in_pieces(&mut made)?;
-    let size = made.held();
-    let mut again = FileSink::new(&rt, "made.bin");
-    let refused = again.append(b"x");
-    let reason = kind_of(again.reason());
+    let size = made_size(&rt)?;
+    let again = made_again(&rt);
     let held = fs::read(&rt, "made.bin")?;
     fs::remove_file(&rt, "made.bin")?;
-    assert_eq!(rt; (size, again.held()), (Some(8), None));
-    assert_eq!(rt; refused, Err(Failed));
-    assert_eq!(rt; reason, Some(ErrorKind::AlreadyExists));
-    assert_eq!(rt; held.as_slice(), b"sEVen b!".as_slice());
+    let refused = (Err(Failed), Some(ErrorKind::AlreadyExists), None);
+    assert_eq!(rt;
+        (size, again, held.as_slice()),
+        (Some(8), refused, b"sEVen b!".as_slice())
+    );
     Ok(())
 }
 
@@ -245,22 +260,36 @@ fn a_file_that_the_disk_refuses_is_a_failure(rt: HostRuntime) -> Result<(), Fail
     Ok(())
 }
 
-#[test]
-fn a_file_is_read_as_it_is(rt: HostRuntime) -> Result<(), Fail> {
-    fs::write(&rt, "read.bin", b"seven b")?;
-    let mut source = FileSource::new(&rt, "read.bin");
+// The size of a file, how many bytes are read from byte 2 on and behind its end, and those from byte 2 on.
+fn read_file<D: Files>(disk: &D) -> Result<(u64, usize, usize, [u8; 6]), Failed> {
+    let mut source = FileSource::new(disk, "read.bin");
     let size = source.size()?;
     let mut out = [0u8; 6];
     let read = source.read_at(2, &mut out)?;
     let past = source.read_at(7, &mut [0u8; 1])?;
+    Ok((size, read, past, out))
+}
+
+// The size of a file of the same name, and why there is none.
+fn size_or_reason<D: Files>(disk: &D) -> (Result<u64, Failed>, Option<ErrorKind>) {
+    let mut source = FileSource::new(disk, "read.bin");
+    let size = source.size();
+    (size, kind_of(source.reason()))
+}
+
+#[test]
+fn a_file_is_read_as_it_is(rt: HostRuntime) -> Result<(), Fail> {
+    fs::write(&rt, "read.bin", b"seven b")?;
+    let read = read_file(&rt)?;
     fs::remove_file(&rt, "read.bin")?;
-    let mut absent = FileSource::new(&rt, "read.bin");
-    let refused = absent.size();
-    let reason = kind_of(absent.reason());
-    assert_eq!(rt; (size, read, past), (7, 5, 0));
-    assert_eq!(rt; out.as_slice(), b"ven b\0".as_slice());
-    assert_eq!(rt; refused, Err(Failed));
-    assert_eq!(rt; reason, Some(ErrorKind::NotFound));
+    let absent = size_or_reason(&rt);
+    assert_eq!(rt;
+        (read, absent),
+        (
+            (7, 5, 0, *b"ven b\0"),
+            (Err(Failed), Some(ErrorKind::NotFound))
+        )
+    );
     Ok(())
 }
 
@@ -269,24 +298,30 @@ fn size_of<D: Files>(disk: &D) -> Result<u64, Failed> {
     FileSource::new(disk, "any.bin").size()
 }
 
+// The size of a file that ends below it when it is read, the answer behind that end, and why.
+fn read_shrunk(rt: &HostRuntime) -> Result<(u64, Result<usize, Failed>, Option<ErrorKind>), Fail> {
+    let mut source = FileSource::new(rt, "shrinks.bin");
+    let size = source.size()?;
+    fs::write(rt, "shrinks.bin", b"se")?;
+    let behind = source.read_at(2, &mut [0u8; 4]);
+    Ok((size, behind, kind_of(source.reason())))
+}
+
+// What reading a folder answers, whose size is told.
+fn read_folder<D: Files>(disk: &D) -> Result<Result<usize, Failed>, Failed> {
+    let mut folder = FileSource::new(disk, ".");
+    folder.size()?;
+    Ok(folder.read_at(0, &mut [0u8; 4]))
+}
+
 // A file that ends below the size that it had, a folder, and a file whose size can't be had.
 #[test]
 fn a_file_that_gives_nothing_is_a_failure(rt: HostRuntime) -> Result<(), Fail> {
     fs::write(&rt, "shrinks.bin", b"seven b")?;
-    let mut source = FileSource::new(&rt, "shrinks.bin");
-    let size = source.size()?;
-    fs::write(&rt, "shrinks.bin", b"se")?;
-    let mut out = [0u8; 4];
-    let behind = source.read_at(2, &mut out);
-    let reason = kind_of(source.reason());
+    let shrunk = read_shrunk(&rt)?;
     fs::remove_file(&rt, "shrinks.bin")?;
-    assert_eq!(rt;
-        (size, behind, reason),
-        (7, Err(Failed), Some(ErrorKind::UnexpectedEof))
-    );
-    let mut folder = FileSource::new(&rt, ".");
-    folder.size()?;
-    let read = folder.read_at(0, &mut out);
+    assert_eq!(rt; shrunk, (7, Err(Failed), Some(ErrorKind::UnexpectedEof)));
+    let read = read_folder(&rt)?;
     assert_eq!(rt; (read, size_of(&FullDisk)), (Err(Failed), Err(Failed)));
     Ok(())
 }
@@ -317,8 +352,10 @@ fn standard_input_that_breaks_off_is_a_failure(rt: HostRuntime) -> Result<(), Fa
     let first = flow.next(&mut out);
     let second = flow.next(&mut out);
     let reason = kind_of(flow.reason());
-    assert_eq!(rt; (first, second), (Ok(3), Err(Failed)));
-    assert_eq!(rt; reason, Some(ErrorKind::BrokenPipe));
+    assert_eq!(rt;
+        (first, second, reason),
+        (Ok(3), Err(Failed), Some(ErrorKind::BrokenPipe))
+    );
     Ok(())
 }
 
