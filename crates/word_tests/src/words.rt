@@ -2,6 +2,7 @@
 use dst_num::Channels;
 use dst_words::{Command, Pairs, Task, read_words};
 use std::alloc::{AllocError, Global};
+use std::process::Abort;
 use std::test::Fail;
 
 fn split(alloc: Global, text: &str) -> Result<Vec<String>, AllocError> {
@@ -48,6 +49,19 @@ fn make_run(start: u32, frames: u32, count: u32, multiple: u32) -> Option<Task> 
     task(command, 1)
 }
 
+// The words of each text are this task, or none.
+fn tasks_are(
+    rt: &impl Abort,
+    alloc: Global,
+    cases: &[(&str, Option<Task>)],
+) -> Result<(), AllocError> {
+    for (text, expected) in cases {
+        let words = split(alloc, text)?;
+        assert_eq!(rt; read_words(words.as_slice()), *expected, "{text}");
+    }
+    Ok(())
+}
+
 #[test]
 fn words_of_decoding_are_tasks(rt: HostRuntime) -> Result<(), Fail> {
     let cases = [
@@ -75,10 +89,7 @@ fn words_of_decoding_are_tasks(rt: HostRuntime) -> Result<(), Fail> {
         ("decode --workers 2 a b", None),
         ("decode a b --by-index", None),
     ];
-    for (text, expected) in cases {
-        let words = split(rt.alloc(), text)?;
-        assert_eq!(rt; read_words(words.as_slice()), expected, "{text}");
-    }
+    tasks_are(&rt, rt.alloc(), &cases)?;
     assert_eq!(rt; read_words(&[]), None);
     Ok(())
 }
@@ -97,10 +108,7 @@ fn words_of_encoding_are_tasks(rt: HostRuntime) -> Result<(), Fail> {
         ("encode a b --level 1 --workers 4 --level", None),
         ("encode a", None),
     ];
-    for (text, expected) in cases {
-        let words = split(rt.alloc(), text)?;
-        assert_eq!(rt; read_words(words.as_slice()), expected, "{text}");
-    }
+    tasks_are(&rt, rt.alloc(), &cases)?;
     Ok(())
 }
 
@@ -126,10 +134,7 @@ fn words_of_showing_are_tasks(rt: HostRuntime) -> Result<(), Fail> {
         ("index a b", None),
         ("--help", None),
     ];
-    for (text, expected) in cases {
-        let words = split(rt.alloc(), text)?;
-        assert_eq!(rt; read_words(words.as_slice()), expected, "{text}");
-    }
+    tasks_are(&rt, rt.alloc(), &cases)?;
     Ok(())
 }
 
@@ -159,10 +164,7 @@ fn words_of_cutting_and_making_are_tasks(rt: HostRuntime) -> Result<(), Fail> {
         ("make 7 --run 1 1 --workers 4", None),
         ("make 7 --run 1", None),
     ];
-    for (text, expected) in cases {
-        let words = split(rt.alloc(), text)?;
-        assert_eq!(rt; read_words(words.as_slice()), expected, "{text}");
-    }
+    tasks_are(&rt, rt.alloc(), &cases)?;
     Ok(())
 }
 
@@ -184,10 +186,7 @@ fn words_of_dsf_files_are_tasks(rt: HostRuntime) -> Result<(), Fail> {
         ("decode-dsf a b --level 1", None),
         ("decode-dsf a", None),
     ];
-    for (text, expected) in cases {
-        let words = split(rt.alloc(), text)?;
-        assert_eq!(rt; read_words(words.as_slice()), expected, "{text}");
-    }
+    tasks_are(&rt, rt.alloc(), &cases)?;
     Ok(())
 }
 
@@ -222,9 +221,6 @@ fn words_of_parts_are_tasks(rt: HostRuntime) -> Result<(), Fail> {
         ("range a b 0 -1", None),
         ("range a 0 1", None),
     ];
-    for (text, expected) in cases {
-        let words = split(rt.alloc(), text)?;
-        assert_eq!(rt; read_words(words.as_slice()), expected, "{text}");
-    }
+    tasks_are(&rt, rt.alloc(), &cases)?;
     Ok(())
 }
