@@ -215,12 +215,12 @@ fn given(
     Ok((stored, heard))
 }
 
-// Frames in buffers, and room for their sounds.
-fn given_all(
+// What decoding makes of frames side by side, which for each of them is what it makes of the frame alone.
+fn side_by_side(
     alloc: Global,
     channels: Channels,
     frames: &[&[u8]],
-) -> Result<(Vec<StoredFrame>, Vec<DecodedFrame>), Fail> {
+) -> Result<Vec<DecodedFrame>, Fail> {
     let mut stored = Vec::with_capacity(alloc, frames.len())?;
     let mut heard = Vec::with_capacity(alloc, frames.len())?;
     for frame in frames {
@@ -228,34 +228,14 @@ fn given_all(
         stored.push(one)?;
         heard.push(room)?;
     }
-    Ok((stored, heard))
-}
-
-// Whether a frame that was decoded beside others is what it is alone.
-fn is_as_alone(
-    alloc: Global,
-    channels: Channels,
-    frame: &[u8],
-    one: &DecodedFrame,
-) -> Result<bool, Fail> {
-    let (sound, tail) = decoded(alloc, channels, &ONES, frame)?;
-    Ok(one.answer == tail && (tail.is_err() || one.sound.as_slice() == sound.as_slice()))
-}
-
-// What decoding makes of frames side by side, which for each of them is what it makes of the frame alone.
-fn side_by_side(
-    alloc: Global,
-    channels: Channels,
-    frames: &[&[u8]],
-) -> Result<Vec<DecodedFrame>, Fail> {
-    let (stored, mut heard) = given_all(alloc, channels, frames)?;
     if !are_fit(&stored, channels, &heard) {
         return Err("frames that aren't fit")?;
     }
     let mut scratch = BatchScratch::new(alloc, channels)?;
     decode_batch(&stored, channels, &mut scratch, &mut heard);
     for (frame, one) in frames.iter().zip(heard.iter()) {
-        if !is_as_alone(alloc, channels, frame, one)? {
+        let (sound, tail) = decoded(alloc, channels, &ONES, frame)?;
+        if one.answer != tail || tail.is_ok() && one.sound.as_slice() != sound.as_slice() {
             return Err("not as alone")?;
         }
     }
