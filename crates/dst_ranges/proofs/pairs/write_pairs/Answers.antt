@@ -81,5 +81,6 @@ returns-clause-wrote g c =
     let l = c.loop-first in
     let pairs = c.args.pairs.now in
     let all : take l.first-index pairs ≡ pairs = take_all l.first-index pairs (omega (arith, c.loop-first-test.false, l.auto.first-index-end)) in
-    wrote_as c.args.opened.now.reader l.opened.reader (parts_of (sound_bytes c.args.opened.now.reader.shape) c.args.opened.now.channels.channels (take l.first-index pairs)) _ _ _ _ _ _ _ _ _
+    wrote_as c.args.opened.now.reader l.opened.reader
+    (parts_of (sound_bytes c.args.opened.now.reader.shape) c.args.opened.now.channels.channels (take l.first-index pairs)) _ _ _ _ _ _ _ _ _
     (ap (parts_of (sound_bytes c.args.opened.now.reader.shape) c.args.opened.now.channels.channels) all) refl l.invariant.wrote

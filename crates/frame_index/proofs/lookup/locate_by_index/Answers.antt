@@ -15,10 +15,9 @@ returns-in-Err-clause-fault g c fault e xs told =
 
 pub returns-in-Ok-false-clause-fault : goal.returns-in-Ok-false-clause-fault
 returns-in-Ok-false-clause-fault g c fault e xs told =
-    let form = coded_seen c.args.form.now in
     let entry = entry_seen c.in-Ok-read_entry.entry in
-    names_none xs form c.args.k entry c.in-Ok.ensures.accepted
-    (entry_read xs form (head_seen c.in-Ok.head) entry c.args.k c.from.result c.in-Ok.ensures.head c.from.ensures (c.in-Ok-read_entry.ensures.entry xs told))
+    names_none xs (coded_seen c.args.form.now) c.args.k entry c.in-Ok.ensures.accepted
+    (entry_read xs _ (head_seen c.in-Ok.head) entry c.args.k c.from.result c.in-Ok.ensures.head c.from.ensures (c.in-Ok-read_entry.ensures.entry xs told))
     (sym (c.in-Ok-false.ensures.named xs (c.in-Ok-read_entry.ensures.bytes ∙ told)) ∙ c.in-Ok-false.field-0-test)
     ∙ ap Some (same_fault _ _ e)
 

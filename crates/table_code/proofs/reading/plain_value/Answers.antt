@@ -67,10 +67,9 @@ overflow_shl-result g c =
 pub overflow_sub-result : goal.overflow_sub-result
 overflow_sub-result g c =
     let K = g.K.TableKind.kind in
-    let few = few_numbers K g.met.K.TableKind.small in
-    let most = g.met.K.TableKind.small.most_value in
     let width : c.VALUE_BITS-else-number-VALUE_BITS.result ≡ K.value_bits = c.VALUE_BITS-else-number-VALUE_BITS.ensures ∙ g.met.K.TableKind.value_bits in
-    rw (width, one_shl K.value_bits 32 (omega arith)) (omega (arith, ints, few, c.requires))
+    rw (width, one_shl K.value_bits 32 (omega (arith, g.met.K.TableKind.small.most_value)))
+    (omega (arith, ints, few_numbers K g.met.K.TableKind.small, c.requires))
 
 pub returns-else-number-VALUE_BITS : goal.returns-else-number-VALUE_BITS
 returns-else-number-VALUE_BITS g c =
