@@ -17,7 +17,8 @@ pub returns-in-Ok-false-clause-fault : goal.returns-in-Ok-false-clause-fault
 returns-in-Ok-false-clause-fault g c fault e xs told =
     let entry = entry_seen c.in-Ok-read_entry.entry in
     names_none xs (coded_seen c.args.form.now) c.args.k entry c.in-Ok.ensures.accepted
-    (entry_read xs _ (head_seen c.in-Ok.head) entry c.args.k c.from.result c.in-Ok.ensures.head c.from.ensures (c.in-Ok-read_entry.ensures.entry xs told))
+    (entry_read xs (coded_seen c.args.form.now) (head_seen c.in-Ok.head) entry c.args.k c.from.result c.in-Ok.ensures.head c.from.ensures
+    (c.in-Ok-read_entry.ensures.entry xs told))
     (sym (c.in-Ok-false.ensures.named xs (c.in-Ok-read_entry.ensures.bytes ∙ told)) ∙ c.in-Ok-false.field-0-test)
     ∙ ap Some (same_fault _ _ e)
 
