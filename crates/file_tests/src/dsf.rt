@@ -38,9 +38,10 @@ fn twelve_samples_are_two_bytes_of_sound(rt: HostRuntime) -> Result<(), Fail> {
     let mut plain = DsfSource::new(&mut source, form);
     assert_eq!(rt; plain.size(), Ok(154));
     let mut bytes = [0; 154];
-    assert_eq!(rt; read_range(&mut plain, 0, &mut bytes), Ok(()));
-    assert!(rt; bytes == *PLAIN);
-    assert_eq!(rt; plain.read_at(154, &mut bytes), Ok(0));
+    let read = read_range(&mut plain, 0, &mut bytes);
+    let is_plain = bytes == *PLAIN;
+    let behind = plain.read_at(154, &mut bytes);
+    assert_eq!(rt; (read, is_plain, behind), (Ok(()), true, Ok(0)));
     Ok(())
 }
 
@@ -54,10 +55,10 @@ fn head_is_written_as_it_is_read(rt: HostRuntime) -> Result<(), Fail> {
         bits: 1,
     };
     let mut sink = MemorySink::new(rt.alloc(), 92, &[])?;
-    assert_eq!(rt; write_dsf_head(&mut sink, &form), Ok(()));
-    assert!(rt; sink.written() == HEAD.as_slice());
-    let file = file_of(HEAD, 0);
-    assert_eq!(rt; open_dsf(&mut HonestSource::new(&file)), Ok(form));
+    let written = write_dsf_head(&mut sink, &form);
+    let is_head = sink.written() == HEAD.as_slice();
+    let read = open_dsf(&mut HonestSource::new(&file_of(HEAD, 0)));
+    assert_eq!(rt; (written, is_head, read), (Ok(()), true, Ok(form)));
     Ok(())
 }
 

@@ -2,7 +2,6 @@
 use dsdiff_chunks::{FileFault, Form, OpenFault, open_form};
 use dst_streams::HonestSource;
 use std::alloc::{AllocError, Global};
-use std::test::Fail;
 
 // The first chunks of a plain file, and of a coded one.
 const PLAIN_FRONT: [u8; 98] =
@@ -17,35 +16,49 @@ const NO_FRAMES: [u8; 30] = *b"DST \0\0\0\0\0\0\0\x12FRTE\0\0\0\0\0\0\0\x06\0\0\
 const KEPT: [u8; 42] =
     *b"KEPT\0\0\0\0\0\0\0\x1e\x02\0\0\0\0\0\0\0\0\0\0\0\0\0CMPR\0\0\0\0\0\0\0\x04DSD ";
 
-// A form of these chunks.
-fn form_with(alloc: Global, chunks: &[&[u8]]) -> Result<Vec<u8>, AllocError> {
-    let mut body = Vec::new(alloc);
-    for chunk in chunks {
-        body.extend_from_slice(chunk)?;
+// The parts in a row.
+fn joined(alloc: Global, parts: &[&[u8]]) -> Result<Vec<u8>, AllocError> {
+    let mut whole = Vec::new(alloc);
+    for part in parts {
+        whole.extend_from_slice(part)?;
     }
-    let size = (body.len() as u64).saturating_add(4).to_be_bytes();
-    let mut file = Vec::new(alloc);
-    file.extend_from_slice(b"FRM8")?;
-    file.extend_from_slice(&size)?;
-    file.extend_from_slice(b"DSD ")?;
-    file.extend_from_slice(&body)?;
-    Ok(file)
+    Ok(whole)
 }
 
-// How many chunks the form of a file has, or why it isn't opened.
-fn count_of(alloc: Global, file: &[u8]) -> Result<usize, OpenFault> {
-    let mut source = HonestSource::new(file);
-    match open_form(alloc, &mut source) {
+// A form of these chunks.
+fn form_with(alloc: Global, chunks: &[&[u8]]) -> Result<Vec<u8>, AllocError> {
+    let body = joined(alloc, chunks)?;
+    let size = (body.len() as u64).saturating_add(4).to_be_bytes();
+    joined(alloc, &[b"FRM8", &size, b"DSD ", &body])
+}
+
+fn opened(alloc: Global, chunks: &[&[u8]]) -> Result<Form, OpenFault> {
+    let file = form_with(alloc, chunks).map_err(OpenFault::Memory)?;
+    open_form(alloc, &mut HonestSource::new(&file))
+}
+
+// How many chunks a form of these chunks has, or why it isn't opened.
+fn count_of(alloc: Global, chunks: &[&[u8]]) -> Result<usize, OpenFault> {
+    match opened(alloc, chunks) {
         Ok(Form::Plain(form)) => Ok(form.heads.as_slice().len()),
         Ok(Form::Coded(form)) => Ok(form.heads.as_slice().len()),
         Err(fault) => Err(fault),
     }
 }
 
+// The same of a coded form with so many chunks besides its front, which is two chunks, and its sound.
+fn count_beside(alloc: Global, many: usize) -> Result<usize, OpenFault> {
+    let mut others = Vec::new(alloc);
+    for _ in 0..many {
+        let other = b"JUNK\0\0\0\0\0\0\0\0";
+        others.extend_from_slice(other).map_err(OpenFault::Memory)?;
+    }
+    count_of(alloc, &[&CODED_FRONT, &others, &NO_FRAMES])
+}
+
 // Of a plain form: the place behind it, its frames, its pad byte, and the place and the size of its sound.
-fn plain_numbers(alloc: Global, file: &[u8]) -> Result<[u64; 5], OpenFault> {
-    let mut source = HonestSource::new(file);
-    match open_form(alloc, &mut source) {
+fn plain_numbers(alloc: Global, chunks: &[&[u8]]) -> Result<[u64; 5], OpenFault> {
+    match opened(alloc, chunks) {
         Ok(Form::Plain(form)) => Ok([
             form.end,
             u64::from(form.frames),
@@ -59,42 +72,29 @@ fn plain_numbers(alloc: Global, file: &[u8]) -> Result<[u64; 5], OpenFault> {
 }
 
 #[test]
-fn a_plain_form_is_opened(rt: HostRuntime) -> Result<(), Fail> {
-    let alloc = rt.alloc();
+fn a_plain_form_is_opened(rt: HostRuntime) {
     let sound = b"DSD \0\0\0\0\0\0\0\x03\x69\x69\x69\x07";
-    let file = form_with(alloc, &[&PLAIN_FRONT, sound])?;
-    assert_eq!(rt; plain_numbers(alloc, &file), Ok([130, 1, 7, 114, 3]));
-    Ok(())
+    let numbers = plain_numbers(rt.alloc(), &[&PLAIN_FRONT, sound]);
+    assert_eq!(rt; numbers, Ok([130, 1, 7, 114, 3]));
 }
 
 #[test]
-fn a_coded_form_is_opened_with_what_is_kept(rt: HostRuntime) -> Result<(), Fail> {
-    let alloc = rt.alloc();
-    let file = form_with(alloc, &[&CODED_FRONT, &NO_FRAMES, &KEPT])?;
-    assert_eq!(rt; count_of(alloc, &file), Ok(4));
-    Ok(())
+fn a_coded_form_is_opened_with_what_is_kept(rt: HostRuntime) {
+    let count = count_of(rt.alloc(), &[&CODED_FRONT, &NO_FRAMES, &KEPT]);
+    assert_eq!(rt; count, Ok(4));
 }
 
 #[test]
-fn what_is_too_much_is_refused_by_name(rt: HostRuntime) -> Result<(), Fail> {
+fn what_is_too_much_is_refused_by_name(rt: HostRuntime) {
     let alloc = rt.alloc();
-    let twice = form_with(alloc, &[&CODED_FRONT, &NO_FRAMES, &KEPT, &KEPT])?;
-    assert_eq!(rt;
-        count_of(alloc, &twice),
-        Err(OpenFault::File(FileFault::KeptBad))
-    );
+    let twice = count_of(alloc, &[&CODED_FRONT, &NO_FRAMES, &KEPT, &KEPT]);
     // The greatest number of chunks is 1,024: two in front, the others, and the sound.
-    let mut others = Vec::new(alloc);
-    for _ in 0..1021 {
-        others.extend_from_slice(b"JUNK\0\0\0\0\0\0\0\0")?;
-    }
-    let most = form_with(alloc, &[&CODED_FRONT, &others, &NO_FRAMES])?;
-    assert_eq!(rt; count_of(alloc, &most), Ok(1024));
-    others.extend_from_slice(b"JUNK\0\0\0\0\0\0\0\0")?;
-    let more = form_with(alloc, &[&CODED_FRONT, &others, &NO_FRAMES])?;
+    let most = count_beside(alloc, 1021);
+    let more = count_beside(alloc, 1022);
+    let kept_bad = OpenFault::File(FileFault::KeptBad);
+    let too_many = OpenFault::File(FileFault::TooManyChunks);
     assert_eq!(rt;
-        count_of(alloc, &more),
-        Err(OpenFault::File(FileFault::TooManyChunks))
+        (twice, most, more),
+        (Err(kept_bad), Ok(1024), Err(too_many))
     );
-    Ok(())
 }

@@ -3,7 +3,6 @@ use dsdiff_chunks::{FileFault, Form, OpenFault, open_form};
 use dst_streams::HonestSource;
 use frame_index::{Entry, Index, compare, locate_by_index, read_index, walk};
 use std::alloc::Global;
-use std::test::Fail;
 
 // One channel. Two frames of one and of three bytes, whose count stands at place 125, and a checksum between them. The last
 // pad byte is missing.
@@ -28,34 +27,38 @@ fn entry_if_any(index: &Index, k: u32) -> Option<Entry> {
     }
 }
 
+// Where the first three frames stand that a walk finds.
+fn walked(alloc: Global, bytes: &[u8]) -> Result<[Option<Entry>; 3], OpenFault> {
+    let index = walk_of(alloc, bytes)?;
+    Ok([
+        entry_if_any(&index, 0),
+        entry_if_any(&index, 1),
+        entry_if_any(&index, 2),
+    ])
+}
+
+const FIRST: Entry = Entry {
+    offset: 140,
+    size: 1,
+};
+
+const SECOND: Entry = Entry {
+    offset: 168,
+    size: 3,
+};
+
 #[test]
-fn a_walk_finds_the_frames_between_other_chunks(rt: HostRuntime) -> Result<(), Fail> {
-    let index = walk_of(rt.alloc(), &TWO_FRAMES)?;
-    let first = Entry {
-        offset: 140,
-        size: 1,
-    };
-    let second = Entry {
-        offset: 168,
-        size: 3,
-    };
-    for (k, expected) in [Some(first), Some(second), None].iter().enumerate() {
-        assert_eq!(rt; entry_if_any(&index, k as u32), *expected, "frame {k}");
-    }
-    Ok(())
+fn a_walk_finds_the_frames_between_other_chunks(rt: HostRuntime) {
+    let frames = walked(rt.alloc(), &TWO_FRAMES);
+    assert_eq!(rt; frames, Ok([Some(FIRST), Some(SECOND), None]));
 }
 
 #[test]
-fn a_walk_refuses_another_number_of_frames(rt: HostRuntime) -> Result<(), Fail> {
+fn a_walk_refuses_another_number_of_frames(rt: HostRuntime) {
     let mut bytes = TWO_FRAMES;
     bytes[125] = 3;
-    let fault = match walk_of(rt.alloc(), &bytes) {
-        Ok(_) => None,
-        Err(fault) => Some(fault),
-    };
     let expected = OpenFault::File(FileFault::CountDiffers { count: 3, found: 2 });
-    assert_eq!(rt; fault, Some(expected));
-    Ok(())
+    assert_eq!(rt; walked(rt.alloc(), &bytes), Err(expected));
 }
 
 // The same frames, named by an index behind `DST `: 140 and 1, 168 and 3.
@@ -94,25 +97,20 @@ fn located(alloc: Global, bytes: &[u8], k: u32) -> Result<Entry, OpenFault> {
 }
 
 #[test]
-fn an_index_tells_the_frames(rt: HostRuntime) -> Result<(), Fail> {
-    assert_eq!(rt; difference(rt.alloc(), &INDEXED)?, None);
-    let first = Entry {
-        offset: 140,
-        size: 1,
-    };
-    let second = Entry {
-        offset: 168,
-        size: 3,
-    };
-    assert_eq!(rt; located(rt.alloc(), &INDEXED, 0)?, first);
-    assert_eq!(rt; located(rt.alloc(), &INDEXED, 1)?, second);
-    Ok(())
+fn an_index_tells_the_frames(rt: HostRuntime) {
+    let alloc = rt.alloc();
+    let found = (
+        difference(alloc, &INDEXED),
+        located(alloc, &INDEXED, 0),
+        located(alloc, &INDEXED, 1),
+    );
+    assert_eq!(rt; found, (Ok(None), Ok(FIRST), Ok(SECOND)));
 }
 
 #[test]
-fn a_bad_index_is_refused(rt: HostRuntime) -> Result<(), Fail> {
+fn a_bad_index_is_refused(rt: HostRuntime) {
     // A byte of the file, and what it is then: no `DSTI`, an index of one frame fewer, and another place of frame 1.
-    let cases = [
+    const CASES: [(usize, u8, Result<Option<u32>, FileFault>, FileFault); 3] = [
         (
             175,
             b'J',
@@ -127,32 +125,29 @@ fn a_bad_index_is_refused(rt: HostRuntime) -> Result<(), Fail> {
         ),
         (203, 0xa7, Ok(Some(1)), FileFault::IndexBad { entry: 1 }),
     ];
-    for (place, value, compared, fault) in cases {
+    for &(place, value, compared, fault) in &CASES {
         let mut bytes = INDEXED;
         bytes[place] = value;
-        assert_eq!(rt;
+        let found = (
             difference(rt.alloc(), &bytes),
-            compared.map_err(OpenFault::File),
-            "byte {place}"
-        );
-        assert_eq!(rt;
             located(rt.alloc(), &bytes, 1),
-            Err(OpenFault::File(fault)),
-            "byte {place}"
         );
+        let wanted = (
+            compared.map_err(OpenFault::File),
+            Err(OpenFault::File(fault)),
+        );
+        assert_eq!(rt; found, wanted, "byte {place}");
     }
-    Ok(())
 }
 
 #[test]
-fn a_frame_that_is_too_long_is_refused(rt: HostRuntime) -> Result<(), Fail> {
-    let mut bytes = LONG_FRAME.to_vec(rt.alloc())?;
-    bytes.extend_from_slice(&[0; 9412])?;
-    bytes.extend_from_slice(&LONG_INDEX)?;
+fn a_frame_that_is_too_long_is_refused(rt: HostRuntime) {
+    let mut bytes = [0; 9576];
+    bytes[..140].copy_from_slice(&LONG_FRAME);
+    bytes[9552..].copy_from_slice(&LONG_INDEX);
     let expected = OpenFault::File(FileFault::FrameTooLong {
         frame: 0,
         length: 9411,
     });
     assert_eq!(rt; located(rt.alloc(), &bytes, 0), Err(expected));
-    Ok(())
 }
