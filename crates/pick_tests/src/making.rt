@@ -1,5 +1,6 @@
 use dst_num::Channels;
 use sound_maker::SoundMaker;
+use std::alloc::{AllocError, Global};
 use std::test::Fail;
 
 // The bytes, each times its place from 1 on, together.
@@ -13,11 +14,34 @@ fn weighed(sound: &[u8]) -> u64 {
     sum
 }
 
+// The first six bytes.
+fn front_of(sound: &[u8]) -> [u8; 6] {
+    let mut front = [0; 6];
+    for (byte, place) in sound.iter().zip(front.iter_mut()) {
+        *place = *byte;
+    }
+    front
+}
+
+// The first six bytes of each of the first two frames, and the bytes of the second one weighed.
+fn two_frames(
+    alloc: Global,
+    start: u32,
+    channels: Channels,
+) -> Result<([u8; 6], [u8; 6], u64), AllocError> {
+    let mut maker = SoundMaker::new(start, channels);
+    let mut sound = vec![in alloc; 0u8; channels.sound_bytes()]?;
+    maker.next_frame(&mut sound);
+    let first = front_of(&sound);
+    maker.next_frame(&mut sound);
+    Ok((first, front_of(&sound), weighed(&sound)))
+}
+
 // The expected bytes are those of another program, which does the steps of the definition one by one, with the
 // generator's published steps.
 #[test]
 fn two_frames_are_those_of_another_program(rt: HostRuntime) -> Result<(), Fail> {
-    let rows: [(u32, u32, u32, [u8; 6], [u8; 6], u64); 3] = [
+    const ROWS: [(u32, u32, u32, [u8; 6], [u8; 6], u64); 3] = [
         (
             7,
             1,
@@ -43,15 +67,10 @@ fn two_frames_are_those_of_another_program(rt: HostRuntime) -> Result<(), Fail> 
             22_702_971_715,
         ),
     ];
-    for (start, count, multiple, first, second, sum) in rows {
+    for &(start, count, multiple, first, second, sum) in &ROWS {
         let channels = Channels::at(count, multiple).ok_or("no channels")?;
-        let mut maker = SoundMaker::new(start, channels);
-        let mut sound = vec![in rt.alloc(); 0u8; channels.sound_bytes()]?;
-        maker.next_frame(&mut sound);
-        assert!(rt; &sound[..6] == first.as_slice(), "frame 0 of {start}");
-        maker.next_frame(&mut sound);
-        assert!(rt; &sound[..6] == second.as_slice(), "frame 1 of {start}");
-        assert_eq!(rt; weighed(&sound), sum);
+        let made = two_frames(rt.alloc(), start, channels)?;
+        assert_eq!(rt; made, (first, second, sum), "frames of {start}");
     }
     Ok(())
 }
