@@ -42,7 +42,8 @@ pub record IsStopped (sink_is_at_fault : Type 0) (out : List ℕ) (place : ℕ) 
   pub lacks : sink_is_at_fault → Lacks room (length out)
 
 -- all of it is written with 0 for the two sizes, and the sizes of its stored frames are noted; or it isn't finished
-abbrev pub UnsizedEnds : Result (Unit {0}) EncodeFault → Picks → List ℕ → Form → (sizes : List ℕ) → (old new : Option (List ℕ)) → (room left : Option ℕ) → Type 0
+abbrev pub UnsizedEnds : Result (Unit {0}) EncodeFault → Picks → List ℕ → Form → (sizes : List ℕ) → (old new : Option (List ℕ)) →
+    (room left : Option ℕ) → Type 0
 UnsizedEnds (Ok u) picks file form sizes old new room left =
     Adds (unsized (stored_frames picks file form) file form) old new room left × (sizes ≡ map length (stored_frames picks file form))
 UnsizedEnds (Err fault) picks file form sizes old new room left =
