@@ -24,11 +24,10 @@ fn front_of(sound: &[u8]) -> [u8; 6] {
 }
 
 // The first six bytes of each of the first two frames, and the bytes of the second one weighed.
-fn two_frames(
-    alloc: Global,
-    start: u32,
-    channels: Channels,
-) -> Result<([u8; 6], [u8; 6], u64), AllocError> {
+type TwoFrames = ([u8; 6], [u8; 6], u64);
+
+// What is made of a sound's first two frames.
+fn two_frames(alloc: Global, start: u32, channels: Channels) -> Result<TwoFrames, AllocError> {
     let mut maker = SoundMaker::new(start, channels);
     let mut sound = vec![in alloc; 0u8; channels.sound_bytes()]?;
     maker.next_frame(&mut sound);
