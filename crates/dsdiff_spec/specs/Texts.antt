@@ -1,8 +1,5 @@
--- The texts of refusals: the number and the name of each fault, and the numbers behind them.
+-- The texts of refused files: the number and the name of each fault, and the numbers behind them.
 use Rattle.std.specs.Prelude.{ℕ, List, [], ◌∷◌}
-use Rattle.dst_spec.specs.declared.faults.Reason.{Reason}
-use Rattle.dst_spec.specs.declared.faults.Reason.TheVariants.{Truncated, PlainStuffing, MultiSegment, MapSkips, MethodReserved, TableTooShort, CoefRange}
-use Rattle.dst_spec.specs.declared.faults.Reason.TheVariants.{ProbRange, FirstCodeBit, CodeRange}
 use Rattle.dsdiff_spec.specs.declared.faults.FileFault.{FileFault}
 use Rattle.dsdiff_spec.specs.declared.faults.FileFault.TheVariants.{NotForm, FormType, Overrun, Version, PropMissing, PropTwice, PropType, PropTooLong, Rate}
 use Rattle.dsdiff_spec.specs.declared.faults.FileFault.TheVariants.{Channels, Compression, SoundMissing, SoundTwice, SoundUneven, FrameRate, CountDiffers}
@@ -54,16 +51,3 @@ text_of DsfFormat = fault 30 "DsfFormat" []
 text_of (DsfCount samples size) = fault 31 "DsfCount" (samples ∷ size ∷ [])
 text_of DsfKeptBad = fault 32 "DsfKeptBad" []
 text_of (RangePast end groups) = fault 33 "RangePast" (end ∷ groups ∷ [])
-
--- why a frame is refused
-abbrev pub text_of_reason : Reason → Text
-text_of_reason Truncated = fault 1 "Truncated" []
-text_of_reason PlainStuffing = fault 2 "PlainStuffing" []
-text_of_reason MultiSegment = fault 3 "MultiSegment" []
-text_of_reason MapSkips = fault 4 "MapSkips" []
-text_of_reason MethodReserved = fault 5 "MethodReserved" []
-text_of_reason TableTooShort = fault 6 "TableTooShort" []
-text_of_reason CoefRange = fault 7 "CoefRange" []
-text_of_reason ProbRange = fault 8 "ProbRange" []
-text_of_reason FirstCodeBit = fault 9 "FirstCodeBit" []
-text_of_reason CodeRange = fault 10 "CodeRange" []

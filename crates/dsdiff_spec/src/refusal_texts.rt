@@ -1,11 +1,10 @@
-// The texts of refusals. Report lines and what faults show have them from here.
+// The texts of refused files. Report lines and what a fault shows have them from here.
 ghost use Rattle.std.specs.Prelude.{◌≡◌, ◌≤◌, [], ◌∷◌, length, codes};
-ghost use Rattle.dsdiff_spec.specs.Texts.{text_of, text_of_reason};
+ghost use Rattle.dsdiff_spec.specs.Texts.{text_of};
 ghost use Rattle.dsdiff_spec.specs.Numbers.{numbers_seen};
 
 use crate::FileFault;
 use Numbers::{Nothing, One, Two};
-use dst_spec::Reason;
 
 /// The numbers behind a refusal's name.
 #[derive(Clone, Copy, Drop)]
@@ -62,26 +61,5 @@ pub fn text_of_file(fault: FileFault) -> Text
         DsfCount { samples, size } => Text(31, "DsfCount", Two(samples, size)),
         DsfKeptBad => Text(32, "DsfKeptBad", Nothing),
         RangePast { end, groups } => Text(33, "RangePast", Two(end, groups)),
-    }
-}
-
-/// Why a frame is refused.
-pub fn text_of_frame(reason: Reason) -> Text
-    ensures number { result.0 ≡ (text_of_reason reason).number }
-    ensures name { result.1.now ≡ codes (text_of_reason reason).name }
-    ensures numbers { numbers_seen result.2 ≡ (text_of_reason reason).numbers }
-    ensures short { length result.1.now ≤ 16 }
-{
-    match reason {
-        Reason::Truncated => Text(1, "Truncated", Nothing),
-        Reason::PlainStuffing => Text(2, "PlainStuffing", Nothing),
-        Reason::MultiSegment => Text(3, "MultiSegment", Nothing),
-        Reason::MapSkips => Text(4, "MapSkips", Nothing),
-        Reason::MethodReserved => Text(5, "MethodReserved", Nothing),
-        Reason::TableTooShort => Text(6, "TableTooShort", Nothing),
-        Reason::CoefRange => Text(7, "CoefRange", Nothing),
-        Reason::ProbRange => Text(8, "ProbRange", Nothing),
-        Reason::FirstCodeBit => Text(9, "FirstCodeBit", Nothing),
-        Reason::CodeRange => Text(10, "CodeRange", Nothing),
     }
 }

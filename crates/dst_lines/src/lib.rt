@@ -1,4 +1,5 @@
-//! The lines of a report. The texts of refusals are those of `dsdiff_spec`.
+//! The lines of a report. The texts of refused files are those of `dsdiff_spec`, the names of a frame's faults those of
+//! `dst_spec`.
 //!
 //! ```text
 //! report.append(lines::decoded(2, 4705).as_bytes());       // "decoded 2 frames into 4705 bytes", with its line feed

@@ -5,7 +5,7 @@ ghost use Rattle.dsdiff_spec.specs.Lines.{report, words_line, read_fault_line, w
 ghost use Rattle.dsdiff_spec.specs.Numbers.{numbers_seen};
 
 use arrayvec::ArrayString;
-use dsdiff_spec::{FileFault, Numbers, Text, text_of_file, text_of_frame};
+use dsdiff_spec::{FileFault, Numbers, Text, text_of_file};
 use dst_spec::FrameFault;
 use itoa::{Buffer, Integer};
 
@@ -61,13 +61,12 @@ pub fn file_refused(fault: FileFault) -> Line
 pub fn frame_refused(frame: u32, fault: FrameFault) -> Line
     ensures { result.bytes ≡ report (frame_fault_line frame fault ∷ []) }
 {
-    let Text(number, name, _) = text_of_frame(fault.reason);
     let mut line = line_of("frame ");
     push_number(&mut line, frame);
     line.push_str(" refused: ");
-    push_number(&mut line, number);
+    push_number(&mut line, fault.reason.number());
     line.push_str(" ");
-    line.push_str(name);
+    line.push_str(fault.reason.name());
     line.push_str(" at bit ");
     push_number(&mut line, fault.bit);
     ended(line)

@@ -8,7 +8,7 @@
 //! `Offends` which field of a frame is at fault, and `Spell` what the encoder writes. Worked examples of them are
 //! theorems in `proofs/`.
 //!
-//! All that runs here is a reason's number and the texts of faults. A contract of a crate above cites a definition:
+//! All that runs here is a reason's number and name, and what faults show. A contract of a crate above cites a definition:
 //!
 //! ```rust
 //! ghost use Rattle.std.specs.Prelude.{◌≡◌, ◌<◌};

@@ -141,34 +141,12 @@ const FILE_FAULTS: [FileFault; 33] = [
     FileFault::RangePast { end: 8, groups: 7 },
 ];
 
-const REASONS: [Reason; 10] = [
-    Reason::Truncated,
-    Reason::PlainStuffing,
-    Reason::MultiSegment,
-    Reason::MapSkips,
-    Reason::MethodReserved,
-    Reason::TableTooShort,
-    Reason::CoefRange,
-    Reason::ProbRange,
-    Reason::FirstCodeBit,
-    Reason::CodeRange,
-];
-
 #[test]
-fn faults_show_as_reports_have_them(rt: HostRuntime) -> Result<(), Fail> {
+fn faults_of_files_show_as_reports_have_them(rt: HostRuntime) -> Result<(), Fail> {
     let alloc = rt.alloc();
     for fault in &FILE_FAULTS {
         let shown = format!(in alloc; "file refused: {fault}\n")?;
         let line = lines::file_refused(*fault);
-        assert_eq!(rt; shown.as_str(), line.as_str());
-    }
-    for reason in &REASONS {
-        let fault = FrameFault {
-            reason: *reason,
-            bit: 40,
-        };
-        let shown = format!(in alloc; "frame 9 refused: {fault}\n")?;
-        let line = lines::frame_refused(9, fault);
         assert_eq!(rt; shown.as_str(), line.as_str());
     }
     Ok(())

@@ -1,12 +1,12 @@
--- Each name is that of its fault.
+-- Each name is that of its reason.
 use Rattle.std.proofs.Common.{◌≡◌, ap, sym}
 use Rattle.std.specs.Prelude.{codes}
+use Rattle.dst_spec.specs.Reasons.{reason_name}
 use Rattle.dst_spec.specs.declared.faults.Reason.{Reason}
-use Rattle.dsdiff_spec.specs.Texts.{text_of_reason}
-use Rattle.dsdiff_spec.proofs.refusal_texts.text_of_frame.Goals as goal
+use Rattle.dst_spec.proofs.faults.Reason.name.Goals as goal
 
-same_name : {a b : Reason} → a ≡ b → codes (text_of_reason b).name ≡ codes (text_of_reason a).name
-same_name e = ap (λ a. codes (text_of_reason a).name) (sym e)
+same_name : {a b : Reason} → a ≡ b → codes (reason_name b) ≡ codes (reason_name a)
+same_name e = ap (λ a. codes (reason_name a)) (sym e)
 
 pub returns-in-Truncated-clause-name : goal.returns-in-Truncated-clause-name
 returns-in-Truncated-clause-name c = same_name c.in-Truncated.is
