@@ -1,10 +1,116 @@
 -- In front of the sound, the sound, behind it.
 use Rattle.std.proofs.Common.{refl, sym, ◌∙◌, arith}
+use Rattle.dst_streams.proofs.Counts.{Rose-earlier}
 use Rattle.dsdiff_chunks.specs.Forms.{coded_seen}
 use Rattle.dst_read.proofs.Ending.{ends_at_front, ends_in_frames, ends_at_end, ends_unsettled, ends_done}
 use Rattle.dst_commands.proofs.Taken.{parts_of_form}
 use Rattle.dst_read.proofs.Once.{stored_in_sound}
+use Rattle.dst_read.proofs.Causes.{later_twice, later_thrice, caused_by_device, caused_later, decoded_alike}
 use Rattle.dst_read.proofs.decode.write_decoded.Goals as goal
+
+-- ---- the devices, call by call
+pub returns-in-Err-clause-bytes : goal.returns-in-Err-clause-bytes
+returns-in-Err-clause-bytes g c = c.write_front.ensures.bytes
+
+pub returns-in-Err-write_frames-clause-bytes : goal.returns-in-Err-write_frames-clause-bytes
+returns-in-Err-write_frames-clause-bytes g c = c.write_frames.ensures.bytes ∙ c.write_front.ensures.bytes
+
+pub returns-in-Err-write_end-clause-bytes : goal.returns-in-Err-write_end-clause-bytes
+returns-in-Err-write_end-clause-bytes g c = c.write_end.ensures.bytes ∙ c.write_frames.ensures.bytes ∙ c.write_front.ensures.bytes
+
+pub returns-in_default-finish-clause-bytes : goal.returns-in_default-finish-clause-bytes
+returns-in_default-finish-clause-bytes g c = c.write_end.ensures.bytes ∙ c.write_frames.ensures.bytes ∙ c.write_front.ensures.bytes
+
+pub returns-clause-bytes : goal.returns-clause-bytes
+returns-clause-bytes g c = c.write_end.ensures.bytes ∙ c.write_frames.ensures.bytes ∙ c.write_front.ensures.bytes
+
+pub returns-in-Err-clause-source_later : goal.returns-in-Err-clause-source_later
+returns-in-Err-clause-source_later g c = c.write_front.ensures.source_later
+
+pub returns-in-Err-write_frames-clause-source_later : goal.returns-in-Err-write_frames-clause-source_later
+returns-in-Err-write_frames-clause-source_later g c =
+    later_twice (g.S.Source.faults c.args.source.now) (g.S.Source.faults c.write_front.new.source) (g.S.Source.faults c.write_frames.new.source)
+    c.write_front.ensures.source_later c.write_frames.ensures.source_later
+
+pub returns-in-Err-write_end-clause-source_later : goal.returns-in-Err-write_end-clause-source_later
+returns-in-Err-write_end-clause-source_later g c =
+    later_thrice (g.S.Source.faults c.args.source.now) (g.S.Source.faults c.write_front.new.source) (g.S.Source.faults c.write_frames.new.source)
+    (g.S.Source.faults c.write_end.new.source)
+    c.write_front.ensures.source_later c.write_frames.ensures.source_later c.write_end.ensures.source_later
+
+pub returns-in_default-finish-clause-source_later : goal.returns-in_default-finish-clause-source_later
+returns-in_default-finish-clause-source_later g c =
+    later_thrice (g.S.Source.faults c.args.source.now) (g.S.Source.faults c.write_front.new.source) (g.S.Source.faults c.write_frames.new.source)
+    (g.S.Source.faults c.write_end.new.source)
+    c.write_front.ensures.source_later c.write_frames.ensures.source_later c.write_end.ensures.source_later
+
+pub returns-clause-source_later : goal.returns-clause-source_later
+returns-clause-source_later g c =
+    later_thrice (g.S.Source.faults c.args.source.now) (g.S.Source.faults c.write_front.new.source) (g.S.Source.faults c.write_frames.new.source)
+    (g.S.Source.faults c.write_end.new.source)
+    c.write_front.ensures.source_later c.write_frames.ensures.source_later c.write_end.ensures.source_later
+
+pub returns-in-Err-clause-sink_later : goal.returns-in-Err-clause-sink_later
+returns-in-Err-clause-sink_later g c = c.write_front.ensures.sink_later
+
+pub returns-in-Err-write_frames-clause-sink_later : goal.returns-in-Err-write_frames-clause-sink_later
+returns-in-Err-write_frames-clause-sink_later g c =
+    later_twice (g.K.Sink.faults c.args.sink.now) (g.K.Sink.faults c.write_front.new.sink) (g.K.Sink.faults c.write_frames.new.sink)
+    c.write_front.ensures.sink_later c.write_frames.ensures.sink_later
+
+pub returns-in-Err-write_end-clause-sink_later : goal.returns-in-Err-write_end-clause-sink_later
+returns-in-Err-write_end-clause-sink_later g c =
+    later_thrice (g.K.Sink.faults c.args.sink.now) (g.K.Sink.faults c.write_front.new.sink) (g.K.Sink.faults c.write_frames.new.sink)
+    (g.K.Sink.faults c.write_end.new.sink)
+    c.write_front.ensures.sink_later c.write_frames.ensures.sink_later c.write_end.ensures.sink_later
+
+-- ---- the causes
+pub returns-in-Err-clause-cause : goal.returns-in-Err-clause-cause
+returns-in-Err-clause-cause g c =
+    caused_by_device c.fault_of_device.result c.in-Err.fault (g.S.Source.faults c.args.source.now) (g.S.Source.faults c.write_front.new.source)
+    (g.K.Sink.faults c.args.sink.now) (g.K.Sink.faults c.write_front.new.sink) c.fault_of_device.ensures c.in-Err.ensures.cause
+
+pub returns-in-Err-write_frames-clause-cause : goal.returns-in-Err-write_frames-clause-cause
+returns-in-Err-write_frames-clause-cause g c =
+    caused_later c.in-Err-write_frames.fault (g.S.Source.faults c.args.source.now) (g.S.Source.faults c.write_front.new.source)
+    (g.S.Source.faults c.write_frames.new.source) (g.K.Sink.faults c.args.sink.now) (g.K.Sink.faults c.write_front.new.sink)
+    (g.K.Sink.faults c.write_frames.new.sink) c.write_front.ensures.source_later c.write_front.ensures.sink_later c.in-Err-write_frames.ensures.cause
+
+pub returns-in-Err-write_end-clause-cause : goal.returns-in-Err-write_end-clause-cause
+returns-in-Err-write_end-clause-cause g c =
+    caused_later c.fault_of_device-in-Err-write_end.result (g.S.Source.faults c.args.source.now) (g.S.Source.faults c.write_frames.new.source)
+    (g.S.Source.faults c.write_end.new.source) (g.K.Sink.faults c.args.sink.now) (g.K.Sink.faults c.write_frames.new.sink)
+    (g.K.Sink.faults c.write_end.new.sink)
+    (later_twice _ (g.S.Source.faults c.write_front.new.source) _ c.write_front.ensures.source_later c.write_frames.ensures.source_later)
+    (later_twice _ (g.K.Sink.faults c.write_front.new.sink) _ c.write_front.ensures.sink_later c.write_frames.ensures.sink_later)
+    (caused_by_device c.fault_of_device-in-Err-write_end.result c.in-Err-write_end.fault (g.S.Source.faults c.write_frames.new.source)
+    (g.S.Source.faults c.write_end.new.source) (g.K.Sink.faults c.write_frames.new.sink) (g.K.Sink.faults c.write_end.new.sink)
+    c.fault_of_device-in-Err-write_end.ensures c.in-Err-write_end.ensures.cause)
+
+pub returns-in_default-finish-clause-cause : goal.returns-in_default-finish-clause-cause
+returns-in_default-finish-clause-cause g c =
+    Rose-earlier (g.K.Sink.faults c.args.sink.now) (g.K.Sink.faults c.write_end.new.sink) (g.K.Sink.faults c.finish.new.self)
+    (later_thrice (g.K.Sink.faults c.args.sink.now) (g.K.Sink.faults c.write_front.new.sink) (g.K.Sink.faults c.write_frames.new.sink)
+    (g.K.Sink.faults c.write_end.new.sink) c.write_front.ensures.sink_later c.write_frames.ensures.sink_later c.write_end.ensures.sink_later)
+    c.in_default-finish.ensures.cause.failed
+
+-- ---- what is answered
+pub returns-clause-done : goal.returns-clause-done
+returns-clause-done g c =
+    decoded_alike c.args.walked.now.form.frames c.sound_size-size.result _ c.sound_size-size.ensures.size
+
+-- ---- the sizes that calls ask for
+pub write_front-requires-clause-size : goal.write_front-requires-clause-size
+write_front-requires-clause-size g c = c.requires.size
+
+pub write_frames-requires-clause-size : goal.write_frames-requires-clause-size
+write_frames-requires-clause-size g c κs within = (c.requires.size.0, c.write_front.ensures.stays ∙ c.requires.size.1, c.requires.size.2)
+
+pub write_end-requires-clause-size : goal.write_end-requires-clause-size
+write_end-requires-clause-size g c =
+    (c.requires.size.0, c.write_frames.ensures.stays ∙ c.write_front.ensures.stays ∙ c.requires.size.1, c.requires.size.2)
+
+-- ---- what is written
 
 pub returns-in-Err-clause-written : goal.returns-in-Err-clause-written
 returns-in-Err-clause-written g c file told =
