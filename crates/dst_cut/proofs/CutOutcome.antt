@@ -1,7 +1,8 @@
 -- What cutting comes to: a refused file, or the frames that are asked for; and what a failed device leaves of these.
-use Rattle.std.proofs.Common.{◌≡◌, inl, inr, ℕ, ◌+◌, ◌-◌, ◌≤◌, List, [], ◌∷◌, length, Option, Some, None, refl, ap, sym, subst}
+use Rattle.std.proofs.Common.{◌≡◌, inl, inr, ℕ, ◌+◌, ◌-◌, ◌≤◌, List, [], ◌∷◌, length, Option, Some, None, Result, Ok, Err, refl, ap, sym, subst}
 use Rattle.std.proofs.Common.{◌∙◌, arith, length-append}
-use Rattle.dst_streams.specs.Told.{IsCutShort}
+use Rattle.std.specs.Prelude.{IfOk}
+use Rattle.dst_streams.specs.Told.{and_then, IsCutShort}
 use Rattle.dsdiff_spec.specs.Lines.{cut_line}
 use Rattle.dsdiff_spec.specs.Outcome.{Answer, OfCommand, done, file_refused}
 use Rattle.dsdiff_spec.specs.Refusal.{refusal, form_refusal}
@@ -16,10 +17,11 @@ use Rattle.dsdiff_spec.specs.Walk.{entries}
 use Rattle.dsdiff_chunks.specs.Forms.{coded_seen}
 use Rattle.dsdiff_chunks.specs.declared.copy.CopyFault.{CopyFault}
 use Rattle.dst_cut.specs.CutLayout.{whole}
+use Rattle.dst_cut.specs.declared.cut.Cut.{Cut}
 use Rattle.dst_cut.specs.declared.cut.CutFault.{CutFault}
 use Rattle.dst_cut.specs.declared.cut.CutFault.TheVariants.{Write}
 use Rattle.dst_cut.specs.declared.cut_form.CutForm.{CutForm}
-use Rattle.dst_cut.specs.Cutting.{IsCutForm, cut_bytes, of_device}
+use Rattle.dst_cut.specs.Cutting.{CutEnds, IsCutForm, cut_bytes, of_device}
 use Rattle.dst_cut.proofs.CutPlaces.{cut_out}
 use Rattle.dst_cut.proofs.CutWhole.{cut_is}
 
@@ -59,7 +61,7 @@ bytes_are file first last c is =
     ∙ ap (λ n. cutting.cut file (coded_seen c.form) n last) (sym is.first_is)
     ∙ ap (λ n. cutting.cut file (coded_seen c.form) c.first n) (sym is.last_is)
 
-pub cut_outcome : (file : List ℕ) (first last : ℕ) (c : CutForm) (frames : ℕ) → form_refusal (words.cut first last) file ≡ None →
+cut_outcome : (file : List ℕ) (first last : ℕ) (c : CutForm) (frames : ℕ) → form_refusal (words.cut first last) file ≡ None →
     IsCutForm first last file c → frames ≡ c.last + 1 - c.first →
     OutcomeOf (words.cut first last) file (done (cut_bytes file c) (cut_line frames ∷ []))
 cut_outcome file first last c frames none is e =
@@ -68,20 +70,37 @@ cut_outcome file first last c frames none is e =
     (subst (λ n. OutcomeOf (words.cut first last) file (done (cutting.cut file (accepted file) first last) (cut_line n ∷ []))) line
     (is_outcome file first last (rules_of_cut first last file ∙ none)))
 
+-- where frames are cut out, they are written whole
+pub if_cut : (r : Result Cut CutFault) (first last : ℕ) (c : CutForm) (bytes old new : Option (List ℕ)) (room : Option ℕ) →
+    ((file : List ℕ) → bytes ≡ Some file → form_refusal (words.cut first last) file ≡ None) →
+    ((file : List ℕ) → bytes ≡ Some file → IsCutForm first last file c) →
+    ((file : List ℕ) → bytes ≡ Some file → entries file (coded_seen c.form) ≡ c.index → CutEnds r file c old new room) →
+    IfOk r (λ done_of. (file : List ℕ) → bytes ≡ Some file →
+    (out : List ℕ) × OutcomeOf (words.cut first last) file (done out (cut_line done_of.frames ∷ [])) × (new ≡ and_then old out))
+if_cut (Ok d) first last c bytes old new room accepted opened ends = λ file told.
+    let is = opened file told in
+    let all = ends file told is.entries_are in
+    (cut_bytes file c, cut_outcome file first last c d.frames (accepted file told) is all.0, all.1)
+if_cut (Err fault) first last c bytes old new room accepted opened ends = tt {0}
+
 -- ---- a device that failed
-pub cut_stopped : (P : Type 0) (file : List ℕ) (first last : ℕ) (c : CutForm) (old new : Option (List ℕ)) (room : Option ℕ) →
-    form_refusal (words.cut first last) file ≡ None → IsCutForm first last file c →
-    Stops P (cut_bytes file c) old new room → (o : Answer) × OutcomeOf (words.cut first last) file o × IsCutShort old o.out new
-cut_stopped P file first last c old new room none is s =
+pub cut_stopped : (r : Result Cut CutFault) (fault : CutFault) (file : List ℕ) (first last : ℕ) (c : CutForm) (old new : Option (List ℕ)) (room : Option ℕ) →
+    form_refusal (words.cut first last) file ≡ None → IsCutForm first last file c → r ≡ Err fault →
+    (entries file (coded_seen c.form) ≡ c.index → CutEnds r file c old new room) →
+    (o : Answer) × OutcomeOf (words.cut first last) file o × IsCutShort old o.out new
+cut_stopped r fault file first last c old new room none is e ends =
+    let s = subst (λ r. CutEnds r file c old new room) e (ends is.entries_are) in
     (done (cut_bytes file c) (cut_line (c.last + 1 - c.first) ∷ []), cut_outcome file first last c (c.last + 1 - c.first) none is refl, s.cut)
 
-pub cut_lacks : (P : Type 0) (file : List ℕ) (first last : ℕ) (c : CutForm) (old new : Option (List ℕ)) (room : Option ℕ) →
-    form_refusal (words.cut first last) file ≡ None → IsCutForm first last file c → P →
-    Stops P (cut_bytes file c) old new room → (o : Answer) → OutcomeOf (words.cut first last) file o → Lacks room (length o.out)
-cut_lacks P file first last c old new room none is p s o h =
+pub cut_lacks : (r : Result Cut CutFault) (file : List ℕ) (first last : ℕ) (c : CutForm) (old new : Option (List ℕ)) (room : Option ℕ) →
+    form_refusal (words.cut first last) file ≡ None → IsCutForm first last file c → r ≡ Err Write →
+    (entries file (coded_seen c.form) ≡ c.index → CutEnds r file c old new room) →
+    (o : Answer) → OutcomeOf (words.cut first last) file o → Lacks room (length o.out)
+cut_lacks r file first last c old new room none is e ends o h =
+    let s = subst (λ r. CutEnds r file c old new room) e (ends is.entries_are) in
     let out : o.out ≡ cut_bytes file c = ap (λ (a : Answer). a.out) (only_outcome file first last o (rules_of_cut first last file ∙ none) h)
     ∙ bytes_are file first last c is in
-    subst (λ w. Lacks room (length w)) (sym out) (s.lacks p)
+    subst (λ w. Lacks room (length w)) (sym out) (s.lacks refl)
 
 pub cut_nothing : (file : List ℕ) (first last : ℕ) (told : Option (List ℕ)) → (o : Answer) × OutcomeOf (words.cut first last) file o
     × IsCutShort told o.out told

@@ -10,6 +10,8 @@ use Rattle.dsdiff_chunks.specs.declared.copy.CopyFault.{CopyFault}
 use Rattle.dsdiff_chunks.specs.declared.copy.CopyFault.TheVariants as copying
 use Rattle.dsdiff_chunks.specs.declared.open.OpenFault.TheVariants.{Read}
 use Rattle.dst_commands.specs.Writing.{Stops}
+use Rattle.dst_cut.specs.CutLayout.{count}
+use Rattle.dst_cut.specs.declared.cut.Cut.{Cut}
 use Rattle.dst_cut.specs.declared.cut.CutFault.{CutFault}
 use Rattle.dst_cut.specs.declared.cut.CutFault.TheVariants.{Source, Write}
 use Rattle.dst_cut.specs.declared.cut_form.CutForm.{CutForm}
@@ -36,6 +38,6 @@ of_device copying.Write = Write
 abbrev pub cut_bytes : List ℕ → CutForm → List ℕ
 cut_bytes file c = cutting.cut file (coded_seen c.form) c.first c.last
 
-abbrev pub CutEnds : {A : Type 0} → Result A CutFault → List ℕ → CutForm → (old new : Option (List ℕ)) → Option ℕ → Type 0
-CutEnds (Ok u) file c old new room = new ≡ and_then old (cut_bytes file c)
+abbrev pub CutEnds : Result Cut CutFault → List ℕ → CutForm → (old new : Option (List ℕ)) → Option ℕ → Type 0
+CutEnds (Ok done) file c old new room = (done.frames ≡ count c.first c.last) × (new ≡ and_then old (cut_bytes file c))
 CutEnds (Err fault) file c old new room = Stops (fault ≡ Write) (cut_bytes file c) old new room

@@ -1,5 +1,5 @@
 // Cutting frames out of a coded file.
-ghost use Rattle.std.specs.Prelude.{◌≡◌, ◌⊎◌, ◌+◌, ◌^◌, ◌≤◌, ◌<◌, ℕ, List, length, true, Some, IfOk, IfErr, OnOk, Err, ◌∷◌, []};
+ghost use Rattle.std.specs.Prelude.{◌≡◌, ◌⊎◌, ◌+◌, ◌^◌, ◌≤◌, ◌<◌, ℕ, List, length, true, Some, None, IfOk, IfErr, OnOk, Err, ◌∷◌, []};
 ghost use Rattle.std.specs.declared.alloc.AllocError.{AllocError};
 ghost use Rattle.dst_streams.specs.Causes.{Rose};
 ghost use Rattle.dst_streams.specs.Told.{IsCutShort, and_then};
@@ -7,12 +7,13 @@ ghost use Rattle.dsdiff_spec.specs.declared.faults.FileFault.{FileFault};
 ghost use Rattle.dsdiff_spec.specs.Lines.{cut_line};
 ghost use Rattle.dsdiff_spec.specs.Words as words;
 ghost use Rattle.dsdiff_spec.specs.Rules.{accepted};
-ghost use Rattle.dsdiff_spec.specs.Refusal.{refusal};
+ghost use Rattle.dsdiff_spec.specs.Refusal.{form_refusal, refusal};
 ghost use Rattle.dsdiff_spec.specs.Outcome.{Answer, done};
 ghost use Rattle.dsdiff_spec.specs.Walk.{entries};
 ghost use Rattle.dsdiff_chunks.specs.Forms.{coded_seen};
+ghost use Rattle.dsdiff_chunks.specs.Opening.{Stops};
 ghost use Rattle.dst_commands.specs.Commands.{OutcomeOf};
-ghost use Rattle.dst_cut.specs.Cutting.{CutEnds, HasItsCause, of_device};
+ghost use Rattle.dst_cut.specs.Cutting.{CutEnds, HasItsCause, IsCutForm, of_device};
 
 use crate::cut_form::CutForm;
 use crate::cut_parts::{write_end, write_frames, write_front};
@@ -78,20 +79,44 @@ pub fn cut_file<S: Source, K: Sink>(
     ensures given { (file : List ℕ) → S.bytes source.old ≡ Some file → S.given source.new ≤ S.given source.old + 208948 + 48000000 + (accepted file).end }
     ensures given_any { S.given source.new ≤ S.given source.old + 208948 + 48000000 + (2 ^ 50 + 12) }
 {
-    let rules = CutFrames { first, last };
-    let cut = match open_file(alloc, source, &rules) {
-        Ok(cut) => cut,
+    let mut opened = match open_cut(alloc, source, first, last) {
+        Ok(opened) => opened,
         Err(fault) => return Err(CutFault::Source(fault)),
     };
-    let mut buffer = match vec![in alloc; 0u8; BUFFER] {
-        Ok(buffer) => buffer,
-        Err(refused) => return Err(CutFault::Source(OpenFault::Memory(refused))),
+    write_cut(source, sink, &opened.cut, &mut opened.buffer)
+}
+
+// A form of which frames are cut out, and the buffer by which they are copied.
+#[derive(Drop)]
+struct OpenedCut {
+    cut: CutForm,
+    buffer: Vec<u8>,
+}
+
+// Opens a file by the rules of cutting, and has the buffer.
+fn open_cut<S: Source>(
+    alloc: Global,
+    source: &mut S,
+    first: u32,
+    last: u32,
+) -> Result<OpenedCut, OpenFault>
+    requires order { first ≤ last }
+    ensures bytes { S.bytes source.new ≡ S.bytes source.old }
+    ensures later { S.faults source.old ≤ S.faults source.new }
+    ensures given { S.given source.new ≤ S.given source.old + (208948 + 48000000) }
+    ensures size { IfOk result (λ o. (n : ℕ) × (S.known source.new ≡ Some n) × (o.cut.form.end ≤ n)) }
+    ensures buffer { IfOk result (λ o. length o.buffer.items ≡ 65536) }
+    ensures accepted { IfOk result (λ _. (file : List ℕ) → S.bytes source.old ≡ Some file → form_refusal (words.cut first last) file ≡ None) }
+    ensures opened { IfOk result (λ o. (file : List ℕ) → S.bytes source.old ≡ Some file → IsCutForm first last file o.cut) }
+    ensures stops { IfErr result (Stops (form_refusal (words.cut first last)) (S.bytes source.old) (S.faults source.old) (S.faults source.new)) }
+{
+    let cut = match open_file(alloc, source, &CutFrames { first, last }) {
+        Ok(cut) => cut,
+        Err(fault) => return Err(fault),
     };
-    match write_cut(source, sink, &cut, &mut buffer) {
-        Ok(()) => Ok(Cut {
-            frames: cut.count(),
-        }),
-        Err(fault) => Err(fault),
+    match vec![in alloc; 0u8; BUFFER] {
+        Ok(buffer) => Ok(OpenedCut { cut, buffer }),
+        Err(refused) => Err(OpenFault::Memory(refused)),
     }
 }
 
@@ -101,7 +126,7 @@ fn write_cut<S: Source, K: Sink>(
     sink: &mut K,
     cut: &CutForm,
     buffer: &mut [u8],
-) -> Result<(), CutFault>
+) -> Result<Cut, CutFault>
     requires buffer { length buffer.old ≡ 65536 }
     requires size { (n : ℕ) × (S.known source.old ≡ Some n) × (cut.now.form.end ≤ n) }
     ensures bytes { S.bytes source.new ≡ S.bytes source.old }
@@ -123,7 +148,9 @@ fn write_cut<S: Source, K: Sink>(
         return Err(fault_of_device(fault));
     }
     match sink.finish() {
-        Ok(()) => Ok(()),
+        Ok(()) => Ok(Cut {
+            frames: cut.count(),
+        }),
         Err(_) => Err(CutFault::Write),
     }
 }

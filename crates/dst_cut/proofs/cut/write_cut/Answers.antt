@@ -41,7 +41,7 @@ returns-in-Ok-clause-written g c file told is =
     let all = all_added file c.args.cut.now c.requires.size.0 is c.requires.size.2 known (c.in_default.ensures.written file told)
     (c.in_default-write_frames.ensures.written file (c.in_default.ensures.bytes ∙ told))
     (c.in_default-write_end.ensures.written file (c.in_default-write_frames.ensures.bytes ∙ c.in_default.ensures.bytes ∙ told)) in
-    c.in-Ok.ensures.written ∙ all.written
+    (c.count.ensures.count, c.in-Ok.ensures.written ∙ all.written)
 
 pub returns-in-Err-finish-clause-written : goal.returns-in-Err-finish-clause-written
 returns-in-Err-finish-clause-written g c file told is =
