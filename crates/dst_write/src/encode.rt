@@ -7,8 +7,9 @@ ghost use Rattle.dsdiff_spec.specs.declared.faults.FileFault.{FileFault};
 ghost use Rattle.dsdiff_spec.specs.Coded.{coded, stored_bytes};
 ghost use Rattle.dsdiff_spec.specs.Rules.{accepted};
 ghost use Rattle.dsdiff_spec.specs.Words.{encode};
-ghost use Rattle.dsdiff_spec.specs.Refusal.{refusal};
+ghost use Rattle.dsdiff_spec.specs.Refusal.{form_refusal, refusal};
 ghost use Rattle.dsdiff_chunks.specs.Forms.{plain_seen};
+ghost use Rattle.dsdiff_chunks.specs.Opening.{Stops};
 ghost use Rattle.dst_write.specs.Encoding.{EncodingEnds, UnsizedEnds, HasItsCause, of_device};
 ghost use Rattle.dst_write.specs.Frames.{HasRoomFor};
 ghost use Rattle.dst_write.specs.Layout.{before};
@@ -72,15 +73,47 @@ pub fn encode_file<R: Threads + Sync, S: Source, K: Sink, P: Picker + Sync, G: G
     ensures given { (file : List ℕ) → S.bytes source.old ≡ Some file → S.given source.new ≤ S.given source.old + 208948 + (accepted file).end }
     ensures given_any { S.given source.new ≤ S.given source.old + 208948 + (2 ^ 50 + 12) }
 {
-    let form = match open_file(alloc, source, &PlainFile) {
-        Ok(form) => form,
+    let mut opened = match open_plain(alloc, source, workers) {
+        Ok(opened) => opened,
         Err(fault) => return Err(EncodeFault::Source(fault)),
     };
-    let mut workspace = match Workspace::new(alloc, form.channels, form.frames, workers) {
-        Ok(workspace) => workspace,
-        Err(refused) => return Err(EncodeFault::Source(OpenFault::Memory(refused))),
+    let workspace = &mut opened.workspace;
+    write_encoded(rt, source, sink, &opened.form, picker, gate, workspace)
+}
+
+// A plain form, and what it is encoded in.
+#[derive(Drop)]
+struct OpenedPlain {
+    form: PlainForm,
+    workspace: Workspace,
+}
+
+// Opens a file by the rules of encoding, and has the room for so many workers.
+fn open_plain<S: Source>(
+    alloc: Global,
+    source: &mut S,
+    workers: u32,
+) -> Result<OpenedPlain, OpenFault>
+    requires least { 0 < workers }
+    requires most { workers ≤ 16 }
+    ensures bytes { S.bytes source.new ≡ S.bytes source.old }
+    ensures loan { S.loan source.new ≡ S.loan source.old }
+    ensures later { S.faults source.old ≤ S.faults source.new }
+    ensures given { S.given source.new ≤ S.given source.old + 208948 }
+    ensures size { IfOk result (λ o. (n : ℕ) × (S.known source.new ≡ Some n) × (o.form.end ≤ n)) }
+    ensures room { IfOk result (λ o. HasRoomFor o.form.channels o.form.frames o.workspace) }
+    ensures accepted { IfOk result (λ _. (file : List ℕ) → S.bytes source.old ≡ Some file → form_refusal (encode 1) file ≡ None) }
+    ensures opened { IfOk result (λ o. (file : List ℕ) → S.bytes source.old ≡ Some file → accepted file ≡ plain_seen o.form) }
+    ensures stops { IfErr result (Stops (form_refusal (encode 1)) (S.bytes source.old) (S.faults source.old) (S.faults source.new)) }
+{
+    let form = match open_file(alloc, source, &PlainFile) {
+        Ok(form) => form,
+        Err(fault) => return Err(fault),
     };
-    write_encoded(rt, source, sink, &form, picker, gate, &mut workspace)
+    match Workspace::new(alloc, form.channels, form.frames, workers) {
+        Ok(workspace) => Ok(OpenedPlain { form, workspace }),
+        Err(refused) => Err(OpenFault::Memory(refused)),
+    }
 }
 
 // Writes the coded file of an opened plain one.

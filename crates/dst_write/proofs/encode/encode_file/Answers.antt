@@ -1,6 +1,8 @@
 -- Each answer is one of opening, or one of writing.
 use Rattle.std.proofs.Common.{◌≡◌, inl, inr, ℕ, List, Option, Some, None, Result, Ok, Err, IfOk, ap, refl, sym, subst, ◌∙◌, arith}
-use Rattle.std.proofs.lemmas.Result.{IfErr-at_err}
+use Rattle.std.specs.Prelude.{IfErr}
+use Rattle.std.proofs.Math.Nat.{le_refl, le_trans}
+use Rattle.std.proofs.lemmas.Result.{IfErr-at_err, IfOk-weaker}
 use Rattle.dst_streams.proofs.Counts.{Rose-earlier}
 use Rattle.dsdiff_spec.specs.Form.{Form}
 use Rattle.dsdiff_spec.specs.Coded.{Picks, coded, stored_bytes}
@@ -10,45 +12,112 @@ use Rattle.dsdiff_spec.specs.Words.{encode}
 use Rattle.dsdiff_spec.proofs.ByRules.{not_refused}
 use Rattle.dsdiff_chunks.specs.Forms.{plain_seen}
 use Rattle.dsdiff_chunks.specs.declared.open.OpenFault.{OpenFault}
+use Rattle.dsdiff_chunks.specs.declared.open.OpenFault.TheVariants.{Read, Memory, File}
 use Rattle.dsdiff_chunks.specs.Opening as opening
 use Rattle.dst_streams.specs.Told.{and_then}
 use Rattle.dst_write.specs.Encoding.{EncodingEnds, HasItsCause}
 use Rattle.dst_write.specs.Unfinished.{HoldsNothing}
 use Rattle.dst_write.specs.declared.faults.EncodeFault.{EncodeFault}
-use Rattle.dst_write.specs.declared.faults.EncodeFault.TheVariants.{Source}
+use Rattle.dst_write.specs.declared.faults.EncodeFault.TheVariants.{Source, Write}
 use Rattle.dst_write.specs.declared.faults.Encoded.{Encoded}
+use Rattle.dst_write.proofs.Ending.{nothing_yet}
 use Rattle.dst_write.proofs.encode.encode_file.Goals as goal
 
 -- ---- of opening
-same_source : (a b : OpenFault) → ◌≡◌ {A = Result Encoded EncodeFault} (Err (Source a)) (Err (Source b)) → a ≡ b
+abbrev failed : EncodeFault → Result Encoded EncodeFault
+failed fault = Err fault
+
+same_source : (a b : OpenFault) → failed (Source a) ≡ failed (Source b) → a ≡ b
 same_source a b e = cc
+
+of_source : (a : OpenFault) → failed (Source a) ≡ failed Write → ⊥
+of_source a e = absurd cc
 
 rules_of_encode : (level : ℕ) (file : List ℕ) → refusal (encode level) file ≡ form_refusal (encode 1) file
 unfolding refusal
 rules_of_encode level file = refl
 
+pub returns-in-Err-clause-bytes : goal.returns-in-Err-clause-bytes
+returns-in-Err-clause-bytes g c = c.open_plain.ensures.bytes
+
+pub returns-in-Err-clause-loan : goal.returns-in-Err-clause-loan
+returns-in-Err-clause-loan g c = c.open_plain.ensures.loan
+
+pub returns-in-Err-clause-later : goal.returns-in-Err-clause-later
+returns-in-Err-clause-later g c = (c.open_plain.ensures.later, le_refl (g.K.Sink.faults c.args.sink.now))
+
 pub returns-in-Err-clause-file : goal.returns-in-Err-clause-file
 returns-in-Err-clause-file g c fault e file told level =
     rules_of_encode level file
     ∙ (subst (λ f. opening.Stops (form_refusal (encode 1)) (g.S.Source.bytes c.args.source.now) (g.S.Source.faults c.args.source.now)
-    (g.S.Source.faults c.open_file.new.source) f) (same_source c.in-Err.fault _ e) c.in-Err.ensures.stops) file told
+    (g.S.Source.faults c.open_plain.new.source) f) (same_source c.in-Err.fault _ e) c.in-Err.ensures.stops) file told
 
 pub returns-in-Err-clause-read : goal.returns-in-Err-clause-read
 returns-in-Err-clause-read g c e =
     subst (λ f. opening.Stops (form_refusal (encode 1)) (g.S.Source.bytes c.args.source.now) (g.S.Source.faults c.args.source.now)
-    (g.S.Source.faults c.open_file.new.source) f) (same_source c.in-Err.fault OpenFault.Read e) c.in-Err.ensures.stops
+    (g.S.Source.faults c.open_plain.new.source) f) (same_source c.in-Err.fault Read e) c.in-Err.ensures.stops
+
+pub returns-in-Err-clause-untouched : goal.returns-in-Err-clause-untouched
+returns-in-Err-clause-untouched g c fault e = refl
+
+pub returns-in-Err-clause-write : goal.returns-in-Err-clause-write
+returns-in-Err-clause-write g c e = absurd (of_source c.in-Err.fault e)
+
+pub returns-in-Err-clause-unfinished : goal.returns-in-Err-clause-unfinished
+returns-in-Err-clause-unfinished g c e file told nothing = nothing_yet _ _ (g.K.Sink.written c.args.sink.now) nothing
+
+pub returns-in-Err-clause-sure : goal.returns-in-Err-clause-sure
+returns-in-Err-clause-sure g c e file told room holds fits = of_source c.in-Err.fault e
+
+pub returns-in-Err-clause-write_accepted : goal.returns-in-Err-clause-write_accepted
+returns-in-Err-clause-write_accepted g c e file told level = absurd (of_source c.in-Err.fault e)
+
+pub returns-in-Err-clause-memory : goal.returns-in-Err-clause-memory
+returns-in-Err-clause-memory g c refused e = refl
+
+pub returns-in-Err-clause-refused : goal.returns-in-Err-clause-refused
+returns-in-Err-clause-refused g c file told level fault e = refl
+
+pub returns-in-Err-clause-given : goal.returns-in-Err-clause-given
+returns-in-Err-clause-given g c file told = omega (arith, c.open_plain.ensures.given)
+
+pub returns-in-Err-clause-given_any : goal.returns-in-Err-clause-given_any
+returns-in-Err-clause-given_any g c = omega (arith, c.open_plain.ensures.given)
 
 -- ---- of writing
+-- the cause of the fault that is answered
+its_cause : (r : Result Encoded EncodeFault) (fault : EncodeFault) (source_before source_now sink_before sink_now : ℕ) → r ≡ Err fault →
+    IfErr r (λ fault. HasItsCause fault source_before source_now sink_before sink_now) → HasItsCause fault source_before source_now sink_before sink_now
+its_cause r fault a b d e is h = IfErr-at_err (λ fault. HasItsCause fault a b d e) is h
+
+pub returns-clause-bytes : goal.returns-clause-bytes
+returns-clause-bytes g c = c.write_encoded.ensures.bytes ∙ c.open_plain.ensures.bytes
+
+pub returns-clause-loan : goal.returns-clause-loan
+returns-clause-loan g c = c.write_encoded.ensures.loan ∙ c.open_plain.ensures.loan
+
+pub returns-clause-later : goal.returns-clause-later
+returns-clause-later g c = (le_trans c.open_plain.ensures.later c.write_encoded.ensures.source_later, c.write_encoded.ensures.sink_later)
+
+pub returns-clause-settled : goal.returns-clause-settled
+returns-clause-settled g c = c.write_encoded.ensures.settled
+
+pub returns-clause-file : goal.returns-clause-file
+returns-clause-file g c fault e file told level =
+    absurd (its_cause c.write_encoded.result (Source (File fault)) _ _ _ _ e c.write_encoded.ensures.cause)
+
+pub returns-clause-untouched : goal.returns-clause-untouched
+returns-clause-untouched g c fault e = absurd (its_cause c.write_encoded.result (Source (File fault)) _ _ _ _ e c.write_encoded.ensures.cause)
+
+pub returns-clause-memory : goal.returns-clause-memory
+returns-clause-memory g c refused e = absurd (its_cause c.write_encoded.result (Source (Memory refused)) _ _ _ _ e c.write_encoded.ensures.cause)
+
 pub returns-clause-read : goal.returns-clause-read
 returns-clause-read g c e =
-    Rose-earlier _ _ _ c.open_file.ensures.later
-    (IfErr-at_err (λ fault. HasItsCause fault (g.S.Source.faults c.open_file.new.source) (g.S.Source.faults c.write_encoded.new.source)
-    (g.K.Sink.faults c.args.sink.now) (g.K.Sink.faults c.write_encoded.new.sink)) e c.write_encoded.ensures.cause)
+    Rose-earlier _ _ _ c.open_plain.ensures.later (its_cause c.write_encoded.result (Source Read) _ _ _ _ e c.write_encoded.ensures.cause)
 
 pub returns-clause-write : goal.returns-clause-write
-returns-clause-write g c e =
-    IfErr-at_err (λ fault. HasItsCause fault (g.S.Source.faults c.open_file.new.source) (g.S.Source.faults c.write_encoded.new.source)
-    (g.K.Sink.faults c.args.sink.now) (g.K.Sink.faults c.write_encoded.new.sink)) e c.write_encoded.ensures.cause
+returns-clause-write g c e = its_cause c.write_encoded.result Write _ _ _ _ e c.write_encoded.ensures.cause
 
 if_encoded : (r : Result Encoded EncodeFault) (picks : Picks) (bytes : Option (List ℕ)) (form : List ℕ → Form) (old new : Option (List ℕ)) (room : Option ℕ) →
     ((file : List ℕ) → bytes ≡ Some file → EncodingEnds r picks file (form file) old new room) →
@@ -97,17 +166,17 @@ ends_with r fault picks file seen form old new room e is h =
 
 pub returns-clause-unfinished : goal.returns-clause-unfinished
 returns-clause-unfinished g c (inl e) file told =
-    (ends_with c.write_encoded.result _ (g.P.Picker.picks c.args.picker.now) file (plain_seen c.in-Ok.form) (accepted file)
+    (ends_with c.write_encoded.result _ (g.P.Picker.picks c.args.picker.now) file (plain_seen c.in-Ok.opened.form) (accepted file)
     (g.K.Sink.written c.args.sink.now) (g.K.Sink.written c.write_encoded.new.sink) (g.K.Sink.room c.args.sink.now) e (c.in-Ok.ensures.opened file told)
     (c.write_encoded.ensures.written file (c.in-Ok.ensures.bytes ∙ told))).unfinished
 returns-clause-unfinished g c (inr e) file told =
-    (ends_with c.write_encoded.result _ (g.P.Picker.picks c.args.picker.now) file (plain_seen c.in-Ok.form) (accepted file)
+    (ends_with c.write_encoded.result _ (g.P.Picker.picks c.args.picker.now) file (plain_seen c.in-Ok.opened.form) (accepted file)
     (g.K.Sink.written c.args.sink.now) (g.K.Sink.written c.write_encoded.new.sink) (g.K.Sink.room c.args.sink.now) e (c.in-Ok.ensures.opened file told)
     (c.write_encoded.ensures.written file (c.in-Ok.ensures.bytes ∙ told))).unfinished
 
 pub returns-clause-sure : goal.returns-clause-sure
 returns-clause-sure g c e file told =
-    (ends_with c.write_encoded.result _ (g.P.Picker.picks c.args.picker.now) file (plain_seen c.in-Ok.form) (accepted file)
+    (ends_with c.write_encoded.result _ (g.P.Picker.picks c.args.picker.now) file (plain_seen c.in-Ok.opened.form) (accepted file)
     (g.K.Sink.written c.args.sink.now) (g.K.Sink.written c.write_encoded.new.sink) (g.K.Sink.room c.args.sink.now) e (c.in-Ok.ensures.opened file told)
     (c.write_encoded.ensures.written file (c.in-Ok.ensures.bytes ∙ told))).lacks refl
 
@@ -118,6 +187,11 @@ returns-clause-refused g c file told level fault e =
 pub returns-clause-write_accepted : goal.returns-clause-write_accepted
 returns-clause-write_accepted g c e file told level = rules_of_encode level file ∙ c.in-Ok.ensures.accepted file told
 
+pub returns-clause-frames : goal.returns-clause-frames
+returns-clause-frames g c =
+    IfOk-weaker c.write_encoded.result _ _ (λ e known file told. known ∙ ap (λ (f : Form). f.frames) (sym (c.in-Ok.ensures.opened file told)))
+    c.write_encoded.ensures.frames
+
 -- what is read
 pub returns-clause-given : goal.returns-clause-given
 returns-clause-given g c file told =
@@ -125,4 +199,4 @@ returns-clause-given g c file told =
     omega (arith, c.in-Ok.ensures.given, c.write_encoded.ensures.given, end)
 
 pub returns-clause-given_any : goal.returns-clause-given_any
-returns-clause-given_any g c = omega (arith, c.in-Ok.ensures.given, c.write_encoded.ensures.given, c.in-Ok.form.lawful.end)
+returns-clause-given_any g c = omega (arith, c.in-Ok.ensures.given, c.write_encoded.ensures.given, c.in-Ok.opened.form.lawful.end)
