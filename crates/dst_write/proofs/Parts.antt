@@ -1,6 +1,7 @@
 -- The coded file of an opened plain one, part by part: it stops in one of the parts, or all but the sizes is there, and then these are told.
 use Rattle.std.proofs.Common.{◌≡◌, ℕ, ◌+◌, ◌≤◌, List, ◌++◌, length, map, flat_map, Option, Some, Result, Ok, Err, refl, sym, ap, subst, ◌∙◌, arith}
 use Rattle.std.specs.Prelude.{IsOk}
+use Rattle.dst_streams.proofs.Counts.{Rose-earlier}
 use Rattle.dst_streams.specs.Told.{and_then}
 use Rattle.dst_streams.specs.declared.source.Failed.{Failed}
 use Rattle.dsdiff_spec.specs.Form.{Form}
@@ -9,6 +10,7 @@ use Rattle.dsdiff_spec.specs.Written.{dstf}
 use Rattle.dsdiff_chunks.specs.Forms.{plain_seen}
 use Rattle.dsdiff_chunks.specs.declared.copy.CopyFault.{CopyFault}
 use Rattle.dsdiff_chunks.specs.declared.form.PlainForm.{PlainForm}
+use Rattle.dsdiff_chunks.specs.declared.open.OpenFault.TheVariants.{Read, Memory, File}
 use Rattle.dst_commands.specs.Writing.{Adds, Stops}
 use Rattle.dst_commands.proofs.Writing.{adds_then, stops_for, stops_first, stops_same, stops_then}
 use Rattle.dst_commands.specs.Passing.{FailedBy}
@@ -16,7 +18,7 @@ use Rattle.dst_write.specs.Encoding.{HasItsCause, IsStopped, of_device}
 use Rattle.dst_write.specs.Layout.{before, end, form_size, front, sound_size, unsized}
 use Rattle.dst_write.specs.Unfinished.{HoldsNothing, sound_size_place, SizesEnd}
 use Rattle.dst_write.specs.declared.faults.EncodeFault.{EncodeFault}
-use Rattle.dst_write.specs.declared.faults.EncodeFault.TheVariants.{Write}
+use Rattle.dst_write.specs.declared.faults.EncodeFault.TheVariants.{Source, Write}
 use Rattle.dst_write.proofs.Sized.{sound_place}
 use Rattle.dst_write.proofs.Ending.{all_added, sizes_as, stored_count, stopped_short, stopped_at_sizes, ended_whole}
 
@@ -34,6 +36,13 @@ pub cause_by_device : (fault : CopyFault) (answer : EncodeFault) (source_before 
     FailedBy fault source_before source_now sink_before sink_now → HasItsCause answer source_before source_now sink_before sink_now
 cause_by_device CopyFault.Read answer a b c d is h = subst (λ answer. HasItsCause answer a b c d) (sym is) h
 cause_by_device CopyFault.Write answer a b c d is h = subst (λ answer. HasItsCause answer a b c d) (sym is) h
+
+pub caused_since : (fault : EncodeFault) (source_before source_mid source_now sink_before sink_mid sink_now : ℕ) → source_before ≤ source_mid →
+    sink_before ≤ sink_mid → HasItsCause fault source_mid source_now sink_mid sink_now → HasItsCause fault source_before source_now sink_before sink_now
+caused_since (Source Read) a b c d e f later grown cause = Rose-earlier a b c later cause
+caused_since (Source (Memory refused)) a b c d e f later grown cause = cause
+caused_since (Source (File fault)) a b c d e f later grown cause = cause
+caused_since Write a b c d e f later grown cause = Rose-earlier d e f grown cause
 
 -- ---- of a form that ends within the n bytes of its file
 module _ (picks : Picks) (file : List ℕ) (seen : PlainForm) (n : ℕ) (within : seen.end ≤ n) (known : n ≡ length file)

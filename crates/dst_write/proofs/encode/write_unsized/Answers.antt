@@ -1,5 +1,6 @@
 -- In front of the frames, the frames, behind them.
 use Rattle.std.proofs.Common.{◌≡◌, ℕ, ◌+◌, ◌≤◌, List, ◌++◌, length, take, sym, ◌∙◌, arith}
+use Rattle.std.proofs.Math.Nat.{le_trans}
 use Rattle.std.proofs.lemmas.List.{take_at}
 use Rattle.dsdiff_chunks.specs.Forms.{plain_seen}
 use Rattle.dsdiff_chunks.specs.declared.form.PlainForm.{PlainForm}
@@ -9,7 +10,7 @@ use Rattle.dst_write.specs.declared.faults.EncodeFault.TheVariants.{Write}
 use Rattle.dst_commands.proofs.PassedOn.{failed_since}
 use Rattle.dst_commands.proofs.Taken.{parts_of_form}
 use Rattle.dst_write.proofs.Sized.{length-front}
-use Rattle.dst_write.proofs.Parts.{cause_by_device, stops_by_device, stopped_in_front, stopped_in_frames, stopped_in_end, all_is_added}
+use Rattle.dst_write.proofs.Parts.{cause_by_device, caused_since, stops_by_device, stopped_in_front, stopped_in_frames, stopped_in_end, all_is_added}
 use Rattle.dst_write.proofs.encode.write_unsized.Goals as goal
 
 pub returns-in-Err-clause-written : goal.returns-in-Err-clause-written
@@ -87,5 +88,63 @@ returns-in-Err-clause-cause g c = cause_by_device c.in-Err.fault _ _ _ _ _ c.fau
 pub returns-in-Err-write_end-clause-cause : goal.returns-in-Err-write_end-clause-cause
 returns-in-Err-write_end-clause-cause g c =
     cause_by_device c.in-Err-write_end.fault _ _ _ _ _ c.fault_of_device-in-Err-write_end.ensures
-    (failed_since c.in-Err-write_end.fault _ _ _ _ _ _ (omega (arith, c.write_front.ensures.source_later, c.write_frames.ensures.source_later))
-    (omega (arith, c.write_front.ensures.sink_later, c.write_frames.ensures.sink_later)) c.in-Err-write_end.ensures.cause)
+    (failed_since c.in-Err-write_end.fault _ _ _ _ _ _ (le_trans c.write_front.ensures.source_later c.write_frames.ensures.source_later)
+    (le_trans c.write_front.ensures.sink_later c.write_frames.ensures.sink_later) c.in-Err-write_end.ensures.cause)
+
+-- what stays of the source and the sink, part by part
+pub returns-in-Err-clause-bytes : goal.returns-in-Err-clause-bytes
+returns-in-Err-clause-bytes g c = c.write_front.ensures.bytes
+
+pub returns-in-Err-write_frames-clause-bytes : goal.returns-in-Err-write_frames-clause-bytes
+returns-in-Err-write_frames-clause-bytes g c = c.write_frames.ensures.bytes ∙ c.write_front.ensures.bytes
+
+pub returns-in-Err-write_end-clause-bytes : goal.returns-in-Err-write_end-clause-bytes
+returns-in-Err-write_end-clause-bytes g c = c.write_end.ensures.bytes ∙ c.write_frames.ensures.bytes ∙ c.write_front.ensures.bytes
+
+pub returns-in-Ok-clause-bytes : goal.returns-in-Ok-clause-bytes
+returns-in-Ok-clause-bytes g c = c.write_end.ensures.bytes ∙ c.write_frames.ensures.bytes ∙ c.write_front.ensures.bytes
+
+pub returns-in-Err-clause-loan : goal.returns-in-Err-clause-loan
+returns-in-Err-clause-loan g c = c.write_front.ensures.loan
+
+pub returns-in-Err-write_frames-clause-loan : goal.returns-in-Err-write_frames-clause-loan
+returns-in-Err-write_frames-clause-loan g c = c.write_frames.ensures.loan ∙ c.write_front.ensures.loan
+
+pub returns-in-Err-write_end-clause-loan : goal.returns-in-Err-write_end-clause-loan
+returns-in-Err-write_end-clause-loan g c = c.write_end.ensures.loan ∙ c.write_frames.ensures.loan ∙ c.write_front.ensures.loan
+
+pub returns-in-Ok-clause-loan : goal.returns-in-Ok-clause-loan
+returns-in-Ok-clause-loan g c = c.write_end.ensures.loan ∙ c.write_frames.ensures.loan ∙ c.write_front.ensures.loan
+
+pub returns-in-Err-clause-source_later : goal.returns-in-Err-clause-source_later
+returns-in-Err-clause-source_later g c = c.write_front.ensures.source_later
+
+pub returns-in-Err-write_frames-clause-source_later : goal.returns-in-Err-write_frames-clause-source_later
+returns-in-Err-write_frames-clause-source_later g c = le_trans c.write_front.ensures.source_later c.write_frames.ensures.source_later
+
+pub returns-in-Err-write_end-clause-source_later : goal.returns-in-Err-write_end-clause-source_later
+returns-in-Err-write_end-clause-source_later g c =
+    le_trans (le_trans c.write_front.ensures.source_later c.write_frames.ensures.source_later) c.write_end.ensures.source_later
+
+pub returns-in-Ok-clause-source_later : goal.returns-in-Ok-clause-source_later
+returns-in-Ok-clause-source_later g c =
+    le_trans (le_trans c.write_front.ensures.source_later c.write_frames.ensures.source_later) c.write_end.ensures.source_later
+
+pub returns-in-Err-clause-sink_later : goal.returns-in-Err-clause-sink_later
+returns-in-Err-clause-sink_later g c = c.write_front.ensures.sink_later
+
+pub returns-in-Err-write_frames-clause-sink_later : goal.returns-in-Err-write_frames-clause-sink_later
+returns-in-Err-write_frames-clause-sink_later g c = le_trans c.write_front.ensures.sink_later c.write_frames.ensures.sink_later
+
+pub returns-in-Err-write_end-clause-sink_later : goal.returns-in-Err-write_end-clause-sink_later
+returns-in-Err-write_end-clause-sink_later g c =
+    le_trans (le_trans c.write_front.ensures.sink_later c.write_frames.ensures.sink_later) c.write_end.ensures.sink_later
+
+pub returns-in-Ok-clause-sink_later : goal.returns-in-Ok-clause-sink_later
+returns-in-Ok-clause-sink_later g c =
+    le_trans (le_trans c.write_front.ensures.sink_later c.write_frames.ensures.sink_later) c.write_end.ensures.sink_later
+
+pub returns-in-Err-write_frames-clause-cause : goal.returns-in-Err-write_frames-clause-cause
+returns-in-Err-write_frames-clause-cause g c =
+    caused_since c.in-Err-write_frames.fault _ _ _ _ _ _ c.write_front.ensures.source_later c.write_front.ensures.sink_later
+    c.in-Err-write_frames.ensures.cause
