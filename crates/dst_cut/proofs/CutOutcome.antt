@@ -75,8 +75,8 @@ pub if_cut : (r : Result Cut CutFault) (first last : ℕ) (c : CutForm) (bytes o
     ((file : List ℕ) → bytes ≡ Some file → form_refusal (words.cut first last) file ≡ None) →
     ((file : List ℕ) → bytes ≡ Some file → IsCutForm first last file c) →
     ((file : List ℕ) → bytes ≡ Some file → entries file (coded_seen c.form) ≡ c.index → CutEnds r file c old new room) →
-    IfOk r (λ done_of. (file : List ℕ) → bytes ≡ Some file →
-    (out : List ℕ) × OutcomeOf (words.cut first last) file (done out (cut_line done_of.frames ∷ [])) × (new ≡ and_then old out))
+    IfOk r (λ answer. (file : List ℕ) → bytes ≡ Some file →
+    (out : List ℕ) × OutcomeOf (words.cut first last) file (done out (cut_line answer.frames ∷ [])) × (new ≡ and_then old out))
 if_cut (Ok d) first last c bytes old new room accepted opened ends = λ file told.
     let is = opened file told in
     let all = ends file told is.entries_are in
