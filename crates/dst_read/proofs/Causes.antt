@@ -15,16 +15,6 @@ use Rattle.dst_read.specs.declared.faults.DecodeFault.TheVariants.{Source, Write
 use Rattle.dst_read.specs.declared.faults.Decoded.{Decoded}
 use Rattle.dst_read.specs.Decoding.{of_device, HasItsCause}
 
--- ---- counts
-pub later_itself : (a : ℕ) → a ≤ a
-later_itself a = omega arith
-
-pub later_twice : (a b c : ℕ) → a ≤ b → b ≤ c → a ≤ c
-later_twice a b c p q = omega arith
-
-pub later_thrice : (a b c d : ℕ) → a ≤ b → b ≤ c → c ≤ d → a ≤ d
-later_thrice a b c d p q r = omega arith
-
 -- what opening gives is within any bound that has room for a form besides
 pub given_by_opening : (before now more : ℕ) → now ≤ before + (208948 + 48000000) → now ≤ before + 208948 + 48000000 + more
 given_by_opening before now more h = omega arith

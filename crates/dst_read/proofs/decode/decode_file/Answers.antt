@@ -1,5 +1,6 @@
 -- Each answer is one of opening, or one of writing.
 use Rattle.std.proofs.Common.{◌≡◌, ◌+◌, ◌^◌, refl, inl, inr, ℕ, List, ◌∷◌, [], Option, Some, Result, Ok, Err, IfOk, ap, sym, subst, ◌∙◌, arith}
+use Rattle.std.proofs.Math.Nat.{le_refl, le_trans}
 use Rattle.dst_streams.specs.Told.{and_then}
 use Rattle.dsdiff_spec.specs.Form.{Form, size_of_sound}
 use Rattle.dsdiff_spec.specs.Refusal.{form_refusal}
@@ -19,7 +20,7 @@ use Rattle.dst_read.specs.declared.faults.DecodeFault.TheVariants.{Source, Write
 use Rattle.dst_read.specs.declared.faults.Decoded.{Decoded}
 use Rattle.dst_read.specs.Decoding.{DecodingEnds}
 use Rattle.dst_read.proofs.Stopping.{nothing_written}
-use Rattle.dst_read.proofs.Causes.{later_itself, later_twice, given_by_opening, its_cause, not_frame, not_write, not_read, not_file}
+use Rattle.dst_read.proofs.Causes.{given_by_opening, its_cause, not_frame, not_write, not_read, not_file}
 use Rattle.dst_read.proofs.decode.decode_file.Goals as goal
 
 -- ---- of opening
@@ -45,7 +46,7 @@ pub returns-in-Err-clause-bytes : goal.returns-in-Err-clause-bytes
 returns-in-Err-clause-bytes g c = c.open_file.ensures.bytes
 
 pub returns-in-Err-clause-later : goal.returns-in-Err-clause-later
-returns-in-Err-clause-later g c = (c.open_file.ensures.later, later_itself (g.K.Sink.faults c.args.sink.now))
+returns-in-Err-clause-later g c = (c.open_file.ensures.later, le_refl (g.K.Sink.faults c.args.sink.now))
 
 pub returns-in-Err-clause-untouched : goal.returns-in-Err-clause-untouched
 returns-in-Err-clause-untouched g c fault e = refl
@@ -78,7 +79,7 @@ pub returns-in-Err-new-clause-bytes : goal.returns-in-Err-new-clause-bytes
 returns-in-Err-new-clause-bytes g c = c.open_file.ensures.bytes
 
 pub returns-in-Err-new-clause-later : goal.returns-in-Err-new-clause-later
-returns-in-Err-new-clause-later g c = (c.open_file.ensures.later, later_itself (g.K.Sink.faults c.args.sink.now))
+returns-in-Err-new-clause-later g c = (c.open_file.ensures.later, le_refl (g.K.Sink.faults c.args.sink.now))
 
 pub returns-in-Err-new-clause-untouched : goal.returns-in-Err-new-clause-untouched
 returns-in-Err-new-clause-untouched g c fault e = refl
@@ -167,8 +168,7 @@ returns-clause-bytes g c = c.write_decoded.ensures.bytes ∙ c.open_file.ensures
 
 pub returns-clause-later : goal.returns-clause-later
 returns-clause-later g c = (
-  later_twice (g.S.Source.faults c.args.source.now) (g.S.Source.faults c.open_file.new.source) (g.S.Source.faults c.write_decoded.new.source)
-      c.open_file.ensures.later c.write_decoded.ensures.source_later,
+  le_trans c.open_file.ensures.later c.write_decoded.ensures.source_later,
   c.write_decoded.ensures.sink_later,
 )
 

@@ -1,11 +1,12 @@
 -- In front of the sound, the sound, behind it.
 use Rattle.std.proofs.Common.{refl, sym, ◌∙◌, arith}
+use Rattle.std.proofs.Math.Nat.{le_trans}
 use Rattle.dst_streams.proofs.Counts.{Rose-earlier}
 use Rattle.dsdiff_chunks.specs.Forms.{coded_seen}
 use Rattle.dst_read.proofs.Ending.{ends_at_front, ends_in_frames, ends_at_end, ends_unsettled, ends_done}
 use Rattle.dst_commands.proofs.Taken.{parts_of_form}
 use Rattle.dst_read.proofs.Once.{stored_in_sound}
-use Rattle.dst_read.proofs.Causes.{later_twice, later_thrice, caused_by_device, caused_later, decoded_alike}
+use Rattle.dst_read.proofs.Causes.{caused_by_device, caused_later, decoded_alike}
 use Rattle.dst_read.proofs.decode.write_decoded.Goals as goal
 
 -- ---- the devices, call by call
@@ -29,40 +30,30 @@ returns-in-Err-clause-source_later g c = c.write_front.ensures.source_later
 
 pub returns-in-Err-write_frames-clause-source_later : goal.returns-in-Err-write_frames-clause-source_later
 returns-in-Err-write_frames-clause-source_later g c =
-    later_twice (g.S.Source.faults c.args.source.now) (g.S.Source.faults c.write_front.new.source) (g.S.Source.faults c.write_frames.new.source)
-    c.write_front.ensures.source_later c.write_frames.ensures.source_later
+    le_trans c.write_front.ensures.source_later c.write_frames.ensures.source_later
 
 pub returns-in-Err-write_end-clause-source_later : goal.returns-in-Err-write_end-clause-source_later
 returns-in-Err-write_end-clause-source_later g c =
-    later_thrice (g.S.Source.faults c.args.source.now) (g.S.Source.faults c.write_front.new.source) (g.S.Source.faults c.write_frames.new.source)
-    (g.S.Source.faults c.write_end.new.source)
-    c.write_front.ensures.source_later c.write_frames.ensures.source_later c.write_end.ensures.source_later
+    le_trans c.write_front.ensures.source_later (le_trans c.write_frames.ensures.source_later c.write_end.ensures.source_later)
 
 pub returns-in_default-finish-clause-source_later : goal.returns-in_default-finish-clause-source_later
 returns-in_default-finish-clause-source_later g c =
-    later_thrice (g.S.Source.faults c.args.source.now) (g.S.Source.faults c.write_front.new.source) (g.S.Source.faults c.write_frames.new.source)
-    (g.S.Source.faults c.write_end.new.source)
-    c.write_front.ensures.source_later c.write_frames.ensures.source_later c.write_end.ensures.source_later
+    le_trans c.write_front.ensures.source_later (le_trans c.write_frames.ensures.source_later c.write_end.ensures.source_later)
 
 pub returns-clause-source_later : goal.returns-clause-source_later
 returns-clause-source_later g c =
-    later_thrice (g.S.Source.faults c.args.source.now) (g.S.Source.faults c.write_front.new.source) (g.S.Source.faults c.write_frames.new.source)
-    (g.S.Source.faults c.write_end.new.source)
-    c.write_front.ensures.source_later c.write_frames.ensures.source_later c.write_end.ensures.source_later
+    le_trans c.write_front.ensures.source_later (le_trans c.write_frames.ensures.source_later c.write_end.ensures.source_later)
 
 pub returns-in-Err-clause-sink_later : goal.returns-in-Err-clause-sink_later
 returns-in-Err-clause-sink_later g c = c.write_front.ensures.sink_later
 
 pub returns-in-Err-write_frames-clause-sink_later : goal.returns-in-Err-write_frames-clause-sink_later
 returns-in-Err-write_frames-clause-sink_later g c =
-    later_twice (g.K.Sink.faults c.args.sink.now) (g.K.Sink.faults c.write_front.new.sink) (g.K.Sink.faults c.write_frames.new.sink)
-    c.write_front.ensures.sink_later c.write_frames.ensures.sink_later
+    le_trans c.write_front.ensures.sink_later c.write_frames.ensures.sink_later
 
 pub returns-in-Err-write_end-clause-sink_later : goal.returns-in-Err-write_end-clause-sink_later
 returns-in-Err-write_end-clause-sink_later g c =
-    later_thrice (g.K.Sink.faults c.args.sink.now) (g.K.Sink.faults c.write_front.new.sink) (g.K.Sink.faults c.write_frames.new.sink)
-    (g.K.Sink.faults c.write_end.new.sink)
-    c.write_front.ensures.sink_later c.write_frames.ensures.sink_later c.write_end.ensures.sink_later
+    le_trans c.write_front.ensures.sink_later (le_trans c.write_frames.ensures.sink_later c.write_end.ensures.sink_later)
 
 -- ---- the causes
 pub returns-in-Err-clause-cause : goal.returns-in-Err-clause-cause
@@ -81,8 +72,8 @@ returns-in-Err-write_end-clause-cause g c =
     caused_later c.fault_of_device-in-Err-write_end.result (g.S.Source.faults c.args.source.now) (g.S.Source.faults c.write_frames.new.source)
     (g.S.Source.faults c.write_end.new.source) (g.K.Sink.faults c.args.sink.now) (g.K.Sink.faults c.write_frames.new.sink)
     (g.K.Sink.faults c.write_end.new.sink)
-    (later_twice _ (g.S.Source.faults c.write_front.new.source) _ c.write_front.ensures.source_later c.write_frames.ensures.source_later)
-    (later_twice _ (g.K.Sink.faults c.write_front.new.sink) _ c.write_front.ensures.sink_later c.write_frames.ensures.sink_later)
+    (le_trans c.write_front.ensures.source_later c.write_frames.ensures.source_later)
+    (le_trans c.write_front.ensures.sink_later c.write_frames.ensures.sink_later)
     (caused_by_device c.fault_of_device-in-Err-write_end.result c.in-Err-write_end.fault (g.S.Source.faults c.write_frames.new.source)
     (g.S.Source.faults c.write_end.new.source) (g.K.Sink.faults c.write_frames.new.sink) (g.K.Sink.faults c.write_end.new.sink)
     c.fault_of_device-in-Err-write_end.ensures c.in-Err-write_end.ensures.cause)
@@ -90,8 +81,7 @@ returns-in-Err-write_end-clause-cause g c =
 pub returns-in_default-finish-clause-cause : goal.returns-in_default-finish-clause-cause
 returns-in_default-finish-clause-cause g c =
     Rose-earlier (g.K.Sink.faults c.args.sink.now) (g.K.Sink.faults c.write_end.new.sink) (g.K.Sink.faults c.finish.new.self)
-    (later_thrice (g.K.Sink.faults c.args.sink.now) (g.K.Sink.faults c.write_front.new.sink) (g.K.Sink.faults c.write_frames.new.sink)
-    (g.K.Sink.faults c.write_end.new.sink) c.write_front.ensures.sink_later c.write_frames.ensures.sink_later c.write_end.ensures.sink_later)
+    (le_trans c.write_front.ensures.sink_later (le_trans c.write_frames.ensures.sink_later c.write_end.ensures.sink_later))
     c.in_default-finish.ensures.cause.failed
 
 -- ---- what is answered
