@@ -1,4 +1,6 @@
 // A DSF file written by hand, of twelve samples of one channel.
+ghost use Rattle.std.specs.Prelude.{◌<◌, ◌≤◌};
+
 use crate::no_pick::NoPick;
 use dsdiff_chunks::{FileFault, OpenFault};
 use dst_dsf::{decode_dsf, encode_dsf};
@@ -6,7 +8,8 @@ use dst_read::{DecodeFault, Decoded};
 use dst_streams::{HonestSource, MemorySink, MemorySource};
 use dst_write::{EncodeFault, Encoded};
 use frame_crew::OpenGate;
-use std::test::Fail;
+use std::alloc::{AllocError, Global};
+use std::thread::Threads;
 
 // The head of a file of twelve samples, with 1 bit per sample.
 const HEAD: &[u8; 92] = b"DSD \x1c\0\0\0\0\0\0\0\x5c\x10\0\0\0\0\0\0\0\0\0\0\0\0\0\0\
@@ -45,129 +48,197 @@ fn coded() -> [u8; 4966] {
     file
 }
 
-#[test]
-fn twelve_samples_are_coded_in_a_frame(rt: HostRuntime) -> Result<(), Fail> {
-    let alloc = rt.alloc();
-    let file = file_of(HEAD, 1);
-    let mut source = HonestSource::new(&file);
+type EncodeAnswer = Result<Encoded, EncodeFault>;
+
+type DecodeAnswer = Result<Decoded, DecodeFault>;
+
+// What coding a file by so many workers answers, and whether these bytes are written.
+fn encoded<R: Threads + Sync>(
+    rt: &R,
+    alloc: Global,
+    file: &[u8],
+    workers: u32,
+    wanted: &[u8],
+) -> Result<(EncodeAnswer, bool), AllocError>
+    requires { (0 < workers) × (workers ≤ 16) }
+{
+    let mut source = HonestSource::new(file);
     let mut sink = MemorySink::new(alloc, 5000, &[])?;
-    let answer = encode_dsf(&rt, alloc, &mut source, &mut sink, &NoPick, 4, &OpenGate);
-    assert_eq!(rt;
-        answer,
-        Ok(Encoded {
-            frames: 1,
-            bytes: 4705
-        })
+    let answer = encode_dsf(
+        rt,
+        alloc,
+        &mut source,
+        &mut sink,
+        &NoPick,
+        workers,
+        &OpenGate,
     );
-    assert!(rt; sink.written() == coded().as_slice());
-    Ok(())
+    Ok((answer, sink.written() == wanted))
 }
 
 #[test]
-fn a_size_of_blocks_that_is_too_small_is_refused(rt: HostRuntime) -> Result<(), Fail> {
-    let alloc = rt.alloc();
+fn twelve_samples_are_coded_in_a_frame(rt: HostRuntime) {
+    let answer = encoded(&rt, rt.alloc(), &file_of(HEAD, 1), 4, &coded());
+    let done = Encoded {
+        frames: 1,
+        bytes: 4705,
+    };
+    assert_eq!(rt; answer, Ok((Ok(done), true)));
+}
+
+#[test]
+fn a_size_of_blocks_that_is_too_small_is_refused(rt: HostRuntime) {
     let mut file = file_of(HEAD, 1);
     file[84] = 11;
-    let mut source = HonestSource::new(&file);
-    let mut sink = MemorySink::new(alloc, 5000, &[])?;
-    let answer = encode_dsf(&rt, alloc, &mut source, &mut sink, &NoPick, 1, &OpenGate);
+    let answer = encoded(&rt, rt.alloc(), &file, 1, &[]);
     let fault = FileFault::DsfCount {
         samples: 12,
         size: 4107,
     };
-    assert_eq!(rt; answer, Err(EncodeFault::Source(OpenFault::File(fault))));
-    assert!(rt; sink.written().is_empty());
-    Ok(())
+    let refused = EncodeFault::Source(OpenFault::File(fault));
+    assert_eq!(rt; answer, Ok((Err(refused), true)));
 }
 
-#[test]
-fn a_call_of_a_device_that_fails_is_told(rt: HostRuntime) -> Result<(), Fail> {
-    let alloc = rt.alloc();
+// What coding the file answers where this call of the source fails.
+fn encode_unread<R: Threads + Sync>(
+    rt: &R,
+    alloc: Global,
+    turn: u64,
+) -> Result<EncodeAnswer, AllocError> {
     let file = file_of(HEAD, 1);
-    for turn in 0..3u64 {
-        let fails = [turn];
-        let mut source = MemorySource::new(&file, &[], &fails);
-        let mut sink = MemorySink::new(alloc, 5000, &[])?;
-        let answer = encode_dsf(&rt, alloc, &mut source, &mut sink, &NoPick, 1, &OpenGate);
-        assert_eq!(rt;
-            answer,
-            Err(EncodeFault::Source(OpenFault::Read)),
-            "call {turn} of the source"
-        );
-    }
+    let fails = [turn];
+    let mut source = MemorySource::new(&file, &[], &fails);
+    let mut sink = MemorySink::new(alloc, 5000, &[])?;
+    Ok(encode_dsf(rt, alloc, &mut source, &mut sink, &NoPick, 1, &OpenGate))
+}
+
+// The same where this call of the sink fails.
+fn encode_unwritten<R: Threads + Sync>(
+    rt: &R,
+    alloc: Global,
+    turn: u64,
+) -> Result<EncodeAnswer, AllocError> {
+    let file = file_of(HEAD, 1);
+    let fails = [turn];
+    let mut source = HonestSource::new(&file);
+    let mut sink = MemorySink::new(alloc, 5000, &fails)?;
+    Ok(encode_dsf(rt, alloc, &mut source, &mut sink, &NoPick, 1, &OpenGate))
+}
+
+// The last of sixty calls of the sink whose failing is told; or the first that is told as another fault, and that fault.
+fn last_told_of_coding<R: Threads + Sync>(
+    rt: &R,
+    alloc: Global,
+) -> Result<u64, (u64, Result<EncodeAnswer, AllocError>)> {
     let mut told = 0u64;
     for turn in 0..60u64 {
-        let fails = [turn];
-        let mut source = HonestSource::new(&file);
-        let mut sink = MemorySink::new(alloc, 5000, &fails)?;
-        let answer = encode_dsf(&rt, alloc, &mut source, &mut sink, &NoPick, 1, &OpenGate);
-        if answer.is_err() {
-            assert_eq!(rt; answer, Err(EncodeFault::Write), "call {turn} of the sink");
-            told = turn;
+        match encode_unwritten(rt, alloc, turn) {
+            Ok(Ok(_)) => {}
+            Ok(Err(EncodeFault::Write)) => told = turn,
+            other => return Err((turn, other)),
         }
     }
-    assert!(rt; told > 15 && told < 59);
-    Ok(())
+    Ok(told)
 }
 
 #[test]
-fn the_coded_file_is_decoded_to_the_samples(rt: HostRuntime) -> Result<(), Fail> {
+fn a_call_of_a_device_that_fails_is_told(rt: HostRuntime) {
     let alloc = rt.alloc();
-    let file = coded();
-    let mut source = HonestSource::new(&file);
+    let reads = [
+        encode_unread(&rt, alloc, 0),
+        encode_unread(&rt, alloc, 1),
+        encode_unread(&rt, alloc, 2),
+    ];
+    let told = last_told_of_coding(&rt, alloc).map(|told| told > 15 && told < 59);
+    let unread = Ok(Err(EncodeFault::Source(OpenFault::Read)));
+    assert_eq!(rt; (reads, told), ([unread; 3], Ok(true)));
+}
+
+// What decoding a file by so many workers answers, and whether these bytes are written.
+fn decoded<R: Threads + Sync>(
+    rt: &R,
+    alloc: Global,
+    file: &[u8],
+    workers: u32,
+    wanted: &[u8],
+) -> Result<(DecodeAnswer, bool), AllocError>
+    requires { (0 < workers) × (workers ≤ 16) }
+{
+    let mut source = HonestSource::new(file);
     let mut sink = MemorySink::new(alloc, 5000, &[])?;
-    let answer = decode_dsf(&rt, alloc, &mut source, &mut sink, 4, &OpenGate);
-    assert_eq!(rt;
-        answer,
-        Ok(Decoded {
-            frames: 1,
-            bytes: 2
-        })
-    );
-    assert!(rt; sink.written() == file_of(HEAD, 1).as_slice());
-    Ok(())
+    let answer = decode_dsf(rt, alloc, &mut source, &mut sink, workers, &OpenGate);
+    Ok((answer, sink.written() == wanted))
 }
 
 #[test]
-fn seventeen_samples_of_two_bytes_are_refused(rt: HostRuntime) -> Result<(), Fail> {
-    let alloc = rt.alloc();
+fn the_coded_file_is_decoded_to_the_samples(rt: HostRuntime) {
+    let answer = decoded(&rt, rt.alloc(), &coded(), 4, &file_of(HEAD, 1));
+    let done = Decoded {
+        frames: 1,
+        bytes: 2,
+    };
+    assert_eq!(rt; answer, Ok((Ok(done), true)));
+}
+
+#[test]
+fn seventeen_samples_of_two_bytes_are_refused(rt: HostRuntime) {
     let mut file = coded();
     file[4960] = 17;
-    let mut source = HonestSource::new(&file);
+    let answer = decoded(&rt, rt.alloc(), &file, 1, &[]);
+    let refused = DecodeFault::Source(OpenFault::File(FileFault::DsfKeptBad));
+    assert_eq!(rt; answer, Ok((Err(refused), true)));
+}
+
+// What decoding the coded file answers where this call of the source fails.
+fn decode_unread<R: Threads + Sync>(
+    rt: &R,
+    alloc: Global,
+    turn: u64,
+) -> Result<DecodeAnswer, AllocError> {
+    let file = coded();
+    let fails = [turn];
+    let mut source = MemorySource::new(&file, &[], &fails);
     let mut sink = MemorySink::new(alloc, 5000, &[])?;
-    let answer = decode_dsf(&rt, alloc, &mut source, &mut sink, 1, &OpenGate);
-    let fault = OpenFault::File(FileFault::DsfKeptBad);
-    assert_eq!(rt; answer, Err(DecodeFault::Source(fault)));
-    assert!(rt; sink.written().is_empty());
-    Ok(())
+    Ok(decode_dsf(rt, alloc, &mut source, &mut sink, 1, &OpenGate))
+}
+
+// The same where this call of the sink fails.
+fn decode_unwritten<R: Threads + Sync>(
+    rt: &R,
+    alloc: Global,
+    turn: u64,
+) -> Result<DecodeAnswer, AllocError> {
+    let file = coded();
+    let fails = [turn];
+    let mut source = HonestSource::new(&file);
+    let mut sink = MemorySink::new(alloc, 5000, &fails)?;
+    Ok(decode_dsf(rt, alloc, &mut source, &mut sink, 1, &OpenGate))
+}
+
+// The last of sixty calls of the source and of the sink whose failing is told; or the first that is told as another fault, and that fault.
+fn last_told_of_decoding<R: Threads + Sync>(
+    rt: &R,
+    alloc: Global,
+) -> Result<(u64, u64), (u64, Result<DecodeAnswer, AllocError>)> {
+    let mut last = (0u64, 0u64);
+    for turn in 0..60u64 {
+        match decode_unread(rt, alloc, turn) {
+            Ok(Ok(_)) => {}
+            Ok(Err(DecodeFault::Source(OpenFault::Read))) => last.0 = turn,
+            other => return Err((turn, other)),
+        }
+        match decode_unwritten(rt, alloc, turn) {
+            Ok(Ok(_)) => {}
+            Ok(Err(DecodeFault::Write)) => last.1 = turn,
+            other => return Err((turn, other)),
+        }
+    }
+    Ok(last)
 }
 
 #[test]
-fn a_device_that_fails_in_decoding_is_told(rt: HostRuntime) -> Result<(), Fail> {
-    let alloc = rt.alloc();
-    let file = coded();
-    let mut last = (0u64, 0u64);
-    for turn in 0..60u64 {
-        let fails = [turn];
-        let mut source = MemorySource::new(&file, &[], &fails);
-        let mut sink = MemorySink::new(alloc, 5000, &[])?;
-        let read = decode_dsf(&rt, alloc, &mut source, &mut sink, 1, &OpenGate);
-        if read.is_err() {
-            assert_eq!(rt;
-                read,
-                Err(DecodeFault::Source(OpenFault::Read)),
-                "call {turn} of the source"
-            );
-            last.0 = turn;
-        }
-        let mut whole = HonestSource::new(&file);
-        let mut failing = MemorySink::new(alloc, 5000, &fails)?;
-        let write = decode_dsf(&rt, alloc, &mut whole, &mut failing, 1, &OpenGate);
-        if write.is_err() {
-            assert_eq!(rt; write, Err(DecodeFault::Write), "call {turn} of the sink");
-            last.1 = turn;
-        }
-    }
-    assert!(rt; last.0 > 10 && last.1 > 10);
-    Ok(())
+fn a_device_that_fails_in_decoding_is_told(rt: HostRuntime) {
+    let last = last_told_of_decoding(&rt, rt.alloc());
+    let are_late = last.map(|(read, write)| read > 10 && write > 10);
+    assert_eq!(rt; are_late, Ok(true));
 }

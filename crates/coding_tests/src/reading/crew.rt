@@ -9,8 +9,6 @@ use dst_streams::{HonestSource, MemorySink};
 use example_files::{SILENT, chunk, coded, frame, odd_plain, one_frame, two_frames, with_bytes};
 use frame_crew::OpenGate;
 use std::alloc::{AllocError, Global};
-use std::process::Abort;
-use std::test::Fail;
 use std::thread::Threads;
 
 // A coded file of so many frames, each the same sound as it is.
@@ -23,71 +21,85 @@ fn frames_alike(alloc: Global, count: u32) -> Result<Vec<u8>, AllocError> {
     coded(alloc, count, &[&frames], &[])
 }
 
-// Two frames for each worker are decoded, and checked: each passes the gate, and as many as workers are there at once.
-fn all_work(
-    rt: &(impl Abort + Threads + Sync),
+// What decoding and checking answer, each with how often its gate is passed, and by how many at once.
+type Worked = (
+    Result<Decoded, DecodeFault>,
+    (u64, u64),
+    Result<Checked, CheckFault>,
+    (u64, u64),
+);
+
+// A file is decoded and checked by so many workers.
+fn work<R: Threads + Sync>(
+    rt: &R,
     alloc: Global,
+    file: &[u8],
+    sink: &mut MemorySink<'_>,
     workers: u32,
-) -> Result<(), AllocError>
+) -> Worked
     requires { (0 < workers) × (workers ≤ 16) }
+{
+    let mut source = HonestSource::new(file);
+    let gate = Holding::new(workers);
+    let decoded = decode_file(rt, alloc, &mut source, sink, workers, &gate);
+    let decoding = gate.seen();
+    let gate = Holding::new(workers);
+    let checked = check_file(rt, alloc, &mut source, workers, &gate);
+    (decoded, decoding, checked, gate.seen())
+}
+
+// A file of two frames for each worker.
+fn all_work<R: Threads + Sync>(rt: &R, alloc: Global, workers: u32) -> Result<Worked, AllocError>
+    requires { (0 < workers) × (workers ≤ 16) }
+{
+    let file = frames_alike(alloc, 2 * workers)?;
+    let mut sink = MemorySink::new(alloc, 200_000, &[])?;
+    Ok(work(rt, alloc, &file, &mut sink, workers))
+}
+
+// Each passes the gate, and as many as workers are there at once.
+fn all_worked(workers: u32) -> Result<Worked, AllocError>
+    requires { workers ≤ 16 }
 {
     let frames = 2 * workers;
     let all = (u64::from(frames), u64::from(workers));
-    let file = frames_alike(alloc, frames)?;
-    let mut source = HonestSource::new(&file);
-    let mut sink = MemorySink::new(alloc, 200_000, &[])?;
-    let gate = Holding::new(workers);
-    let decoded = decode_file(rt, alloc, &mut source, &mut sink, workers, &gate);
     let done = Decoded {
         frames,
         bytes: 4704 * u64::from(frames),
     };
-    assert_eq!(rt; decoded, Ok(done), "{workers} workers");
-    assert_eq!(rt; gate.seen(), all, "{workers} workers decode");
-    let gate = Holding::new(workers);
-    let checked = check_file(rt, alloc, &mut source, workers, &gate);
     let sound = Checked { frames, unread: 0 };
-    assert_eq!(rt; checked, Ok(sound), "{workers} workers");
-    assert_eq!(rt; gate.seen(), all, "{workers} workers check");
-    Ok(())
+    Ok((Ok(done), all, Ok(sound), all))
 }
 
 #[test]
-fn as_many_frames_as_workers_are_worked_at_once(rt: HostRuntime) -> Result<(), Fail> {
+fn as_many_frames_as_workers_are_worked_at_once(rt: HostRuntime) {
     let alloc = rt.alloc();
-    all_work(&rt, alloc, 2)?;
-    all_work(&rt, alloc, 3)?;
-    all_work(&rt, alloc, 4)?;
-    all_work(&rt, alloc, 8)?;
-    all_work(&rt, alloc, 16)?;
-    Ok(())
+    for workers in [2, 3, 4, 8, 16] {
+        assert_eq!(rt; all_work(&rt, alloc, workers), all_worked(workers));
+    }
 }
 
-#[test]
-fn two_frames_are_decoded_and_checked_at_once(rt: HostRuntime) -> Result<(), Fail> {
-    let alloc = rt.alloc();
+// A file of two frames, and whether the plain file is written.
+fn two_work<R: Threads + Sync>(rt: &R, alloc: Global) -> Result<(Worked, bool), AllocError> {
     let file = two_frames(alloc)?;
     let whole = odd_plain(alloc)?;
-    let gate = Holding::new(2);
-    let mut source = HonestSource::new(&file);
     let mut sink = MemorySink::new(alloc, 10_000, &[])?;
-    let decoded = decode_file(&rt, alloc, &mut source, &mut sink, 2, &gate);
+    let worked = work(rt, alloc, &file, &mut sink, 2);
+    Ok((worked, sink.written() == whole.as_slice()))
+}
+
+#[test]
+fn two_frames_are_decoded_and_checked_at_once(rt: HostRuntime) {
     let done = Decoded {
         frames: 2,
         bytes: 4705,
     };
-    assert_eq!(rt; decoded, Ok(done));
-    assert!(rt; sink.written() == whole.as_slice());
-    assert_eq!(rt; gate.seen(), (2, 2));
-    let gate = Holding::new(2);
-    let checked = check_file(&rt, alloc, &mut source, 2, &gate);
     let sound = Checked {
         frames: 2,
         unread: 0,
     };
-    assert_eq!(rt; checked, Ok(sound));
-    assert_eq!(rt; gate.seen(), (2, 2));
-    Ok(())
+    let worked = (Ok(done), (2, 2), Ok(sound), (2, 2));
+    assert_eq!(rt; two_work(&rt, rt.alloc()), Ok((worked, true)));
 }
 
 const STUFFING: FrameFault = FrameFault {
@@ -95,45 +107,73 @@ const STUFFING: FrameFault = FrameFault {
     bit: 2,
 };
 
-#[test]
-fn the_earlier_of_two_refused_frames_is_told(rt: HostRuntime) -> Result<(), Fail> {
-    let alloc = rt.alloc();
+// What decoding and checking answer, how long the plain file is, and how much of it is written, none where what is written is other than its
+// front.
+type Refused = (
+    Result<Decoded, DecodeFault>,
+    Result<Checked, CheckFault>,
+    usize,
+    Option<usize>,
+);
+
+// Of a file of two frames that begin with these bytes.
+fn refused<R: Threads + Sync>(
+    rt: &R,
+    alloc: Global,
+    first: &[u8],
+    second: &[u8],
+) -> Result<Refused, AllocError> {
     let file = two_frames(alloc)?;
     let whole = odd_plain(alloc)?;
-    assert_eq!(rt; whole.len(), 4832);
+    let file = with_bytes(alloc, &file, 152, first)?;
+    let file = with_bytes(alloc, &file, 4870, second)?;
+    let mut source = HonestSource::new(&file);
+    let mut sink = MemorySink::new(alloc, 10_000, &[])?;
+    let decoded = decode_file(rt, alloc, &mut source, &mut sink, 2, &OpenGate);
+    let written = sink.written();
+    let front = whole.starts_with(written).then_some(written.len());
+    let checked = check_file(rt, alloc, &mut source, 2, &OpenGate);
+    Ok((decoded, checked, whole.len(), front))
+}
+
+#[test]
+fn the_earlier_of_two_refused_frames_is_told(rt: HostRuntime) {
     // The first bytes of each frame, how much is written, and the frame that is told.
-    let cases: [(&[u8], &[u8], usize, u32); 2] = [
+    const CASES: [(&[u8], &[u8], usize, u32); 2] = [
         (b"\x01", b"\xfc\0\0\x05\xff\xfc", 126, 0),
         (b"\0", b"\x01", 4830, 1),
     ];
-    for (first, second, written, frame) in &cases {
-        let file = with_bytes(alloc, &file, 152, first)?;
-        let file = with_bytes(alloc, &file, 4870, second)?;
-        let mut source = HonestSource::new(&file);
-        let mut sink = MemorySink::new(alloc, 10_000, &[])?;
-        let decoded = decode_file(&rt, alloc, &mut source, &mut sink, 2, &OpenGate);
-        let refused = DecodeFault::Frame {
-            frame: *frame,
-            fault: STUFFING,
-        };
-        assert_eq!(rt; decoded, Err(refused));
-        let written = (*written).min(whole.len());
-        assert!(rt; sink.written() == &whole[..written], "frame {frame}");
-        let refused = CheckFault::Frame {
-            frame: *frame,
-            fault: STUFFING,
-        };
-        let checked = check_file(&rt, alloc, &mut source, 2, &OpenGate);
-        assert_eq!(rt; checked, Err(refused));
+    for &(first, second, written, frame) in &CASES {
+        let fault = STUFFING;
+        let decoded = Err(DecodeFault::Frame { frame, fault });
+        let checked = Err(CheckFault::Frame { frame, fault });
+        assert_eq!(rt;
+            refused(&rt, rt.alloc(), first, second),
+            Ok((decoded, checked, 4832, Some(written)))
+        );
     }
-    Ok(())
 }
 
-fn check<R: Threads + Sync>(rt: &R, alloc: Global, file: &[u8]) -> Result<(u32, u64), CheckFault> {
+// How many frames a file has and how many bytes of them are unread, or why it isn't sound.
+type Sound = Result<(u32, u64), CheckFault>;
+
+fn check<R: Threads + Sync>(rt: &R, alloc: Global, file: &[u8]) -> Sound {
     let mut source = HonestSource::new(file);
     match check_file(rt, alloc, &mut source, 1, &OpenGate) {
         Ok(sound) => Ok((sound.frames, sound.unread)),
         Err(fault) => Err(fault),
+    }
+}
+
+// The same of a file that is made for it.
+fn check_made<R: Threads + Sync>(
+    rt: &R,
+    alloc: Global,
+    made: Result<Vec<u8>, AllocError>,
+) -> Sound {
+    match made {
+        Ok(file) => check(rt, alloc, &file),
+        Err(refused) => Err(CheckFault::Source(OpenFault::Memory(refused))),
     }
 }
 
@@ -144,29 +184,43 @@ fn indexed(alloc: Global, entries: &[u8]) -> Result<Vec<u8>, AllocError> {
     coded(alloc, 1, &[&frame], &index)
 }
 
+// The file of two frames whose index names another size of the second, and then another place of the first too.
+fn second_off(alloc: Global) -> Result<Vec<u8>, AllocError> {
+    with_bytes(alloc, &two_frames(alloc)?, 9607, b"\x07")
+}
+
+fn both_off(alloc: Global) -> Result<Vec<u8>, AllocError> {
+    with_bytes(alloc, &second_off(alloc)?, 9595, b"\x99")
+}
+
+fn bad(entry: u32) -> Sound {
+    Err(CheckFault::Source(OpenFault::File(FileFault::IndexBad { entry })))
+}
+
 #[test]
-fn a_file_is_checked_by_its_index_and_its_frames(rt: HostRuntime) -> Result<(), Fail> {
+fn a_file_is_checked_by_its_index_and_its_frames(rt: HostRuntime) {
     let alloc = rt.alloc();
-    let sound = [0x69u8; 4704];
-    let longer = one_frame(alloc, &[b"\0", &sound, &[1, 2, 3]])?;
-    let two = two_frames(alloc)?;
-    let second_off = with_bytes(alloc, &two, 9607, b"\x07")?;
-    let both_off = with_bytes(alloc, &second_off, 9595, b"\x99")?;
-    let right = indexed(alloc, b"\0\0\0\0\0\0\0\x98\0\0\0\x06")?;
-    let missing = indexed(alloc, b"")?;
-    let bad = |entry: u32| Err(CheckFault::Source(OpenFault::File(FileFault::IndexBad { entry })));
-    let cases: [(&[u8], Result<(u32, u64), CheckFault>); 7] = [
-        (SILENT, Ok((0, 0))),
-        (&longer, Ok((1, 3))),
-        (&two, Ok((2, 0))),
-        (&second_off, bad(1)),
-        (&both_off, bad(0)),
-        (&right, Ok((1, 0))),
-        (&missing, bad(1)),
+    let right = b"\0\0\0\0\0\0\0\x98\0\0\0\x06";
+    let longer: [&[u8]; 3] = [b"\0", &[0x69; 4704], &[1, 2, 3]];
+    let sounds = [
+        check(&rt, alloc, SILENT),
+        check_made(&rt, alloc, one_frame(alloc, &longer)),
+        check_made(&rt, alloc, two_frames(alloc)),
+        check_made(&rt, alloc, second_off(alloc)),
+        check_made(&rt, alloc, both_off(alloc)),
+        check_made(&rt, alloc, indexed(alloc, right)),
+        check_made(&rt, alloc, indexed(alloc, b"")),
     ];
-    for (file, wanted) in &cases {
-        let bytes = file.len();
-        assert_eq!(rt; check(&rt, alloc, file), *wanted, "{bytes} bytes");
-    }
-    Ok(())
+    assert_eq!(rt;
+        sounds,
+        [
+            Ok((0, 0)),
+            Ok((1, 3)),
+            Ok((2, 0)),
+            bad(1),
+            bad(0),
+            Ok((1, 0)),
+            bad(1)
+        ]
+    );
 }

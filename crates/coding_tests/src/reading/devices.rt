@@ -5,8 +5,6 @@ use dst_streams::{HonestSource, MemorySink, MemorySource, ShortFlowSink};
 use example_files::{SILENT, coded, odd_plain, two_frames};
 use frame_crew::OpenGate;
 use std::alloc::{AllocError, Global};
-use std::process::Abort;
-use std::test::Fail;
 use std::thread::Threads;
 
 // More than the calls on a device in any of these runs.
@@ -17,108 +15,172 @@ const DONE: Decoded = Decoded {
     bytes: 4705,
 };
 
-// A read that fails: a prefix of the plain file is written. The calls that fail are told.
-fn reads_fail(
-    rt: &(impl Abort + Threads + Sync),
+// What decoding answers, and how much of the plain file is written: none where what is written is other than its front.
+type Run = (Result<Decoded, DecodeFault>, Option<usize>);
+
+fn front_of(whole: &[u8], written: &[u8]) -> Option<usize> {
+    whole.starts_with(written).then_some(written.len())
+}
+
+// A run whose source fails at a call.
+fn read_fails<R: Threads + Sync>(
+    rt: &R,
     alloc: Global,
     pieces: &[usize],
     file: &[u8],
     whole: &[u8],
-    done: Decoded,
-) -> Result<u64, AllocError> {
+    call: u64,
+) -> Result<Run, AllocError> {
+    let fails = [call];
+    let mut source = MemorySource::new(file, pieces, &fails);
+    let mut sink = MemorySink::new(alloc, 10_000, &[])?;
+    let answer = decode_file(rt, alloc, &mut source, &mut sink, 1, &OpenGate);
+    Ok((answer, front_of(whole, sink.written())))
+}
+
+// A read that fails is told, and a front of the plain file is written. Of the first call where that isn't so: whether more than so many calls
+// are before it, and its run.
+fn first_read<R: Threads + Sync>(
+    rt: &R,
+    alloc: Global,
+    pieces: &[usize],
+    file: &[u8],
+    whole: &[u8],
+    before: u64,
+) -> Result<(bool, Option<Run>), AllocError> {
     for call in 0..CALLS {
-        let fails = [call];
-        let mut source = MemorySource::new(file, pieces, &fails);
-        let mut sink = MemorySink::new(alloc, 10_000, &[])?;
-        let answer = decode_file(rt, alloc, &mut source, &mut sink, 1, &OpenGate);
-        if answer.is_ok() {
-            assert_eq!(rt; answer, Ok(done));
-            assert!(rt; sink.written() == whole);
-            return Ok(call);
+        match read_fails(rt, alloc, pieces, file, whole, call)? {
+            (Err(DecodeFault::Source(OpenFault::Read)), Some(_)) => {}
+            run => return Ok((before < call, Some(run))),
         }
-        let failed = Err(DecodeFault::Source(OpenFault::Read));
-        assert_eq!(rt; answer, failed, "at call {call}");
-        assert!(rt; whole.starts_with(sink.written()), "at call {call}");
     }
-    Ok(CALLS)
+    Ok((false, None))
+}
+
+// At least one call for the size, one for each frame and one for each chunk that is looked at.
+fn first_read_of_two<R: Threads + Sync>(
+    rt: &R,
+    alloc: Global,
+) -> Result<(bool, Option<Run>), AllocError> {
+    let file = two_frames(alloc)?;
+    let whole = odd_plain(alloc)?;
+    first_read(rt, alloc, &[], &file, &whole, 8)
+}
+
+// At least one call for each of the bytes of heads and of `PROP`.
+fn first_read_of_none<R: Threads + Sync>(
+    rt: &R,
+    alloc: Global,
+) -> Result<(bool, Option<Run>), AllocError> {
+    let empty = coded(alloc, 0, &[], &[])?;
+    first_read(rt, alloc, &[1], &empty, SILENT, 100)
 }
 
 #[test]
-fn a_read_that_fails_leaves_the_front_of_the_output(rt: HostRuntime) -> Result<(), Fail> {
+fn a_read_that_fails_leaves_the_front_of_the_output(rt: HostRuntime) {
     let alloc = rt.alloc();
-    let file = two_frames(alloc)?;
-    let whole = odd_plain(alloc)?;
-    let calls = reads_fail(&rt, alloc, &[], &file, &whole, DONE)?;
-    // At least one for the size, one for each frame and one for each chunk that is looked at.
-    assert!(rt; 8 < calls && calls < CALLS, "{calls} calls");
-    let empty = coded(alloc, 0, &[], &[])?;
     let none = Decoded {
         frames: 0,
         bytes: 0,
     };
-    let calls = reads_fail(&rt, alloc, &[1], &empty, SILENT, none)?;
-    // At least one for each of the bytes of heads and of `PROP`.
-    assert!(rt; 100 < calls && calls < CALLS, "{calls} calls");
-    Ok(())
+    assert_eq!(rt;
+        (
+            first_read_of_two(&rt, alloc),
+            first_read_of_none(&rt, alloc)
+        ),
+        (
+            Ok((true, Some((Ok(DONE), Some(4832))))),
+            Ok((true, Some((Ok(none), Some(126)))))
+        )
+    );
 }
 
-#[test]
-fn a_write_that_fails_leaves_the_front_of_the_output(rt: HostRuntime) -> Result<(), Fail> {
-    let alloc = rt.alloc();
+// A run whose sink fails at a call.
+fn write_fails<R: Threads + Sync>(
+    rt: &R,
+    alloc: Global,
+    file: &[u8],
+    whole: &[u8],
+    call: u64,
+) -> Result<Run, AllocError> {
+    let fails = [call];
+    let mut source = HonestSource::new(file);
+    let mut sink = MemorySink::new(alloc, 10_000, &fails)?;
+    let answer = decode_file(rt, alloc, &mut source, &mut sink, 1, &OpenGate);
+    Ok((answer, front_of(whole, sink.written())))
+}
+
+// A write that fails is told, and a front of the plain file is written. Of the first call where that isn't so: whether more than four calls are
+// before it, how many of them leave the whole file written, and its run.
+fn first_write<R: Threads + Sync>(
+    rt: &R,
+    alloc: Global,
+) -> Result<(bool, u64, Option<Run>), AllocError> {
     let file = two_frames(alloc)?;
     let whole = odd_plain(alloc)?;
-    let mut ended = CALLS;
     let mut unsettled = CALLS;
     for call in 0..CALLS {
-        let fails = [call];
-        let mut source = HonestSource::new(&file);
-        let mut sink = MemorySink::new(alloc, 10_000, &fails)?;
-        let answer = decode_file(&rt, alloc, &mut source, &mut sink, 1, &OpenGate);
-        if answer.is_ok() {
-            assert!(rt; sink.written() == whole.as_slice());
-            ended = call;
-            break;
-        }
-        assert_eq!(rt; answer, Err(DecodeFault::Write), "at call {call}");
-        assert!(rt; whole.starts_with(sink.written()), "at call {call}");
-        if sink.written().len() == whole.len() {
-            unsettled = unsettled.min(call);
+        match write_fails(rt, alloc, &file, &whole, call)? {
+            (Err(DecodeFault::Write), Some(written)) => {
+                if written == whole.len() {
+                    unsettled = unsettled.min(call);
+                }
+            }
+            run => return Ok((4 < call, call.saturating_sub(unsettled), Some(run))),
         }
     }
-    assert!(rt; 4 < ended && ended < CALLS, "{ended} calls");
-    // The last call alone comes behind the last byte: that which has the output settled.
-    assert_eq!(rt; ended.saturating_sub(unsettled), 1);
-    Ok(())
+    Ok((false, 0, None))
 }
 
-// A sink that is full behind so many bytes holds just them.
-fn fills(
-    rt: &(impl Abort + Threads + Sync),
+// The last call alone comes behind the last byte: that which has the output settled.
+#[test]
+fn a_write_that_fails_leaves_the_front_of_the_output(rt: HostRuntime) {
+    let done = Some((Ok(DONE), Some(4832)));
+    assert_eq!(rt; first_write(&rt, rt.alloc()), Ok((true, 1, done)));
+}
+
+// A run whose sink is full behind so many bytes.
+fn fills<R: Threads + Sync>(
+    rt: &R,
     alloc: Global,
     file: &[u8],
     whole: &[u8],
     prefix: usize,
-) -> Result<(), AllocError> {
+) -> Run {
     let mut source = HonestSource::new(file);
     let mut sink = ShortFlowSink::new(prefix.min(65_536));
     let answer = decode_file(rt, alloc, &mut source, &mut sink, 1, &OpenGate);
-    assert_eq!(rt; answer, Err(DecodeFault::Write), "at {prefix}");
-    assert_eq!(rt; sink.written().len(), prefix);
-    assert!(rt; whole.starts_with(sink.written()), "at {prefix}");
-    Ok(())
+    (answer, front_of(whole, sink.written()))
+}
+
+// A sink that is full behind so many bytes holds just them: the first number of which that isn't so, and its run.
+fn first_unfilled<R: Threads + Sync>(
+    rt: &R,
+    alloc: Global,
+    file: &[u8],
+    whole: &[u8],
+) -> Option<(usize, Run)> {
+    for prefix in 0..whole.len() {
+        match fills(rt, alloc, file, whole, prefix) {
+            (Err(DecodeFault::Write), Some(held)) if held == prefix => {}
+            run => return Some((prefix, run)),
+        }
+    }
+    None
+}
+
+// The same of a file without sound, and of a file of two frames.
+type Unfilled = (Option<(usize, Run)>, Option<(usize, Run)>);
+
+fn both_unfilled<R: Threads + Sync>(rt: &R, alloc: Global) -> Result<Unfilled, AllocError> {
+    let empty = coded(alloc, 0, &[], &[])?;
+    let none = first_unfilled(rt, alloc, &empty, SILENT);
+    let file = two_frames(alloc)?;
+    let whole = odd_plain(alloc)?;
+    Ok((none, first_unfilled(rt, alloc, &file, &whole)))
 }
 
 #[test]
-fn a_full_sink_holds_what_fits(rt: HostRuntime) -> Result<(), Fail> {
-    let alloc = rt.alloc();
-    let empty = coded(alloc, 0, &[], &[])?;
-    for prefix in 0..SILENT.len() {
-        fills(&rt, alloc, &empty, SILENT, prefix)?;
-    }
-    let file = two_frames(alloc)?;
-    let whole = odd_plain(alloc)?;
-    for prefix in 0..whole.len() {
-        fills(&rt, alloc, &file, &whole, prefix)?;
-    }
-    Ok(())
+fn a_full_sink_holds_what_fits(rt: HostRuntime) {
+    assert_eq!(rt; both_unfilled(&rt, rt.alloc()), Ok((None, None)));
 }
