@@ -1,30 +1,29 @@
 // Codes worked out by hand, and rows that are found again.
 use dst_num::{Channels, FilterTable};
 use frame_predictions::Predictions;
-use std::alloc::Global;
-use std::test::Fail;
+use std::alloc::{AllocError, Global};
 
 // Two channels, of which the first has samples 1 alone, the second samples 0 alone.
-fn begun(alloc: Global) -> Result<Predictions, Fail> {
-    let stereo = Channels::new(2).ok_or("two channels")?;
+fn begun(alloc: Global) -> Result<Option<Predictions>, AllocError> {
+    let Some(stereo) = Channels::new(2) else {
+        return Ok(None);
+    };
     let mut sound = [0x00; 9408];
     for byte in 0..4704usize {
         sound[2 * byte] = 0xff;
     }
     let mut predictions = Predictions::new(alloc, stereo)?;
     predictions.begin(&sound);
-    Ok(predictions)
+    Ok(Some(predictions))
 }
 
 // The number of a row, and its first codes.
-fn row_of(
-    predictions: &mut Predictions,
-    channel: usize,
-    coefs: &[i16],
-) -> Result<(usize, [u8; 4]), Fail> {
-    let filter = FilterTable::new(coefs).ok_or("no table")?;
+type Row = Option<(usize, [u8; 4])>;
+
+fn row_of(predictions: &mut Predictions, channel: usize, coefs: &[i16]) -> Row {
+    let filter = FilterTable::new(coefs)?;
     if channel >= predictions.channels().count() {
-        return Err("no such channel")?;
+        return None;
     }
     let row = predictions.row(channel, &filter);
     let codes = predictions.codes(row);
@@ -32,52 +31,96 @@ fn row_of(
     for (code, place) in codes.iter().zip(first.iter_mut()) {
         *place = *code;
     }
-    Ok((row, first))
+    Some((row, first))
 }
 
-#[test]
-fn codes_tell_place_and_guess(rt: HostRuntime) -> Result<(), Fail> {
-    let mut predictions = begun(rt.alloc())?;
-    assert_eq!(rt; predictions.channels().count(), 2);
-    // the coefficients, the channel, the codes of its first four samples
-    const CASES: [(&[i16], usize, [u8; 4]); 6] = [
-        (&[0], 0, [0, 0, 0, 0]),
-        (&[0], 1, [64, 64, 64, 64]),
-        (&[128], 0, [80, 16, 16, 16]),
-        (&[128], 1, [16, 16, 16, 16]),
-        // 0 before 1: -100 and 200, and then both together
-        (&[100, 200], 0, [12, 76, 37, 37]),
-        (&[-256, -256, -256], 1, [96, 96, 127, 127]),
+// The first codes of a row.
+fn codes_of(predictions: &mut Predictions, channel: usize, coefs: &[i16]) -> Option<[u8; 4]> {
+    let (_, codes) = row_of(predictions, channel, coefs)?;
+    Some(codes)
+}
+
+// The number of a row.
+fn place_of(predictions: &mut Predictions, channel: usize, coef: i16) -> Option<usize> {
+    let (row, _) = row_of(predictions, channel, &[coef])?;
+    Some(row)
+}
+
+// How many channels there are, and of rows the codes of the first four samples.
+type Codes = (usize, [Option<[u8; 4]>; 6]);
+
+fn all_codes(alloc: Global) -> Result<Option<Codes>, AllocError> {
+    let Some(mut predictions) = begun(alloc)? else {
+        return Ok(None);
+    };
+    let count = predictions.channels().count();
+    let codes = [
+        codes_of(&mut predictions, 0, &[0]),
+        codes_of(&mut predictions, 1, &[0]),
+        codes_of(&mut predictions, 0, &[128]),
+        codes_of(&mut predictions, 1, &[128]),
+        codes_of(&mut predictions, 0, &[100, 200]),
+        codes_of(&mut predictions, 1, &[-256, -256, -256]),
     ];
-    for &(coefs, channel, expected) in &CASES {
-        let (_, codes) = row_of(&mut predictions, channel, coefs)?;
-        assert_eq!(rt; codes, expected, "{coefs:?} and channel {channel}");
-    }
-    Ok(())
+    Ok(Some((count, codes)))
 }
 
 #[test]
-fn rows_are_found_again(rt: HostRuntime) -> Result<(), Fail> {
-    let mut predictions = begun(rt.alloc())?;
-    let mut rows = [0; 5];
-    for (row, (channel, coef)) in rows
-        .iter_mut()
-        .zip([(0, 1), (0, 2), (1, 1), (0, 1), (1, 1)])
-    {
-        *row = row_of(&mut predictions, channel, &[coef])?.0;
-    }
+fn codes_tell_place_and_guess(rt: HostRuntime) {
+    let expected = [
+        [0, 0, 0, 0],
+        [64, 64, 64, 64],
+        [80, 16, 16, 16],
+        [16, 16, 16, 16],
+        // 0 before 1: -100 and 200, and then both together
+        [12, 76, 37, 37],
+        [96, 96, 127, 127],
+    ];
+    assert_eq!(rt; all_codes(rt.alloc()), Ok(Some((2, expected.map(Some)))));
+}
+
+// Rows of which some are asked for again, a row after all were released, fifteen others, another anew, and the first byte of the sound.
+type Rows = (
+    [Option<usize>; 5],
+    Row,
+    [Option<usize>; 15],
+    Row,
+    Option<u8>,
+);
+
+fn all_rows(alloc: Global) -> Result<Option<Rows>, AllocError> {
+    let Some(mut predictions) = begun(alloc)? else {
+        return Ok(None);
+    };
+    let rows = [
+        place_of(&mut predictions, 0, 1),
+        place_of(&mut predictions, 0, 2),
+        place_of(&mut predictions, 1, 1),
+        place_of(&mut predictions, 0, 1),
+        place_of(&mut predictions, 1, 1),
+    ];
     predictions.release();
-    let released = row_of(&mut predictions, 1, &[1])?;
-    assert_eq!(rt; (rows, released), ([0, 1, 2, 0, 2], (0, [0; 4])));
-    // sixteen rows, and then the first one anew
+    let released = row_of(&mut predictions, 1, &[1]);
+    let mut others = [None; 15];
     for place in 0..15usize {
-        let (row, _) = row_of(&mut predictions, 0, &[place as i16])?;
-        assert_eq!(rt; row, place + 1);
+        others[place] = place_of(&mut predictions, 0, place as i16);
     }
-    let anew = row_of(&mut predictions, 1, &[8])?;
-    assert_eq!(rt;
-        (anew, predictions.sound().first()),
-        ((0, [1; 4]), Some(&0xff))
+    let anew = row_of(&mut predictions, 1, &[8]);
+    let first = predictions.sound().first().copied();
+    Ok(Some((rows, released, others, anew, first)))
+}
+
+#[test]
+fn rows_are_found_again(rt: HostRuntime) {
+    let rows = [0, 1, 2, 0, 2].map(Some);
+    // sixteen rows, and then the first one anew
+    let others = [1, 2, 3, 4, 5, 6, 7, 8, 9, 10, 11, 12, 13, 14, 15].map(Some);
+    let wanted = (
+        rows,
+        Some((0, [0; 4])),
+        others,
+        Some((0, [1; 4])),
+        Some(0xff),
     );
-    Ok(())
+    assert_eq!(rt; all_rows(rt.alloc()), Ok(Some(wanted)));
 }
