@@ -47,6 +47,72 @@ pub fn run_words<E: Threads + Sync, S: Source, K: Sink, R: Sink>(
     dst_run(rt, alloc, words, source, sink, report)
 }
 
+/// What a run leaves.
+#[derive(Drop)]
+pub struct Left<'a> {
+    pub status: u8,
+    pub sink: MemorySink<'a>,
+    pub report: MemorySink<'a>,
+}
+
+/// What is told of a run: its status, whether what is written is a front of the bytes that are wanted, whether it is all of them, and
+/// whether the report is the lines that are wanted.
+#[derive(Clone, Copy, Debug, PartialEq, Eq)]
+pub struct Told {
+    pub status: u8,
+    pub is_front: bool,
+    pub is_whole: bool,
+    pub is_reported: bool,
+}
+
+impl<'a> Left<'a> {
+    /// What is told of it beside these bytes and lines.
+    pub fn told(&self, wanted: &[u8], lines: &str) -> Told {
+        let written = self.sink.written();
+        Told {
+            status: self.status,
+            is_front: wanted.starts_with(written),
+            is_whole: written == wanted,
+            is_reported: self.report.written() == lines.as_bytes(),
+        }
+    }
+}
+
+/// Runs words over a source, into a sink of so many bytes and a report of 200, of which these calls fail: what is left.
+pub fn run_over<'a, E: Threads + Sync, S: Source>(
+    rt: &E,
+    alloc: Global,
+    words: &[String],
+    source: &mut S,
+    room: usize,
+    writes: &'a [u64],
+    reports: &'a [u64],
+) -> Result<Left<'a>, AllocError> {
+    let mut sink = MemorySink::new(alloc, room, writes)?;
+    let mut report = MemorySink::new(alloc, 200, reports)?;
+    let status = run_words(rt, alloc, words, source, &mut sink, &mut report);
+    Ok(Left {
+        status,
+        sink,
+        report,
+    })
+}
+
+// What is told of a run over a file by reads of these sizes.
+fn told_in_pieces(
+    rt: &(impl Threads + Sync),
+    alloc: Global,
+    words: &[String],
+    file: &[u8],
+    pieces: &[usize],
+    written: &[u8],
+    lines: &str,
+) -> Result<Told, AllocError> {
+    let mut source = MemorySource::new(file, pieces, &[]);
+    let left = run_over(rt, alloc, words, &mut source, 10_000, &[], &[])?;
+    Ok(left.told(written, lines))
+}
+
 /// Runs words over a file by whole reads and by reads of one byte, into a sink of 10,000 bytes: the first part of either run that
 /// isn't as expected, if there is one.
 pub fn difference(
@@ -61,17 +127,14 @@ pub fn difference(
     let words = split(alloc, text)?;
     let pieces: [&[usize]; 2] = [&[], &[1]];
     for pieces in &pieces {
-        let mut source = MemorySource::new(file, pieces, &[]);
-        let mut sink = MemorySink::new(alloc, 10_000, &[])?;
-        let mut report = MemorySink::new(alloc, 200, &[])?;
-        let answer = run_words(rt, alloc, &words, &mut source, &mut sink, &mut report);
-        if report.written() != lines.as_bytes() {
+        let told = told_in_pieces(rt, alloc, &words, file, pieces, written, lines)?;
+        if !told.is_reported {
             return Ok(Some(Part::Report));
         }
-        if answer != status {
+        if told.status != status {
             return Ok(Some(Part::Status));
         }
-        if sink.written() != written {
+        if !told.is_whole {
             return Ok(Some(Part::Output));
         }
     }

@@ -1,160 +1,201 @@
 // The commands that read besides decoding: a frame, a check, a summary, a frame's header, the places of frames.
-use super::answers;
-use crate::{run_words, split};
-use dst_streams::{HonestSource, MemorySink, MemorySource};
-use example_files::{
-    EXAMPLE, SILENT, coded, counting, frame, joined, odd_plain, one_frame, two_frames, with_bytes,
+use super::files::Made;
+use super::files::Made::{
+    Changed, Filled, Frame, Known, LongerFrame, NoFrames, OddPlain, SecondFrame, ThreeFrames,
+    ThreeMoved, TwoFrames,
 };
+use super::{NOTHING, Row, all_give};
+use crate::{run_over, split};
+use dst_streams::{HonestSource, MemorySource};
+use example_files::{EXAMPLE, SILENT, counting, two_frames};
 use std::alloc::{AllocError, Global};
 use std::test::Fail;
+use std::thread::Threads;
 
-// Three frames of bytes 69, and an index of them.
-fn three_frames(alloc: Global) -> Result<Vec<u8>, AllocError> {
-    let sound = vec![in alloc; 0x69; 4704]?;
-    let one = frame(alloc, &[b"\0", &sound])?;
-    let behind = b"DSTI\0\0\0\0\0\0\0\x24\
-\0\0\0\0\0\0\0\x98\0\0\x12\x61\
-\0\0\0\0\0\0\x13\x06\0\0\x12\x61\
-\0\0\0\0\0\0\x25\x74\0\0\x12\x61";
-    coded(alloc, 3, &[&one, &one, &one], behind)
-}
+// A file of one frame whose code begins with a bit 1.
+const FIRST_BIT_1: Made = Frame(b"\xfc\0\0\x05\xff\xfc", 0, 0, b"");
 
 #[test]
-fn a_frame_is_written_by_the_walk_and_by_the_index(rt: HostRuntime) -> Result<(), Fail> {
-    let alloc = rt.alloc();
-    let two = two_frames(alloc)?;
-    let three = three_frames(alloc)?;
-    // The second frame of the plain file of 4,705 counting bytes: byte 4,704 is 186.
-    let rest = vec![in alloc; 0x69; 4703]?;
-    let second = joined(alloc, &[b"\xba", &rest])?;
-    let ones = vec![in alloc; 0xff; 4704]?;
-    let line = "frame 1, 4704 bytes\n";
-    answers(&rt, alloc, "frame a b 1", &two, 0, &second, line)?;
-    answers(&rt, alloc, "frame a b 1 --by-index", &two, 0, &second, line)?;
-    let line = "frame 0, 4704 bytes\n";
-    answers(&rt, alloc, "frame a b 0", EXAMPLE, 0, &ones, line)?;
-    // The last entry of the index, which stands behind 14,280 bytes, by one byte further.
-    let moved = with_bytes(alloc, &three, three.len().saturating_sub(5), b"\x75")?;
-    let cases: [(&str, &[u8], &str); 7] = [
-        ("frame a b 3", &three, "22 Range 3 3"),
-        ("frame a b 3 --by-index", &three, "22 Range 3 3"),
-        ("frame a b 2 --by-index", &moved, "24 IndexBad 2"),
-        ("check a", &moved, "24 IndexBad 2"),
-        ("frame a b 0 --by-index", EXAMPLE, "23 IndexMissing"),
-        ("frame a b 0", SILENT, "27 NotCoded"),
-        ("frame a b 0 --by-index", SILENT, "27 NotCoded"),
+fn a_frame_is_written_by_the_walk_and_by_the_index(rt: HostRuntime) {
+    const FIRST: &str = "frame 0, 4704 bytes\n";
+    const SECOND: &str = "frame 1, 4704 bytes\n";
+    const THIRD: &str = "frame 2, 4704 bytes\n";
+    const RANGE: &str = "file refused: 22 Range 3 3\n";
+    const BAD: &str = "file refused: 24 IndexBad 2\n";
+    const MISSING: &str = "file refused: 23 IndexMissing\n";
+    const NOT_CODED: &str = "file refused: 27 NotCoded\n";
+    const ROWS: [Row; 11] = [
+        ("frame a b 1", TwoFrames, 0, SecondFrame, SECOND),
+        ("frame a b 1 --by-index", TwoFrames, 0, SecondFrame, SECOND),
+        ("frame a b 0", Known(EXAMPLE), 0, Filled(0xff, 4704), FIRST),
+        ("frame a b 3", ThreeFrames, 5, NOTHING, RANGE),
+        ("frame a b 3 --by-index", ThreeFrames, 5, NOTHING, RANGE),
+        ("frame a b 2 --by-index", ThreeMoved, 5, NOTHING, BAD),
+        ("check a", ThreeMoved, 5, NOTHING, BAD),
+        (
+            "frame a b 0 --by-index",
+            Known(EXAMPLE),
+            5,
+            NOTHING,
+            MISSING,
+        ),
+        ("frame a b 0", Known(SILENT), 5, NOTHING, NOT_CODED),
+        (
+            "frame a b 0 --by-index",
+            Known(SILENT),
+            5,
+            NOTHING,
+            NOT_CODED,
+        ),
+        ("frame a b 2", ThreeMoved, 0, Filled(0x69, 4704), THIRD),
     ];
-    for (words, file, fault) in &cases {
-        let line = format!(in alloc; "file refused: {fault}\n")?;
-        answers(&rt, alloc, words, file, 5, &[], &line)?;
-    }
-    let sound = vec![in alloc; 0x69; 4704]?;
-    let line = "frame 2, 4704 bytes\n";
-    answers(&rt, alloc, "frame a b 2", &moved, 0, &sound, line)?;
-    Ok(())
+    all_give(&rt, rt.alloc(), &ROWS);
 }
 
 #[test]
-fn a_file_is_checked_whole(rt: HostRuntime) -> Result<(), Fail> {
-    let alloc = rt.alloc();
-    let two = two_frames(alloc)?;
-    let line = "sound, 2 frames, 0 unread bytes\n";
-    answers(&rt, alloc, "check a", &two, 0, &[], line)?;
-    answers(&rt, alloc, "check a --workers 2", &two, 0, &[], line)?;
-    answers(&rt, alloc, "check a", &odd_plain(alloc)?, 0, &[], line)?;
-    let refused = one_frame(alloc, &[b"\xfc\0\0\x05\xff\xfc"])?;
-    let line = "frame 0 refused: 9 FirstCodeBit at bit 45\n";
-    answers(&rt, alloc, "check a", &refused, 6, &[], line)?;
-    answers(&rt, alloc, "frame a b 0", &refused, 6, &[], line)?;
-    let told = with_bytes(alloc, EXAMPLE, 134, b"\0\0\0\x02")?;
-    let line = "file refused: 16 CountDiffers 2 1\n";
-    answers(&rt, alloc, "check a", &told, 5, &[], line)?;
-    // A plain frame with three bytes behind its sound.
-    let sound = counting(alloc, 4704)?;
-    let longer = one_frame(alloc, &[b"\0", &sound, &[1, 2, 3]])?;
-    let line = "sound, 1 frames, 3 unread bytes\n";
-    answers(&rt, alloc, "check a", &longer, 0, &[], line)?;
-    Ok(())
+fn a_file_is_checked_whole(rt: HostRuntime) {
+    const SOUND: &str = "sound, 2 frames, 0 unread bytes\n";
+    const CODE_BIT: &str = "frame 0 refused: 9 FirstCodeBit at bit 45\n";
+    const DIFFERS: &str = "file refused: 16 CountDiffers 2 1\n";
+    const ROWS: [Row; 7] = [
+        ("check a", TwoFrames, 0, NOTHING, SOUND),
+        ("check a --workers 2", TwoFrames, 0, NOTHING, SOUND),
+        ("check a", OddPlain, 0, NOTHING, SOUND),
+        ("check a", FIRST_BIT_1, 6, NOTHING, CODE_BIT),
+        ("frame a b 0", FIRST_BIT_1, 6, NOTHING, CODE_BIT),
+        (
+            "check a",
+            Changed(EXAMPLE, 134, b"\0\0\0\x02"),
+            5,
+            NOTHING,
+            DIFFERS,
+        ),
+        (
+            "check a",
+            LongerFrame,
+            0,
+            NOTHING,
+            "sound, 1 frames, 3 unread bytes\n",
+        ),
+    ];
+    all_give(&rt, rt.alloc(), &ROWS);
 }
 
 #[test]
-fn files_and_frames_are_shown(rt: HostRuntime) -> Result<(), Fail> {
-    let alloc = rt.alloc();
-    let two = two_frames(alloc)?;
-    let plain_file = odd_plain(alloc)?;
-    let refused = one_frame(alloc, &[b"\xfc\0\0\x05\xff\xfc"])?;
-    let head = "frame 0 coded length 6 filters 1 tables 1 code 45\n";
-    let of_two =
+fn files_and_frames_are_shown(rt: HostRuntime) {
+    const HEAD: &str = "frame 0 coded length 6 filters 1 tables 1 code 45\n";
+    const OF_TWO: &str =
         "kind coded\nchannels 1\nsound 4705 bytes\nframes 2\nchunks 5\nstored 9410 bytes\nindex yes\nkept yes\n";
-    let of_one =
+    const OF_ONE: &str =
         "kind coded\nchannels 1\nsound 4704 bytes\nframes 1\nchunks 3\nstored 6 bytes\nindex no\nkept no\n";
-    let of_plain = "kind plain\nchannels 1\nsound 4705 bytes\nframes 2\nchunks 3\n";
-    let cases: [(&str, &[u8], &str); 8] = [
-        ("show a", &two, of_two),
-        ("show a", EXAMPLE, of_one),
-        ("show a", &plain_file, of_plain),
-        ("show a 0", &two, "frame 0 plain length 4705\n"),
-        ("show a 0", EXAMPLE, head),
-        ("show a 0", &refused, head),
-        ("index a", &two, "0 152 4705\n1 4870 4705\n"),
-        ("index a", EXAMPLE, "0 152 6\n"),
+    const OF_PLAIN: &str = "kind plain\nchannels 1\nsound 4705 bytes\nframes 2\nchunks 3\n";
+    const SEGMENTS: &str = "frame 0 refused: 3 MultiSegment at bit 3\n";
+    const ROWS: [Row; 12] = [
+        ("show a", TwoFrames, 0, NOTHING, OF_TWO),
+        ("show a", Known(EXAMPLE), 0, NOTHING, OF_ONE),
+        ("show a", OddPlain, 0, NOTHING, OF_PLAIN),
+        (
+            "show a 0",
+            TwoFrames,
+            0,
+            NOTHING,
+            "frame 0 plain length 4705\n",
+        ),
+        ("show a 0", Known(EXAMPLE), 0, NOTHING, HEAD),
+        ("show a 0", FIRST_BIT_1, 0, NOTHING, HEAD),
+        (
+            "index a",
+            TwoFrames,
+            0,
+            NOTHING,
+            "0 152 4705\n1 4870 4705\n",
+        ),
+        ("index a", Known(EXAMPLE), 0, NOTHING, "0 152 6\n"),
+        ("index a", NoFrames, 0, NOTHING, ""),
+        ("show a 0", Frame(b"\xe0", 0, 0, b""), 6, NOTHING, SEGMENTS),
+        (
+            "show a 2",
+            TwoFrames,
+            5,
+            NOTHING,
+            "file refused: 22 Range 2 2\n",
+        ),
+        (
+            "show a 0",
+            Known(SILENT),
+            5,
+            NOTHING,
+            "file refused: 27 NotCoded\n",
+        ),
     ];
-    for (words, file, lines) in &cases {
-        answers(&rt, alloc, words, file, 0, &[], lines)?;
-    }
-    let none = coded(alloc, 0, &[], &[])?;
-    answers(&rt, alloc, "index a", &none, 0, &[], "")?;
-    let short = one_frame(alloc, &[b"\xe0"])?;
-    let line = "frame 0 refused: 3 MultiSegment at bit 3\n";
-    answers(&rt, alloc, "show a 0", &short, 6, &[], line)?;
-    let line = "file refused: 22 Range 2 2\n";
-    answers(&rt, alloc, "show a 2", &two, 5, &[], line)?;
-    let line = "file refused: 27 NotCoded\n";
-    answers(&rt, alloc, "show a 0", SILENT, 5, &[], line)?;
-    Ok(())
+    all_give(&rt, rt.alloc(), &ROWS);
+}
+
+// The status over the coded file of two frames, where the sink and the report fail at these calls, and whether what is written is a
+// front of the first frame's sound.
+fn status_and_front(
+    rt: &(impl Threads + Sync),
+    alloc: Global,
+    text: &str,
+    writes: &[u64],
+    reports: &[u64],
+) -> Result<(u8, bool), AllocError> {
+    let file = two_frames(alloc)?;
+    let sound = counting(alloc, 4704)?;
+    let words = split(alloc, text)?;
+    let mut source = HonestSource::new(&file);
+    let left = run_over(rt, alloc, &words, &mut source, 10_000, writes, reports)?;
+    Ok((left.status, left.told(&sound, "").is_front))
 }
 
 #[test]
 fn a_report_that_fails_ends_the_command(rt: HostRuntime) -> Result<(), Fail> {
-    let alloc = rt.alloc();
-    let file = two_frames(alloc)?;
     for text in &["show a", "show a 0", "index a", "check a", "frame a b 0"] {
-        let words = split(alloc, text)?;
-        let mut source = HonestSource::new(&file);
-        let mut sink = MemorySink::new(alloc, 10_000, &[])?;
-        let mut report = MemorySink::new(alloc, 200, &[0])?;
-        let status = run_words(&rt, alloc, &words, &mut source, &mut sink, &mut report);
+        let (status, _) = status_and_front(&rt, rt.alloc(), text, &[], &[0])?;
         assert_eq!(rt; status, 7, "{text}");
     }
     Ok(())
 }
 
-#[test]
-fn a_device_that_fails_leaves_no_frame_or_its_front(rt: HostRuntime) -> Result<(), Fail> {
-    let alloc = rt.alloc();
+// What a run over that file leaves whose source fails at this call: its status, and whether nothing is written, and the sound of the
+// first frame.
+fn read_failing(
+    rt: &(impl Threads + Sync),
+    alloc: Global,
+    text: &str,
+    call: u64,
+) -> Result<(u8, bool, bool), AllocError> {
     let file = two_frames(alloc)?;
     let sound = counting(alloc, 4704)?;
-    for text in &["frame a b 0", "frame a b 0 --by-index"] {
-        let words = split(alloc, text)?;
-        for call in 0..100u64 {
-            let fails = [call];
-            let mut source = MemorySource::new(&file, &[], &fails);
-            let mut sink = MemorySink::new(alloc, 10_000, &[])?;
-            let mut report = MemorySink::new(alloc, 100, &[])?;
-            let status = run_words(&rt, alloc, &words, &mut source, &mut sink, &mut report);
-            if status == 0 {
-                assert!(rt; sink.written() == sound.as_slice());
-                break;
-            }
-            assert_eq!(rt; status, 2, "{text} at call {call}");
-            assert!(rt; sink.written().is_empty(), "{text} at call {call}");
+    let words = split(alloc, text)?;
+    let fails = [call];
+    let mut source = MemorySource::new(&file, &[], &fails);
+    let left = run_over(rt, alloc, &words, &mut source, 10_000, &[], &[])?;
+    let written = left.sink.written();
+    Ok((left.status, written.is_empty(), written == sound.as_slice()))
+}
+
+// The first call of the source with whose failing a run is neither at fault with nothing written nor done with the whole sound.
+fn first_wrong(
+    rt: &(impl Threads + Sync),
+    alloc: Global,
+    text: &str,
+) -> Result<Option<u64>, AllocError> {
+    for call in 0..100u64 {
+        match read_failing(rt, alloc, text, call)? {
+            (0, _, true) => return Ok(None),
+            (2, true, _) => {}
+            _ => return Ok(Some(call)),
         }
-        let mut source = HonestSource::new(&file);
-        let mut sink = MemorySink::new(alloc, 10_000, &[0])?;
-        let mut report = MemorySink::new(alloc, 100, &[])?;
-        let status = run_words(&rt, alloc, &words, &mut source, &mut sink, &mut report);
-        assert_eq!(rt; status, 3, "{text}");
-        assert!(rt; sound.starts_with(sink.written()), "{text}");
     }
-    Ok(())
+    Ok(None)
+}
+
+#[test]
+fn a_device_that_fails_leaves_no_frame_or_its_front(rt: HostRuntime) {
+    for text in &["frame a b 0", "frame a b 0 --by-index"] {
+        let wrong = first_wrong(&rt, rt.alloc(), text);
+        let left = status_and_front(&rt, rt.alloc(), text, &[0], &[]);
+        assert_eq!(rt; (wrong, left), (Ok(None), Ok((3, true))), "{text}");
+    }
 }
