@@ -5,7 +5,6 @@ use example_files::{coded, counting, frame};
 use frame_crew::Gate;
 use std::alloc::{AllocError, Global};
 use std::sync::atomic::{AtomicBool, AtomicU64, Ordering};
-use std::test::Fail;
 use std::thread::Threads;
 use top_call::split;
 
@@ -67,45 +66,65 @@ fn file_of(alloc: Global, count: u32) -> Result<Vec<u8>, AllocError> {
     coded(alloc, count, &frames, &[])
 }
 
+// Decodes a file by as many workers as meet: the status, and how much is written.
+fn run_with(
+    rt: &(impl Threads + Sync),
+    alloc: Global,
+    text: &str,
+    file: &[u8],
+    gate: &Meeting,
+) -> Result<(u8, usize), AllocError> {
+    let words = split(alloc, text)?;
+    let mut source = HonestSource::new(file);
+    let mut sink = MemorySink::new(alloc, 200_000, &[])?;
+    let mut report = MemorySink::new(alloc, 100, &[])?;
+    let status = dst_run_by(
+        rt,
+        alloc,
+        &words,
+        &mut source,
+        &mut sink,
+        &mut report,
+        16,
+        gate,
+    );
+    Ok((status, sink.written().len()))
+}
+
+// Of decoding twice as many frames as there are workers: the status, how much is written, whether the turns ran out, and how many
+// passes there were, how many at most at once, and how many didn't come out.
+type Passed = (u8, usize, bool, u64, u64, u64);
+
+fn met(
+    rt: &(impl Threads + Sync),
+    alloc: Global,
+    text: &str,
+    workers: u32,
+) -> Result<Passed, AllocError> {
+    let file = file_of(alloc, workers.saturating_mul(2))?;
+    let gate = Meeting::of(u64::from(workers));
+    let (status, size) = run_with(rt, alloc, text, &file, &gate)?;
+    Ok((
+        status,
+        size,
+        gate.ran_out.load(Ordering::SeqCst),
+        gate.passes.load(Ordering::SeqCst),
+        gate.most_inside.load(Ordering::SeqCst),
+        gate.inside.load(Ordering::SeqCst),
+    ))
+}
+
 #[test]
-fn as_many_frames_are_decoded_at_once_as_there_are_workers(rt: HostRuntime) -> Result<(), Fail> {
-    let alloc = rt.alloc();
-    for workers in &[2u32, 4, 16] {
-        let jobs = workers.saturating_mul(2);
-        let file = file_of(alloc, jobs)?;
-        let words = split(alloc, &format!(in alloc; "decode a b --workers {workers}")?)?;
-        let gate = Meeting::of(u64::from(*workers));
-        let mut source = HonestSource::new(&file);
-        let mut sink = MemorySink::new(alloc, 200_000, &[])?;
-        let mut report = MemorySink::new(alloc, 100, &[])?;
-        let status = dst_run_by(
-            &rt,
-            alloc,
-            &words,
-            &mut source,
-            &mut sink,
-            &mut report,
-            16,
-            &gate,
-        );
-        assert_eq!(rt; status, 0, "{workers} workers");
-        assert_eq!(rt;
-            sink.written().len(),
-            (jobs as usize).saturating_mul(4704).saturating_add(126),
-            "{workers} workers"
-        );
-        assert!(rt; !gate.ran_out.load(Ordering::SeqCst), "{workers} workers");
-        assert_eq!(rt;
-            gate.passes.load(Ordering::SeqCst),
-            u64::from(jobs),
-            "{workers} workers"
-        );
-        assert_eq!(rt;
-            gate.most_inside.load(Ordering::SeqCst),
-            u64::from(*workers),
-            "{workers} workers"
-        );
-        assert_eq!(rt; gate.inside.load(Ordering::SeqCst), 0, "{workers} workers");
+fn as_many_frames_are_decoded_at_once_as_there_are_workers(rt: HostRuntime) {
+    // Words, how many workers they ask for, how much is written, and how many frames there are.
+    const CASES: [(&str, u32, usize, u64); 3] = [
+        ("decode a b --workers 2", 2, 4 * 4704 + 126, 4),
+        ("decode a b --workers 4", 4, 8 * 4704 + 126, 8),
+        ("decode a b --workers 16", 16, 32 * 4704 + 126, 32),
+    ];
+    for &(text, workers, size, jobs) in &CASES {
+        let met = met(&rt, rt.alloc(), text, workers);
+        let wanted = (0, size, false, jobs, u64::from(workers), 0);
+        assert_eq!(rt; met, Ok(wanted), "{workers} workers");
     }
-    Ok(())
 }

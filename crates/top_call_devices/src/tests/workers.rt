@@ -1,11 +1,11 @@
 // Several workers give what one gives.
-use dst_streams::{HonestSource, MemorySink, MemorySource};
+use dst_streams::{HonestSource, MemorySource};
 use example_files::{coded, counting, frame, odd_plain, two_frames};
 use std::alloc::{AllocError, Global};
 use std::test::Fail;
 use std::thread;
 use std::thread::Threads;
-use top_call::{run_words, split};
+use top_call::{run_over, split};
 
 // A file of forty frames of bytes counting, of which frames 5 and 9 are empty.
 fn two_empty_of_forty(alloc: Global) -> Result<Vec<u8>, AllocError> {
@@ -19,46 +19,50 @@ fn two_empty_of_forty(alloc: Global) -> Result<Vec<u8>, AllocError> {
     coded(alloc, 40, &frames, &[])
 }
 
-#[test]
-fn of_forty_frames_the_first_refused_is_told(rt: HostRuntime) -> Result<(), Fail> {
-    let alloc = rt.alloc();
+// Decodes that file by these words, over a source of which these calls fail: the status, how much is written, and whether the report
+// is the line of frame 5.
+fn decoded(
+    rt: &(impl Threads + Sync),
+    alloc: Global,
+    text: &str,
+    fails: &[u64],
+) -> Result<(u8, usize, bool), AllocError> {
     let file = two_empty_of_forty(alloc)?;
-    let line = b"frame 5 refused: 1 Truncated at bit 0\n";
-    for workers in &["1", "5", "16"] {
-        let words = split(alloc, &format!(in alloc; "decode a b --workers {workers}")?)?;
-        let mut source = HonestSource::new(&file);
-        let mut sink = MemorySink::new(alloc, 200_000, &[])?;
-        let mut report = MemorySink::new(alloc, 100, &[])?;
-        let status = run_words(&rt, alloc, &words, &mut source, &mut sink, &mut report);
-        assert_eq!(rt; status, 6, "{workers} workers");
-        assert_eq!(rt; sink.written().len(), 126 + 5 * 4704, "{workers} workers");
-        assert!(rt; report.written() == line.as_slice(), "{workers} workers");
+    let words = split(alloc, text)?;
+    let mut source = MemorySource::new(&file, &[], fails);
+    let left = run_over(rt, alloc, &words, &mut source, 200_000, &[], &[])?;
+    let told = left.told(&[], "frame 5 refused: 1 Truncated at bit 0\n");
+    Ok((told.status, left.sink.written().len(), told.is_reported))
+}
+
+#[test]
+fn of_forty_frames_the_first_refused_is_told(rt: HostRuntime) {
+    const CASES: [&str; 3] = [
+        "decode a b --workers 1",
+        "decode a b --workers 5",
+        "decode a b --workers 16",
+    ];
+    for text in &CASES {
+        let told = decoded(&rt, rt.alloc(), text, &[]);
+        assert_eq!(rt; told, Ok((6, 126 + 5 * 4704, true)), "{text}");
     }
-    Ok(())
 }
 
 #[test]
 fn a_read_that_fails_ahead_is_told_behind_the_earlier_frames(rt: HostRuntime) -> Result<(), Fail> {
-    let alloc = rt.alloc();
-    let file = two_empty_of_forty(alloc)?;
-    let words = split(alloc, "decode a b --workers 5")?;
     let mut told = [false; 2];
     // The calls in front of the frames are fewer than 200; each frame that isn't empty takes one.
     for call in 0..250u64 {
         let fails = [call];
-        let mut source = MemorySource::new(&file, &[], &fails);
-        let mut sink = MemorySink::new(alloc, 200_000, &[])?;
-        let mut report = MemorySink::new(alloc, 100, &[])?;
-        let status = run_words(&rt, alloc, &words, &mut source, &mut sink, &mut report);
-        let frames = sink.written().len().saturating_sub(126) / 4704;
-        assert!(rt; status == 6 || status == 2, "at call {call}");
-        assert!(rt; status == 2 || frames == 5, "at call {call}");
-        assert!(rt; frames <= 5, "at call {call}");
+        let (status, size, _) = decoded(&rt, rt.alloc(), "decode a b --workers 5", &fails)?;
+        let frames = size.saturating_sub(126) / 4704;
+        let is_right = status == 6 && frames == 5 || status == 2 && frames <= 5;
+        assert!(rt; is_right, "at call {call}");
         told[0] = told[0] || (status == 2 && frames == 4);
         told[1] = told[1] || status == 6;
     }
     // A read of frame 4 that fails leaves the sound of four frames; one behind frame 5 changes nothing.
-    assert!(rt; told[0] && told[1]);
+    assert_eq!(rt; told, [true; 2]);
     Ok(())
 }
 
@@ -70,10 +74,8 @@ fn decodes_alone<R: Threads + Sync>(
 ) -> Result<bool, AllocError> {
     let words = split(alloc, "decode a b --workers 2")?;
     let mut source = HonestSource::new(file);
-    let mut sink = MemorySink::new(alloc, 10_000, &[])?;
-    let mut report = MemorySink::new(alloc, 100, &[])?;
-    let status = run_words(rt, alloc, &words, &mut source, &mut sink, &mut report);
-    Ok(status == 0 && sink.written() == whole)
+    let left = run_over(rt, alloc, &words, &mut source, 10_000, &[], &[])?;
+    Ok(left.status == 0 && left.sink.written() == whole)
 }
 
 #[test]
