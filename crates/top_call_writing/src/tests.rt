@@ -1,45 +1,42 @@
 // What the commands that write give and refuse, over files that are known byte for byte.
+use files::{Made, file_of};
 use std::alloc::{AllocError, Global};
 use std::process::Abort;
 use std::thread::Threads;
-use top_call::difference;
+use top_call::{Part, difference};
 
 mod cutting;
 mod dsf;
 mod encoding;
+mod files;
+mod levels;
 mod making;
 
-// Decodes the file: status, output and report are these.
-fn gives(
-    rt: &(impl Abort + Threads + Sync),
+// The words by which a file is decoded.
+const DECODE: &str = "decode in.dff out.dff";
+
+const NOTHING: Made = Made::Known(&[]);
+
+// Words, a file, the status, what is written, and the report.
+type Row = (&'static str, Made, u8, Made, &'static str);
+
+// The first part of a row's run that isn't as the row says.
+fn difference_of(
+    rt: &(impl Threads + Sync),
     alloc: Global,
-    file: &[u8],
-    status: u8,
-    written: &[u8],
-    line: &str,
-) -> Result<(), AllocError> {
-    answers(
-        rt,
-        alloc,
-        "decode in.dff out.dff",
-        file,
-        status,
-        written,
-        line,
-    )
+    row: Row,
+) -> Result<Option<Part>, AllocError> {
+    let (text, file, status, written, lines) = row;
+    let file = file_of(alloc, file)?;
+    let written = file_of(alloc, written)?;
+    difference(rt, alloc, text, &file, status, &written, lines)
 }
 
-// The same of any words.
-fn answers(
-    rt: &(impl Abort + Threads + Sync),
-    alloc: Global,
-    text: &str,
-    file: &[u8],
-    status: u8,
-    written: &[u8],
-    lines: &str,
-) -> Result<(), AllocError> {
-    let differs = difference(rt, alloc, text, file, status, written, lines)?;
-    assert!(rt; differs.is_none(), "{text}: {differs:?} of {lines}");
-    Ok(())
+// Each row's words give what the row says.
+fn all_give(rt: &(impl Abort + Threads + Sync), alloc: Global, rows: &[Row]) {
+    for row in rows {
+        let (text, _, _, _, lines) = *row;
+        let differs = difference_of(rt, alloc, *row);
+        assert_eq!(rt; differs, Ok(None), "{text} of {lines}");
+    }
 }

@@ -1,10 +1,8 @@
 // DSF files of twelve samples, coded and decoded again.
-use super::answers;
-use dst_streams::{HonestSource, MemorySink};
+use dst_streams::HonestSource;
 use std::alloc::{AllocError, Global};
-use std::test::Fail;
 use std::thread::Threads;
-use top_call::{run_words, split};
+use top_call::{Part, difference, run_over, split};
 
 // The head of a file of twelve samples of one channel, with 1 bit per sample.
 const HEAD: &[u8; 92] = b"DSD \x1c\0\0\0\0\0\0\0\x5c\x10\0\0\0\0\0\0\0\0\0\0\0\0\0\0\
@@ -33,95 +31,76 @@ fn two_channels(first: [u8; 2]) -> [u8; 8284] {
     file
 }
 
-// What is written of a file, where the run is done and reports this line.
-fn written(
+// Of a file that is coded by the first words: the status, whether the report is the first line, and whether these bytes stand in what
+// is written; and the first part of decoding that by the second words into the file that isn't as expected.
+type Back = (u8, bool, bool, Option<Part>);
+
+fn coded_and_back(
     rt: &(impl Threads + Sync),
     alloc: Global,
-    text: &str,
     file: &[u8],
-    line: &str,
-) -> Result<Option<Vec<u8>>, AllocError> {
-    let words = split(alloc, text)?;
+    words: [&str; 2],
+    lines: [&str; 2],
+    frame: &[u8],
+) -> Result<Back, AllocError> {
+    let encode = split(alloc, words[0])?;
     let mut source = HonestSource::new(file);
-    let mut sink = MemorySink::new(alloc, 20_000, &[])?;
-    let mut report = MemorySink::new(alloc, 100, &[])?;
-    let status = run_words(rt, alloc, &words, &mut source, &mut sink, &mut report);
-    if status != 0 || report.written() != line.as_bytes() {
-        return Ok(None);
-    }
-    let mut bytes = Vec::new(alloc);
-    bytes.extend_from_slice(sink.written())?;
-    Ok(Some(bytes))
+    let left = run_over(rt, alloc, &encode, &mut source, 20_000, &[], &[])?;
+    let told = left.told(&[], lines[0]);
+    let coded = left.sink.written();
+    let has_frame = coded
+        .windows(frame.len().max(1))
+        .any(|bytes| bytes == frame);
+    let differs = difference(rt, alloc, words[1], coded, 0, file, lines[1])?;
+    Ok((told.status, told.is_reported, has_frame, differs))
 }
 
 #[test]
-fn samples_of_either_order_are_coded_and_come_back(rt: HostRuntime) -> Result<(), Fail> {
-    let alloc = rt.alloc();
-    for (bits, first) in [(1, 1), (8, 0x80)] {
+fn samples_of_either_order_are_coded_and_come_back(rt: HostRuntime) {
+    let words = [
+        "encode-dsf in.dsf out.dff --level 0",
+        "decode-dsf in.dff out.dsf",
+    ];
+    let lines = [
+        "coded 1 frames into 4705 bytes\n",
+        "decoded 1 frames into 2 bytes\n",
+    ];
+    for &(bits, first) in &[(1, 1), (8, 0x80)] {
         let file = one_channel(bits, first);
-        let line = "coded 1 frames into 4705 bytes\n";
-        let coded = written(
-            &rt,
-            alloc,
-            "encode-dsf in.dsf out.dff --level 0",
-            &file,
-            line,
-        )?
-        .ok_or("not coded")?;
-        // the plain form, its sound 80 00, and silence
-        let begins = coded
-            .windows(4)
-            .any(|bytes| bytes == [0, 0x80, 0, 0x69].as_slice());
-        assert!(rt; begins, "{bits} bits");
-        answers(
-            &rt,
-            alloc,
-            "decode-dsf in.dff out.dsf",
-            &coded,
-            0,
-            &file,
-            "decoded 1 frames into 2 bytes\n",
-        )?;
+        // The plain form, its sound 80 00, and silence.
+        let back = coded_and_back(&rt, rt.alloc(), &file, words, lines, &[0, 0x80, 0, 0x69]);
+        assert_eq!(rt; back, Ok((0, true, true, None)), "{bits} bits");
     }
-    Ok(())
 }
 
 #[test]
-fn bytes_of_two_channels_stand_in_turn(rt: HostRuntime) -> Result<(), Fail> {
-    let alloc = rt.alloc();
+fn bytes_of_two_channels_stand_in_turn(rt: HostRuntime) {
     let file = two_channels([1, 2]);
-    let line = "coded 1 frames into 9409 bytes\n";
-    let words = "encode-dsf in.dsf out.dff --level 0 --workers 2";
-    let coded = written(&rt, alloc, words, &file, line)?.ok_or("not coded")?;
-    let frame = coded
-        .windows(6)
-        .any(|bytes| bytes == [0, 0x80, 0x40, 0, 0, 0x69].as_slice());
-    assert!(rt; frame, "the frame's first bytes");
-    answers(
-        &rt,
-        alloc,
+    let words = [
+        "encode-dsf in.dsf out.dff --level 0 --workers 2",
         "decode-dsf in.dff out.dsf --workers 3",
-        &coded,
-        0,
-        &file,
+    ];
+    let lines = [
+        "coded 1 frames into 9409 bytes\n",
         "decoded 1 frames into 4 bytes\n",
-    )?;
-    Ok(())
+    ];
+    let frame = [0, 0x80, 0x40, 0, 0, 0x69];
+    let back = coded_and_back(&rt, rt.alloc(), &file, words, lines, &frame);
+    assert_eq!(rt; back, Ok((0, true, true, None)));
 }
 
 #[test]
-fn a_file_is_refused_by_what_its_head_says(rt: HostRuntime) -> Result<(), Fail> {
-    let alloc = rt.alloc();
+fn a_file_is_refused_by_what_its_head_says(rt: HostRuntime) {
     let mut file = one_channel(1, 1);
     file[84] = 11;
-    answers(
+    let differs = difference(
         &rt,
-        alloc,
+        rt.alloc(),
         "encode-dsf in.dsf out.dff",
         &file,
         5,
         &[],
         "file refused: 31 DsfCount 12 4107\n",
-    )?;
-    Ok(())
+    );
+    assert_eq!(rt; differs, Ok(None));
 }
