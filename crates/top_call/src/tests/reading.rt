@@ -81,54 +81,60 @@ fn a_file_is_checked_whole(rt: HostRuntime) {
     all_give(&rt, rt.alloc(), &ROWS);
 }
 
+const HEAD: &str = "frame 0 coded length 6 filters 1 tables 1 code 45\n";
+
+const OF_TWO: &str =
+    "kind coded\nchannels 1\nsound 4705 bytes\nframes 2\nchunks 5\nstored 9410 bytes\nindex yes\nkept yes\n";
+
+const OF_ONE: &str =
+    "kind coded\nchannels 1\nsound 4704 bytes\nframes 1\nchunks 3\nstored 6 bytes\nindex no\nkept no\n";
+
+const OF_PLAIN: &str = "kind plain\nchannels 1\nsound 4705 bytes\nframes 2\nchunks 3\n";
+
+const SEGMENTS: &str = "frame 0 refused: 3 MultiSegment at bit 3\n";
+
+const SHOWN: [Row; 12] = [
+    ("show a", TwoFrames, 0, NOTHING, OF_TWO),
+    ("show a", Known(EXAMPLE), 0, NOTHING, OF_ONE),
+    ("show a", OddPlain, 0, NOTHING, OF_PLAIN),
+    (
+        "show a 0",
+        TwoFrames,
+        0,
+        NOTHING,
+        "frame 0 plain length 4705\n",
+    ),
+    ("show a 0", Known(EXAMPLE), 0, NOTHING, HEAD),
+    ("show a 0", FIRST_BIT_1, 0, NOTHING, HEAD),
+    (
+        "index a",
+        TwoFrames,
+        0,
+        NOTHING,
+        "0 152 4705\n1 4870 4705\n",
+    ),
+    ("index a", Known(EXAMPLE), 0, NOTHING, "0 152 6\n"),
+    ("index a", NoFrames, 0, NOTHING, ""),
+    ("show a 0", Frame(b"\xe0", 0, 0, b""), 6, NOTHING, SEGMENTS),
+    (
+        "show a 2",
+        TwoFrames,
+        5,
+        NOTHING,
+        "file refused: 22 Range 2 2\n",
+    ),
+    (
+        "show a 0",
+        Known(SILENT),
+        5,
+        NOTHING,
+        "file refused: 27 NotCoded\n",
+    ),
+];
+
 #[test]
 fn files_and_frames_are_shown(rt: HostRuntime) {
-    const HEAD: &str = "frame 0 coded length 6 filters 1 tables 1 code 45\n";
-    const OF_TWO: &str =
-        "kind coded\nchannels 1\nsound 4705 bytes\nframes 2\nchunks 5\nstored 9410 bytes\nindex yes\nkept yes\n";
-    const OF_ONE: &str =
-        "kind coded\nchannels 1\nsound 4704 bytes\nframes 1\nchunks 3\nstored 6 bytes\nindex no\nkept no\n";
-    const OF_PLAIN: &str = "kind plain\nchannels 1\nsound 4705 bytes\nframes 2\nchunks 3\n";
-    const SEGMENTS: &str = "frame 0 refused: 3 MultiSegment at bit 3\n";
-    const ROWS: [Row; 12] = [
-        ("show a", TwoFrames, 0, NOTHING, OF_TWO),
-        ("show a", Known(EXAMPLE), 0, NOTHING, OF_ONE),
-        ("show a", OddPlain, 0, NOTHING, OF_PLAIN),
-        (
-            "show a 0",
-            TwoFrames,
-            0,
-            NOTHING,
-            "frame 0 plain length 4705\n",
-        ),
-        ("show a 0", Known(EXAMPLE), 0, NOTHING, HEAD),
-        ("show a 0", FIRST_BIT_1, 0, NOTHING, HEAD),
-        (
-            "index a",
-            TwoFrames,
-            0,
-            NOTHING,
-            "0 152 4705\n1 4870 4705\n",
-        ),
-        ("index a", Known(EXAMPLE), 0, NOTHING, "0 152 6\n"),
-        ("index a", NoFrames, 0, NOTHING, ""),
-        ("show a 0", Frame(b"\xe0", 0, 0, b""), 6, NOTHING, SEGMENTS),
-        (
-            "show a 2",
-            TwoFrames,
-            5,
-            NOTHING,
-            "file refused: 22 Range 2 2\n",
-        ),
-        (
-            "show a 0",
-            Known(SILENT),
-            5,
-            NOTHING,
-            "file refused: 27 NotCoded\n",
-        ),
-    ];
-    all_give(&rt, rt.alloc(), &ROWS);
+    all_give(&rt, rt.alloc(), &SHOWN);
 }
 
 // The status over the coded file of two frames, where the sink and the report fail at these calls, and whether what is written is a

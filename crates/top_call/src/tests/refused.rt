@@ -12,54 +12,55 @@ use std::process::Abort;
 use std::test::Fail;
 use std::thread::Threads;
 
+// A file, and what decoding it reports.
+const FIRST_RULES: [(Made, &str); 12] = [
+    (
+        Changed(EXAMPLE, 4, &[0xff; 8]),
+        "file refused: 25 FormTooLarge\n",
+    ),
+    (
+        Changed(EXAMPLE, 60, b"\0\x2e\xe0\0"),
+        "file refused: 9 Rate\n",
+    ),
+    (
+        Changed(EXAMPLE, 114, b"\0\0\0\0\0\0\0\x25"),
+        "file refused: 3 Overrun 110\n",
+    ),
+    (
+        Changed(EXAMPLE, 114, b"\0\0\0\0\0\0\0\x23"),
+        "file refused: 3 Overrun 140\n",
+    ),
+    (
+        Changed(EXAMPLE, 114, b"\0\0\0\0\0\0\0\x11"),
+        "file refused: 15 FrameRate\n",
+    ),
+    (
+        Changed(EXAMPLE, 134, b"\xff\xff\xff\xff"),
+        "file refused: 18 TooManyFrames\n",
+    ),
+    (
+        Changed(EXAMPLE, 134, b"\0\0\0\x02"),
+        "file refused: 16 CountDiffers 2 1\n",
+    ),
+    (
+        Changed(EXAMPLE, 144, b"\x80\0\0\0\0\0\0\0"),
+        "file refused: 3 Overrun 140\n",
+    ),
+    (Known(SILENT), "file refused: 27 NotCoded\n"),
+    (
+        Changed(SILENT, 4, b"\0\0\0\0\0\0\0\x73"),
+        "file refused: 3 Overrun 0\n",
+    ),
+    (
+        Changed(SILENT, 4, b"\0\0\0\0\0\0\0\x71"),
+        "file refused: 3 Overrun 114\n",
+    ),
+    (KeptPlain, "file refused: 26 CodedChunk 114\n"),
+];
+
 #[test]
 fn a_file_is_refused_by_its_first_rule(rt: HostRuntime) {
-    // A file, and what decoding it reports.
-    const ROWS: [(Made, &str); 12] = [
-        (
-            Changed(EXAMPLE, 4, &[0xff; 8]),
-            "file refused: 25 FormTooLarge\n",
-        ),
-        (
-            Changed(EXAMPLE, 60, b"\0\x2e\xe0\0"),
-            "file refused: 9 Rate\n",
-        ),
-        (
-            Changed(EXAMPLE, 114, b"\0\0\0\0\0\0\0\x25"),
-            "file refused: 3 Overrun 110\n",
-        ),
-        (
-            Changed(EXAMPLE, 114, b"\0\0\0\0\0\0\0\x23"),
-            "file refused: 3 Overrun 140\n",
-        ),
-        (
-            Changed(EXAMPLE, 114, b"\0\0\0\0\0\0\0\x11"),
-            "file refused: 15 FrameRate\n",
-        ),
-        (
-            Changed(EXAMPLE, 134, b"\xff\xff\xff\xff"),
-            "file refused: 18 TooManyFrames\n",
-        ),
-        (
-            Changed(EXAMPLE, 134, b"\0\0\0\x02"),
-            "file refused: 16 CountDiffers 2 1\n",
-        ),
-        (
-            Changed(EXAMPLE, 144, b"\x80\0\0\0\0\0\0\0"),
-            "file refused: 3 Overrun 140\n",
-        ),
-        (Known(SILENT), "file refused: 27 NotCoded\n"),
-        (
-            Changed(SILENT, 4, b"\0\0\0\0\0\0\0\x73"),
-            "file refused: 3 Overrun 0\n",
-        ),
-        (
-            Changed(SILENT, 4, b"\0\0\0\0\0\0\0\x71"),
-            "file refused: 3 Overrun 114\n",
-        ),
-        (KeptPlain, "file refused: 26 CodedChunk 114\n"),
-    ];
-    all_refused(&rt, rt.alloc(), &ROWS);
+    all_refused(&rt, rt.alloc(), &FIRST_RULES);
 }
 
 #[test]

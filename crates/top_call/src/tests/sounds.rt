@@ -18,52 +18,53 @@ const STORED: Made = Frame(b"\0", 0x69, 4704, b"");
 
 const ONES: Made = Frame(b"\xfc\0\0\x05\xff\xf8", 0, 0, b"");
 
+const SOUNDS: [Row; 7] = [
+    (DECODE, STORED, 0, Plain(0x69, 4704), ONE_FRAME),
+    (DECODE, ONES, 0, Plain(0xff, 4704), ONE_FRAME),
+    // Bits past the sound, and the second bit, are not looked at.
+    (
+        DECODE,
+        Frame(b"\0", 0x69, 4704, &[1, 2, 3]),
+        0,
+        Plain(0x69, 4704),
+        ONE_FRAME,
+    ),
+    (
+        DECODE,
+        Frame(b"\x40", 0x69, 4704, b""),
+        0,
+        Plain(0x69, 4704),
+        ONE_FRAME,
+    ),
+    // A sound of two frames comes back with its pad byte.
+    (
+        DECODE,
+        TwoFrames,
+        0,
+        OddPlain,
+        "decoded 2 frames into 4705 bytes\n",
+    ),
+    // Checksums are passed over.
+    (
+        DECODE,
+        Checksums,
+        0,
+        Plain(0x69, 9408),
+        "decoded 2 frames into 9408 bytes\n",
+    ),
+    // A double rate has frames of double size.
+    (
+        DECODE,
+        DoubleCoded,
+        0,
+        DoublePlain,
+        "decoded 1 frames into 9408 bytes\n",
+    ),
+];
+
 #[test]
 fn sounds_come_back(rt: HostRuntime) {
-    const ROWS: [Row; 7] = [
-        (DECODE, STORED, 0, Plain(0x69, 4704), ONE_FRAME),
-        (DECODE, ONES, 0, Plain(0xff, 4704), ONE_FRAME),
-        // Bits past the sound, and the second bit, are not looked at.
-        (
-            DECODE,
-            Frame(b"\0", 0x69, 4704, &[1, 2, 3]),
-            0,
-            Plain(0x69, 4704),
-            ONE_FRAME,
-        ),
-        (
-            DECODE,
-            Frame(b"\x40", 0x69, 4704, b""),
-            0,
-            Plain(0x69, 4704),
-            ONE_FRAME,
-        ),
-        // A sound of two frames comes back with its pad byte.
-        (
-            DECODE,
-            TwoFrames,
-            0,
-            OddPlain,
-            "decoded 2 frames into 4705 bytes\n",
-        ),
-        // Checksums are passed over.
-        (
-            DECODE,
-            Checksums,
-            0,
-            Plain(0x69, 9408),
-            "decoded 2 frames into 9408 bytes\n",
-        ),
-        // A double rate has frames of double size.
-        (
-            DECODE,
-            DoubleCoded,
-            0,
-            DoublePlain,
-            "decoded 1 frames into 9408 bytes\n",
-        ),
-    ];
-    all_give(&rt, rt.alloc(), &ROWS);
+    all_give(&rt, rt.alloc(), &SOUNDS);
 }
 
 // What is kept of no sound by version 1, and by version 2 with a pad byte.

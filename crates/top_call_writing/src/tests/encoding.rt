@@ -28,63 +28,64 @@ fn a_plain_file_is_coded(rt: HostRuntime) {
     all_give(&rt, rt.alloc(), &ROWS);
 }
 
+// A file, and what coding it reports.
+const NOT_CODED: [(Made, &str); 14] = [
+    (
+        Known(b"FRM8\0\0\0\0\0\0\0\x72DSD"),
+        "file refused: 1 NotForm\n",
+    ),
+    (
+        Changed(SILENT, 4, b"\0\0\0\0\0\0\0\x73"),
+        "file refused: 3 Overrun 0\n",
+    ),
+    (
+        Changed(SILENT, 4, b"\0\0\0\0\0\0\0\x71"),
+        "file refused: 3 Overrun 114\n",
+    ),
+    (
+        Changed(SILENT, 60, b"\0\x2e\xe0\0"),
+        "file refused: 9 Rate\n",
+    ),
+    (
+        Changed(SILENT, 118, b"\xff\xff\xff\xff\xff\xff\xff\xff"),
+        "file refused: 3 Overrun 114\n",
+    ),
+    (LongTail, "file refused: 28 TailTooLong 65537\n"),
+    (KeptPlain, "file refused: 26 CodedChunk 114\n"),
+    (
+        CodedSilent(NOTHING_KEPT, &[]),
+        "file refused: 20 NotPlain\n",
+    ),
+    (
+        Changed(EXAMPLE, 4, &[0xff; 8]),
+        "file refused: 25 FormTooLarge\n",
+    ),
+    (
+        Changed(EXAMPLE, 114, b"\0\0\0\0\0\0\0\x25"),
+        "file refused: 3 Overrun 110\n",
+    ),
+    (
+        Changed(EXAMPLE, 114, b"\0\0\0\0\0\0\0\x11"),
+        "file refused: 15 FrameRate\n",
+    ),
+    (
+        Changed(EXAMPLE, 134, b"\xff\xff\xff\xff"),
+        "file refused: 18 TooManyFrames\n",
+    ),
+    // Faults that only the walk of frames finds.
+    (
+        Changed(EXAMPLE, 114, b"\0\0\0\0\0\0\0\x23"),
+        "file refused: 20 NotPlain\n",
+    ),
+    (
+        Changed(EXAMPLE, 144, b"\x80\0\0\0\0\0\0\0"),
+        "file refused: 20 NotPlain\n",
+    ),
+];
+
 #[test]
 fn a_file_that_is_not_coded_is_refused_by_its_first_rule(rt: HostRuntime) {
-    // A file, and what coding it reports.
-    const ROWS: [(Made, &str); 14] = [
-        (
-            Known(b"FRM8\0\0\0\0\0\0\0\x72DSD"),
-            "file refused: 1 NotForm\n",
-        ),
-        (
-            Changed(SILENT, 4, b"\0\0\0\0\0\0\0\x73"),
-            "file refused: 3 Overrun 0\n",
-        ),
-        (
-            Changed(SILENT, 4, b"\0\0\0\0\0\0\0\x71"),
-            "file refused: 3 Overrun 114\n",
-        ),
-        (
-            Changed(SILENT, 60, b"\0\x2e\xe0\0"),
-            "file refused: 9 Rate\n",
-        ),
-        (
-            Changed(SILENT, 118, b"\xff\xff\xff\xff\xff\xff\xff\xff"),
-            "file refused: 3 Overrun 114\n",
-        ),
-        (LongTail, "file refused: 28 TailTooLong 65537\n"),
-        (KeptPlain, "file refused: 26 CodedChunk 114\n"),
-        (
-            CodedSilent(NOTHING_KEPT, &[]),
-            "file refused: 20 NotPlain\n",
-        ),
-        (
-            Changed(EXAMPLE, 4, &[0xff; 8]),
-            "file refused: 25 FormTooLarge\n",
-        ),
-        (
-            Changed(EXAMPLE, 114, b"\0\0\0\0\0\0\0\x25"),
-            "file refused: 3 Overrun 110\n",
-        ),
-        (
-            Changed(EXAMPLE, 114, b"\0\0\0\0\0\0\0\x11"),
-            "file refused: 15 FrameRate\n",
-        ),
-        (
-            Changed(EXAMPLE, 134, b"\xff\xff\xff\xff"),
-            "file refused: 18 TooManyFrames\n",
-        ),
-        // Faults that only the walk of frames finds.
-        (
-            Changed(EXAMPLE, 114, b"\0\0\0\0\0\0\0\x23"),
-            "file refused: 20 NotPlain\n",
-        ),
-        (
-            Changed(EXAMPLE, 144, b"\x80\0\0\0\0\0\0\0"),
-            "file refused: 20 NotPlain\n",
-        ),
-    ];
-    for &(file, line) in &ROWS {
+    for &(file, line) in &NOT_CODED {
         let differs = difference_of(&rt, rt.alloc(), ("encode a b", file, 5, NOTHING, line));
         assert_eq!(rt; differs, Ok(None), "{line}");
     }
