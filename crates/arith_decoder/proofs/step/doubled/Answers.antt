@@ -1,0 +1,6 @@
+-- A range that is doubled stays one of the code's.
+use Rattle.std.proofs.Common.{rules}
+use Rattle.arith_decoder.proofs.step.doubled.Goals as goal
+
+pub returns-clause-range : goal.returns-clause-range
+returns-clause-range c = search rules
