@@ -5,7 +5,6 @@ use frame_crew::{
     Drain, Feed, Gate, InTurn, JobWork, OpenGate, RunFault, Slot, run_batch, run_ordered,
 };
 use std::sync::atomic::{AtomicU64, Ordering};
-use std::test::Fail;
 use std::thread::Threads;
 
 #[derive(Clone, Copy)]
@@ -98,29 +97,51 @@ fn first_are<const N: usize>(count: usize, one: u32, other: u32) -> [u32; N] {
     numbers
 }
 
+// Of jobs that are held at a gate: how often it is passed and by how many at once, the value of each job, which is 1 before, and how many each
+// worker has worked.
+type Held = ((u64, u64), [u32; 48], [u32; 16]);
+
+// Three jobs for each worker.
+fn held<R: Threads + Sync>(rt: &R, workers: usize) -> Held
+    requires some { 0 < workers }
+    requires most { workers ≤ 16 }
+{
+    let gate = Holding::new(workers as u64);
+    let mut scratches = [IDLE; 16];
+    let mut jobs = [Number { value: 1 }; 48];
+    run_batch(
+        rt,
+        &ADD_ONE,
+        &gate,
+        &mut scratches[..workers],
+        &mut jobs[..3 * workers],
+    );
+    let passes = gate.passes.load(Ordering::SeqCst);
+    let most = gate.most.load(Ordering::SeqCst);
+    (
+        (passes, most),
+        jobs.map(|job| job.value),
+        scratches.map(|it| it.count),
+    )
+}
+
+// The same where as many jobs as workers are worked at once.
+fn all_held(workers: usize) -> Held
+    requires { workers ≤ 16 }
+{
+    let count = 3 * workers;
+    (
+        (count as u64, workers as u64),
+        first_are(count, 2, 1),
+        first_are(workers, 3, 0),
+    )
+}
+
 #[test]
-fn as_many_jobs_as_workers_are_worked_at_once(rt: HostRuntime) -> Result<(), Fail> {
+fn as_many_jobs_as_workers_are_worked_at_once(rt: HostRuntime) {
     for workers in 2..17usize {
-        let gate = Holding::new(workers as u64);
-        let mut scratches = [IDLE; 16];
-        let mut jobs = [Number { value: 1 }; 48];
-        let count = 3 * workers;
-        run_batch(
-            &rt,
-            &ADD_ONE,
-            &gate,
-            &mut scratches[..workers],
-            &mut jobs[..count],
-        );
-        let passes = gate.passes.load(Ordering::SeqCst);
-        let most = gate.most.load(Ordering::SeqCst);
-        let all = (count as u64, workers as u64);
-        assert_eq!(rt; (passes, most), all, "{workers} workers");
-        let worked = (jobs.map(|job| job.value), scratches.map(|it| it.count));
-        let wanted = (first_are(count, 2, 1), first_are(workers, 3, 0));
-        assert_eq!(rt; worked, wanted, "{workers} workers");
+        assert_eq!(rt; held(&rt, workers), all_held(workers), "{workers} workers");
     }
-    Ok(())
 }
 
 // Counts the passes, and adds up the places.
@@ -186,7 +207,7 @@ fn even_shares(workers: usize, count: usize) -> Shares {
 }
 
 #[test]
-fn the_jobs_are_shared_out_evenly(rt: HostRuntime) -> Result<(), Fail> {
+fn the_jobs_are_shared_out_evenly(rt: HostRuntime) {
     for workers in 1..17usize {
         for count in 0..65usize {
             assert_eq!(rt;
@@ -196,7 +217,6 @@ fn the_jobs_are_shared_out_evenly(rt: HostRuntime) -> Result<(), Fail> {
             );
         }
     }
-    Ok(())
 }
 
 // The numbers below `end`, up to a fault, and how often the end was answered.
@@ -268,13 +288,7 @@ impl Drain<Number> for InOrder {
 const NEVER: u32 = u32::MAX;
 
 // What one run answers, how many jobs were drained, whether each stood at its place, and how often the end was answered.
-#[derive(Debug, Drop, PartialEq, Eq)]
-struct Outcome {
-    answer: Result<u32, (&'static str, u32)>,
-    drained: u32,
-    is_in_order: bool,
-    ends: u64,
-}
+type Outcome = (Result<u32, (&'static str, u32)>, u32, bool, u64);
 
 fn run_numbers<R: Threads + Sync>(
     rt: &R,
@@ -312,47 +326,44 @@ fn run_numbers<R: Threads + Sync>(
         Err(RunFault::Feed(place)) => Err(("feed", place)),
         Err(RunFault::Drain(place)) => Err(("drain", place)),
     };
-    Outcome {
+    (
         answer,
-        drained: drain.count,
-        is_in_order: drain.is_in_order,
-        ends: ends.load(Ordering::SeqCst),
-    }
+        drain.count,
+        drain.is_in_order,
+        ends.load(Ordering::SeqCst),
+    )
 }
 
+// Numbers, where the feed and the drain fail, the answer, how many jobs were drained, how often the end was answered.
+type Row = (u32, u32, u32, Result<u32, (&'static str, u32)>, u32, u64);
+
+const ROWS: [Row; 17] = [
+    (0, NEVER, NEVER, Ok(0), 0, 1),
+    (1, NEVER, NEVER, Ok(1), 1, 1),
+    (31, NEVER, NEVER, Ok(31), 31, 1),
+    (32, NEVER, NEVER, Ok(32), 32, 1),
+    (33, NEVER, NEVER, Ok(33), 33, 1),
+    (100, NEVER, NEVER, Ok(100), 100, 1),
+    (1, 0, NEVER, Err(("feed", 0)), 0, 0),
+    (100, 31, NEVER, Err(("feed", 31)), 31, 0),
+    (100, 32, NEVER, Err(("feed", 32)), 32, 0),
+    (100, 40, NEVER, Err(("feed", 40)), 40, 0),
+    (1, NEVER, 0, Err(("drain", 0)), 0, 1),
+    (33, NEVER, 32, Err(("drain", 32)), 32, 1),
+    (100, NEVER, 31, Err(("drain", 31)), 31, 0),
+    (100, NEVER, 50, Err(("drain", 50)), 50, 0),
+    (100, 40, 39, Err(("drain", 39)), 39, 0),
+    (100, 40, 40, Err(("feed", 40)), 40, 0),
+    (100, 40, 7, Err(("drain", 7)), 7, 0),
+];
+
 #[test]
-fn every_number_of_workers_gives_one_answer(rt: HostRuntime) -> Result<(), Fail> {
-    // Numbers, where the feed and the drain fail, the answer, how many jobs were drained, how often the end was answered.
-    let rows = [
-        (0, NEVER, NEVER, Ok(0), 0, 1),
-        (1, NEVER, NEVER, Ok(1), 1, 1),
-        (31, NEVER, NEVER, Ok(31), 31, 1),
-        (32, NEVER, NEVER, Ok(32), 32, 1),
-        (33, NEVER, NEVER, Ok(33), 33, 1),
-        (100, NEVER, NEVER, Ok(100), 100, 1),
-        (1, 0, NEVER, Err(("feed", 0)), 0, 0),
-        (100, 31, NEVER, Err(("feed", 31)), 31, 0),
-        (100, 32, NEVER, Err(("feed", 32)), 32, 0),
-        (100, 40, NEVER, Err(("feed", 40)), 40, 0),
-        (1, NEVER, 0, Err(("drain", 0)), 0, 1),
-        (33, NEVER, 32, Err(("drain", 32)), 32, 1),
-        (100, NEVER, 31, Err(("drain", 31)), 31, 0),
-        (100, NEVER, 50, Err(("drain", 50)), 50, 0),
-        (100, 40, 39, Err(("drain", 39)), 39, 0),
-        (100, 40, 40, Err(("feed", 40)), 40, 0),
-        (100, 40, 7, Err(("drain", 7)), 7, 0),
-    ];
-    for (end, feed_fails_at, drain_fails_at, answer, drained, ends) in &rows {
-        let wanted = Outcome {
-            answer: *answer,
-            drained: *drained,
-            is_in_order: true,
-            ends: *ends,
-        };
+fn every_number_of_workers_gives_one_answer(rt: HostRuntime) {
+    for &(end, feed_fails_at, drain_fails_at, answer, drained, ends) in &ROWS {
+        let wanted = (answer, drained, true, ends);
         for workers in 1..17usize {
-            let given = run_numbers(&rt, *end, *feed_fails_at, *drain_fails_at, workers);
+            let given = run_numbers(&rt, end, feed_fails_at, drain_fails_at, workers);
             assert_eq!(rt; given, wanted, "{end} numbers, {workers} workers");
         }
     }
-    Ok(())
 }

@@ -1,4 +1,6 @@
 // What no clause says: which calls of a device in memory fail, and what real files and streams do.
+ghost use Rattle.std.specs.Prelude.{◌≡◌, ◌≤◌, IsSome, OnOk};
+
 mod full_disk;
 mod small_steps;
 
@@ -8,11 +10,9 @@ use dst_streams::{
 };
 use full_disk::FullDisk;
 use small_steps::{BrokenPipe, SmallSteps};
-use std::alloc::Allocator;
+use std::alloc::{AllocError, Allocator, Global};
 use std::fs::{self, Files};
 use std::io::{self, BufRead, ErrorKind, Input, Lines};
-use std::process::Abort;
-use std::test::Fail;
 
 // A standard input that holds five bytes.
 struct Typed;
@@ -42,143 +42,160 @@ fn kind_of(reason: Option<io::Error>) -> Option<ErrorKind> {
 }
 
 // Four bytes are asked of a source from a place on: the answer, and what is held then.
-fn reads(
-    rt: &impl Abort,
-    source: &mut MemorySource<'_>,
-    place: u64,
-    answer: Result<usize, Failed>,
-    held: &[u8],
-) {
+fn read_from<S: Source>(source: &mut S, place: u64) -> (Result<usize, Failed>, [u8; 4])
+    requires { IsSome (S.known source.old) }
+    ensures { S.known source.new ≡ S.known source.old }
+{
     let mut out = [0u8; 4];
     let read = source.read_at(place, &mut out);
-    assert_eq!(rt; (read, out.as_slice()), (answer, held), "at {place}");
+    (read, out)
 }
 
 #[test]
-fn a_source_in_memory_gives_its_pieces_and_fails_as_planned(rt: HostRuntime) -> Result<(), Fail> {
-    let bytes = [1u8, 2, 3, 4, 5];
-    let mut source = MemorySource::new(&bytes, &[3, 0], &[0, 3]);
+fn a_source_in_memory_gives_its_pieces_and_fails_as_planned(rt: HostRuntime) {
+    let mut source = MemorySource::new(&[1, 2, 3, 4, 5], &[3, 0], &[0, 3]);
     let sizes = (source.size(), source.size());
-    assert_eq!(rt; sizes, (Err(Failed), Ok(5)));
-    let steps: [(u64, Result<usize, Failed>, [u8; 4]); 5] = [
-        (1, Ok(3), [2, 3, 4, 0]),
-        (1, Err(Failed), [0, 0, 0, 0]),
-        (4, Ok(1), [5, 0, 0, 0]),
-        (0, Ok(1), [1, 0, 0, 0]),
-        (5, Ok(0), [0, 0, 0, 0]),
+    let reads = [
+        read_from(&mut source, 1),
+        read_from(&mut source, 1),
+        read_from(&mut source, 4),
+        read_from(&mut source, 0),
+        read_from(&mut source, 5),
     ];
-    for (place, answer, held) in &steps {
-        reads(&rt, &mut source, *place, *answer, held.as_slice());
-    }
-    Ok(())
+    let wanted = [
+        (Ok(3), [2, 3, 4, 0]),
+        (Err(Failed), [0, 0, 0, 0]),
+        (Ok(1), [5, 0, 0, 0]),
+        (Ok(1), [1, 0, 0, 0]),
+        (Ok(0), [0, 0, 0, 0]),
+    ];
+    assert_eq!(rt; (sizes, reads), ((Err(Failed), Ok(5)), wanted));
 }
 
 #[test]
-fn an_honest_source_gives_all_that_is_asked(rt: HostRuntime) -> Result<(), Fail> {
-    let bytes = [1u8, 2, 3, 4, 5];
-    let mut source = HonestSource::new(&bytes);
-    let mut out = [0u8; 4];
-    let size = source.size();
-    let read = source.read_at(1, &mut out);
-    assert_eq!(rt; (size, read, out), (Ok(5), Ok(4), [2, 3, 4, 5]));
-    Ok(())
+fn an_honest_source_gives_all_that_is_asked(rt: HostRuntime) {
+    let mut source = HonestSource::new(&[1, 2, 3, 4, 5]);
+    let told = (source.size(), read_from(&mut source, 1));
+    assert_eq!(rt; told, (Ok(5), (Ok(4), [2, 3, 4, 5])));
 }
 
-// A piece is appended: the answer, and what is written then.
-fn appends(
-    rt: &impl Abort,
-    sink: &mut MemorySink<'_>,
-    piece: &[u8],
-    answer: Result<(), Failed>,
-    held: &[u8],
-) {
+// A piece is appended: the answer, and whether these bytes are written then.
+fn appends(sink: &mut MemorySink<'_>, piece: &[u8], held: &[u8]) -> (Result<(), Failed>, bool) {
     let appended = sink.append(piece);
-    assert_eq!(rt; (appended, sink.written()), (answer, held));
+    (appended, sink.written() == held)
 }
 
-#[test]
-fn a_sink_in_memory_keeps_half_of_a_refused_piece(rt: HostRuntime) -> Result<(), Fail> {
-    let mut sink = MemorySink::new(rt.alloc(), 6, &[1, 4])?;
-    let steps: [(&[u8], Result<(), Failed>, &[u8]); 4] = [
-        (&[1, 2, 3], Ok(()), &[1, 2, 3]),
-        (&[4, 5, 6], Err(Failed), &[1, 2, 3, 4]),
-        (&[7, 8, 9], Err(Failed), &[1, 2, 3, 4, 7]),
-        (&[8, 8, 9, 9], Err(Failed), &[1, 2, 3, 4, 7, 8]),
+// What each of four appends answers, and one overwriting.
+type Halves = ([(Result<(), Failed>, bool); 4], Result<(), Failed>);
+
+fn halves(alloc: Global) -> Result<Halves, AllocError> {
+    let mut sink = MemorySink::new(alloc, 6, &[1, 4])?;
+    let appended = [
+        appends(&mut sink, &[1, 2, 3], &[1, 2, 3]),
+        appends(&mut sink, &[4, 5, 6], &[1, 2, 3, 4]),
+        appends(&mut sink, &[7, 8, 9], &[1, 2, 3, 4, 7]),
+        appends(&mut sink, &[8, 8, 9, 9], &[1, 2, 3, 4, 7, 8]),
     ];
-    for (piece, answer, held) in &steps {
-        appends(&rt, &mut sink, piece, *answer, held);
-    }
-    let refused = sink.overwrite(0, &[]);
-    assert_eq!(rt; refused, Err(Failed));
-    Ok(())
+    Ok((appended, sink.overwrite(0, &[])))
 }
 
 #[test]
-fn a_sink_in_memory_is_written_over(rt: HostRuntime) -> Result<(), Fail> {
-    let mut sure = MemorySink::new(rt.alloc(), 3, &[])?;
-    write_over(&mut sure)?;
-    assert_eq!(rt; sure.written(), [1, 9, 3].as_slice());
-    Ok(())
+fn a_sink_in_memory_keeps_half_of_a_refused_piece(rt: HostRuntime) {
+    let refused = (Err(Failed), true);
+    let appended = [(Ok(()), true), refused, refused, refused];
+    assert_eq!(rt; halves(rt.alloc()), Ok((appended, Err(Failed))));
 }
 
-// Three bytes, of which the second is written over.
-fn write_over<K: Sink>(sink: &mut K) -> Result<(), Failed> {
+// Three bytes, of which the one at a place is written over.
+fn write_over<K: Sink>(sink: &mut K, place: u64) -> Result<(), Failed>
+    requires { place ≤ 2 }
+    ensures { OnOk result (3 ≤ K.appended sink.new) }
+{
     sink.append(&[1, 2, 3])?;
-    sink.overwrite(1, &[9])?;
+    sink.overwrite(place, &[9])?;
     sink.finish()
 }
 
+// Whether three bytes are written so into a room of three.
+fn is_written_over(alloc: Global) -> Result<(Result<(), Failed>, bool), AllocError> {
+    let mut sure = MemorySink::new(alloc, 3, &[])?;
+    let answer = write_over(&mut sure, 1);
+    Ok((answer, sure.written() == [1, 9, 3].as_slice()))
+}
+
+#[test]
+fn a_sink_in_memory_is_written_over(rt: HostRuntime) {
+    assert_eq!(rt; is_written_over(rt.alloc()), Ok((Ok(()), true)));
+}
+
 // Which of four calls of a sink fail.
-fn failing_calls<K: Sink>(sink: &mut K) -> [bool; 4] {
-    [
+type Failing = [bool; 4];
+
+// The same where the call of this number is made to.
+fn failing_calls(alloc: Global, call: u64) -> Result<Failing, AllocError> {
+    let fails = [call];
+    let mut sink = MemorySink::new(alloc, 9, &fails)?;
+    Ok([
         sink.append(&[1, 2]).is_err(),
         sink.overwrite(0, &[]).is_err(),
         sink.finish().is_err(),
         sink.append(&[3]).is_err(),
-    ]
+    ])
 }
 
+// A call, and which of the four fail.
+const FAILING_CALLS: [(u64, Failing); 4] = [
+    (0, [true, false, false, false]),
+    (1, [false, true, false, false]),
+    (2, [false, false, true, false]),
+    (3, [false, false, false, true]),
+];
+
 #[test]
-fn each_call_of_a_sink_in_memory_fails_in_its_turn(rt: HostRuntime) -> Result<(), Fail> {
-    let cases: [(&[u64], [bool; 4]); 4] = [
-        (&[0], [true, false, false, false]),
-        (&[1], [false, true, false, false]),
-        (&[2], [false, false, true, false]),
-        (&[3], [false, false, false, true]),
-    ];
-    for (fails, failing) in cases {
-        let mut sink = MemorySink::new(rt.alloc(), 9, fails)?;
-        assert_eq!(rt; failing_calls(&mut sink), failing);
+fn each_call_of_a_sink_in_memory_fails_in_its_turn(rt: HostRuntime) {
+    for &(call, failing) in &FAILING_CALLS {
+        assert_eq!(rt; failing_calls(rt.alloc(), call), Ok(failing));
     }
-    Ok(())
+}
+
+// What a piece is answered that doesn't fit behind three bytes, and then each call; and whether the same is held behind it and behind them.
+type CutShort = (Result<(), Failed>, [Result<(), Failed>; 3], [bool; 2]);
+
+fn cut_short() -> Result<CutShort, Failed> {
+    let mut sink = ShortFlowSink::new(4);
+    write_over(&mut sink, 0)?;
+    let cut = sink.append(&[4, 5]);
+    let is_held = sink.written() == [9, 2, 3, 4].as_slice();
+    let after = [sink.append(&[]), sink.overwrite(1, &[8]), sink.finish()];
+    let is_still_held = sink.written() == [9, 2, 3, 4].as_slice();
+    Ok((cut, after, [is_held, is_still_held]))
 }
 
 #[test]
-fn a_short_sink_keeps_its_prefix_and_then_fails(rt: HostRuntime) -> Result<(), Fail> {
-    let mut sink = ShortFlowSink::new(4);
-    sink.append(&[1, 2, 3])?;
-    sink.overwrite(0, &[9])?;
-    sink.finish()?;
-    let cut = sink.append(&[4, 5]);
-    let held: &[u8] = &[9, 2, 3, 4];
-    assert_eq!(rt; (cut, sink.written()), (Err(Failed), held));
-    let after = [sink.append(&[]), sink.overwrite(1, &[8]), sink.finish()];
-    assert_eq!(rt; (after, sink.written()), ([Err(Failed); 3], held));
-    Ok(())
+fn a_short_sink_keeps_its_prefix_and_then_fails(rt: HostRuntime) {
+    let wanted = (Err(Failed), [Err(Failed); 3], [true; 2]);
+    assert_eq!(rt; cut_short(), Ok(wanted));
 }
 
 // Three bytes are asked of a flow: the answer, and what is held then.
-fn moves<F: Flow>(rt: &impl Abort, flow: &mut F, answer: Result<usize, Failed>, held: &[u8]) {
+fn moves<F: Flow>(flow: &mut F) -> (Result<usize, Failed>, [u8; 3]) {
     let mut out = [0u8; 3];
     let moved = flow.next(&mut out);
-    assert_eq!(rt; (moved, out.as_slice()), (answer, held));
+    (moved, out)
 }
 
 #[test]
-fn a_flow_in_memory_moves_its_pieces(rt: HostRuntime) -> Result<(), Fail> {
-    let bytes = [1u8, 2, 3, 4, 5, 6];
-    let mut flow = MemoryFlow::new(&bytes, &[2, 0], &[2]);
-    let steps: [(Result<usize, Failed>, [u8; 3]); 6] = [
+fn a_flow_in_memory_moves_its_pieces(rt: HostRuntime) {
+    let mut flow = MemoryFlow::new(&[1, 2, 3, 4, 5, 6], &[2, 0], &[2]);
+    let moved = [
+        moves(&mut flow),
+        moves(&mut flow),
+        moves(&mut flow),
+        moves(&mut flow),
+        moves(&mut flow),
+        moves(&mut flow),
+    ];
+    let wanted = [
         (Ok(2), [1, 2, 0]),
         (Ok(1), [3, 0, 0]),
         (Err(Failed), [0, 0, 0]),
@@ -186,10 +203,20 @@ fn a_flow_in_memory_moves_its_pieces(rt: HostRuntime) -> Result<(), Fail> {
         (Ok(2), [5, 6, 0]),
         (Ok(0), [0, 0, 0]),
     ];
-    for (answer, held) in &steps {
-        moves(&rt, &mut flow, *answer, held.as_slice());
+    assert_eq!(rt; moved, wanted);
+}
+
+// Whether the system did what it was asked.
+fn is_done(answer: io::Result<()>) -> bool {
+    answer.is_ok()
+}
+
+// Whether a file holds these bytes. It is removed.
+fn holds(rt: &HostRuntime, path: &str, bytes: &[u8]) -> bool {
+    match fs::read(rt, path) {
+        Ok(held) => is_done(fs::remove_file(rt, path)) && held.as_slice() == bytes,
+        Err(_) => false,
     }
-    Ok(())
 }
 
 // Eight bytes in three pieces, of which two are written over before the last.
@@ -216,18 +243,13 @@ fn made_again<D: Files>(disk: &D) -> (Result<(), Failed>, Option<ErrorKind>, Opt
 }
 
 #[test]
-fn a_file_is_made_where_there_is_none(rt: HostRuntime) -> Result<(), Fail> {
-    let _ = fs::remove_file(&rt, "made.bin");
-    let size = made_size(&rt)?;
+fn a_file_is_made_where_there_is_none(rt: HostRuntime) {
+    let _is_gone = is_done(fs::remove_file(&rt, "made.bin"));
+    let size = made_size(&rt);
     let again = made_again(&rt);
-    let held = fs::read(&rt, "made.bin")?;
-    fs::remove_file(&rt, "made.bin")?;
+    let is_held = holds(&rt, "made.bin", b"sEVen b!");
     let refused = (Err(Failed), Some(ErrorKind::AlreadyExists), None);
-    assert_eq!(rt;
-        (size, again, held.as_slice()),
-        (Some(8), refused, b"sEVen b!".as_slice())
-    );
-    Ok(())
+    assert_eq!(rt; (size, again, is_held), (Ok(Some(8)), refused, true));
 }
 
 // A piece and a part of it written over, by a disk that takes them in small steps.
@@ -238,13 +260,11 @@ fn written_in_parts<D: Files>(disk: &D) -> Result<(), Failed> {
 }
 
 #[test]
-fn a_piece_that_is_taken_in_parts_is_written_whole(rt: HostRuntime) -> Result<(), Fail> {
-    let _ = fs::remove_file(&rt, "parts.bin");
-    written_in_parts(&SmallSteps { rt: &rt })?;
-    let held = fs::read(&rt, "parts.bin")?;
-    fs::remove_file(&rt, "parts.bin")?;
-    assert_eq!(rt; held.as_slice(), b"seven BYTES".as_slice());
-    Ok(())
+fn a_piece_that_is_taken_in_parts_is_written_whole(rt: HostRuntime) {
+    let _is_gone = is_done(fs::remove_file(&rt, "parts.bin"));
+    let written = written_in_parts(&SmallSteps { rt: &rt });
+    let is_held = holds(&rt, "parts.bin", b"seven BYTES");
+    assert_eq!(rt; (written, is_held), (Ok(()), true));
 }
 
 // What finishing answers where nothing was made yet, and behind a piece.
@@ -255,18 +275,19 @@ fn finishes<D: Files>(disk: &D) -> [Result<(), Failed>; 3] {
 }
 
 #[test]
-fn a_file_that_the_disk_refuses_is_a_failure(rt: HostRuntime) -> Result<(), Fail> {
+fn a_file_that_the_disk_refuses_is_a_failure(rt: HostRuntime) {
     assert_eq!(rt; finishes(&FullDisk), [Ok(()), Ok(()), Err(Failed)]);
-    Ok(())
 }
 
-// The size of a file, how many bytes are read from byte 2 on and behind its end, and those from byte 2 on.
-fn read_file<D: Files>(disk: &D) -> Result<(u64, usize, usize, [u8; 6]), Failed> {
+// The size of a file, what reading answers from byte 2 on and behind its end, and the bytes from byte 2 on.
+type Told = (u64, Result<usize, Failed>, Result<usize, Failed>, [u8; 6]);
+
+fn read_file<D: Files>(disk: &D) -> Result<Told, Failed> {
     let mut source = FileSource::new(disk, "read.bin");
     let size = source.size()?;
     let mut out = [0u8; 6];
-    let read = source.read_at(2, &mut out)?;
-    let past = source.read_at(7, &mut [0u8; 1])?;
+    let read = source.read_at(2, &mut out);
+    let past = source.read_at(7, &mut [0u8; 1]);
     Ok((size, read, past, out))
 }
 
@@ -278,33 +299,31 @@ fn size_or_reason<D: Files>(disk: &D) -> (Result<u64, Failed>, Option<ErrorKind>
 }
 
 #[test]
-fn a_file_is_read_as_it_is(rt: HostRuntime) -> Result<(), Fail> {
-    fs::write(&rt, "read.bin", b"seven b")?;
-    let read = read_file(&rt)?;
-    fs::remove_file(&rt, "read.bin")?;
+fn a_file_is_read_as_it_is(rt: HostRuntime) {
+    let is_made = is_done(fs::write(&rt, "read.bin", b"seven b"));
+    let read = read_file(&rt);
+    let is_removed = is_done(fs::remove_file(&rt, "read.bin"));
     let absent = size_or_reason(&rt);
     assert_eq!(rt;
-        (read, absent),
+        (is_made, read, is_removed, absent),
         (
-            (7, 5, 0, *b"ven b\0"),
+            true,
+            Ok((7, Ok(5), Ok(0), *b"ven b\0")),
+            true,
             (Err(Failed), Some(ErrorKind::NotFound))
         )
     );
-    Ok(())
 }
 
-// The size of a file of this disk.
-fn size_of<D: Files>(disk: &D) -> Result<u64, Failed> {
-    FileSource::new(disk, "any.bin").size()
-}
+// The size of a file that ends below it when it is read, whether it was made to, the answer behind that end, and why.
+type Shrunk = (u64, bool, Result<usize, Failed>, Option<ErrorKind>);
 
-// The size of a file that ends below it when it is read, the answer behind that end, and why.
-fn read_shrunk(rt: &HostRuntime) -> Result<(u64, Result<usize, Failed>, Option<ErrorKind>), Fail> {
-    let mut source = FileSource::new(rt, "shrinks.bin");
+fn read_shrunk<D: Files>(disk: &D) -> Result<Shrunk, Failed> {
+    let mut source = FileSource::new(disk, "shrinks.bin");
     let size = source.size()?;
-    fs::write(rt, "shrinks.bin", b"se")?;
+    let is_cut = is_done(fs::write(disk, "shrinks.bin", b"se"));
     let behind = source.read_at(2, &mut [0u8; 4]);
-    Ok((size, behind, kind_of(source.reason())))
+    Ok((size, is_cut, behind, kind_of(source.reason())))
 }
 
 // What reading a folder answers, whose size is told.
@@ -316,55 +335,65 @@ fn read_folder<D: Files>(disk: &D) -> Result<Result<usize, Failed>, Failed> {
 
 // A file that ends below the size that it had, a folder, and a file whose size can't be had.
 #[test]
-fn a_file_that_gives_nothing_is_a_failure(rt: HostRuntime) -> Result<(), Fail> {
-    fs::write(&rt, "shrinks.bin", b"seven b")?;
-    let shrunk = read_shrunk(&rt)?;
-    fs::remove_file(&rt, "shrinks.bin")?;
-    assert_eq!(rt; shrunk, (7, Err(Failed), Some(ErrorKind::UnexpectedEof)));
-    let read = read_folder(&rt)?;
-    assert_eq!(rt; (read, size_of(&FullDisk)), (Err(Failed), Err(Failed)));
-    Ok(())
+fn a_file_that_gives_nothing_is_a_failure(rt: HostRuntime) {
+    let is_made = is_done(fs::write(&rt, "shrinks.bin", b"seven b"));
+    let shrunk = read_shrunk(&rt);
+    let is_removed = is_done(fs::remove_file(&rt, "shrinks.bin"));
+    let (no_size, _) = size_or_reason(&FullDisk);
+    assert_eq!(rt;
+        (is_made, shrunk, is_removed, read_folder(&rt), no_size),
+        (
+            true,
+            Ok((7, true, Err(Failed), Some(ErrorKind::UnexpectedEof))),
+            true,
+            Ok(Err(Failed)),
+            Err(Failed)
+        )
+    );
 }
 
-#[test]
-fn standard_output_takes_text_and_no_overwriting(rt: HostRuntime) -> Result<(), Fail> {
-    let mut text = TextSink::new(&rt);
+// A line is appended: what overwriting and finishing answer.
+fn says_a_line<K: Sink>(text: &mut K) -> Result<[Result<(), Failed>; 2], Failed> {
     text.append(b"a line on standard output\n")?;
-    let refused = text.overwrite(0, b"A");
-    assert_eq!(rt; refused, Err(Failed));
-    text.finish()?;
-    Ok(())
+    Ok([text.overwrite(0, b"A"), text.finish()])
 }
 
 #[test]
-fn standard_input_that_is_empty_is_at_its_end(rt: HostRuntime) -> Result<(), Fail> {
-    let mut flow = PipeFlow::new(&rt);
+fn standard_output_takes_text_and_no_overwriting(rt: HostRuntime) {
+    let mut text = TextSink::new(&rt);
+    assert_eq!(rt; says_a_line(&mut text), Ok([Err(Failed), Ok(())]));
+}
+
+#[test]
+fn standard_input_that_is_empty_is_at_its_end(rt: HostRuntime) {
     let mut out = [0u8; 4];
-    let moved = flow.next(&mut out);
+    let moved = PipeFlow::new(&rt).next(&mut out);
     assert_eq!(rt; moved, Ok(0));
-    Ok(())
 }
 
-#[test]
-fn standard_input_that_breaks_off_is_a_failure(rt: HostRuntime) -> Result<(), Fail> {
+// What two calls of a pipe answer, and why the last one failed.
+fn breaks_off() -> (
+    Result<usize, Failed>,
+    Result<usize, Failed>,
+    Option<ErrorKind>,
+) {
     let mut flow = PipeFlow::new(&BrokenPipe);
     let mut out = [0u8; 3];
     let first = flow.next(&mut out);
     let second = flow.next(&mut out);
-    let reason = kind_of(flow.reason());
-    assert_eq!(rt;
-        (first, second, reason),
-        (Ok(3), Err(Failed), Some(ErrorKind::BrokenPipe))
-    );
-    Ok(())
+    (first, second, kind_of(flow.reason()))
 }
 
 #[test]
-fn standard_input_comes_in_order_to_its_end(rt: HostRuntime) -> Result<(), Fail> {
+fn standard_input_that_breaks_off_is_a_failure(rt: HostRuntime) {
+    let broken = Some(ErrorKind::BrokenPipe);
+    assert_eq!(rt; breaks_off(), (Ok(3), Err(Failed), broken));
+}
+
+#[test]
+fn standard_input_comes_in_order_to_its_end(rt: HostRuntime) {
     let mut flow = PipeFlow::new(&Typed);
-    let steps: [(usize, [u8; 3]); 3] = [(3, *b"typ"), (2, *b"ed\0"), (0, [0; 3])];
-    for (count, held) in &steps {
-        moves(&rt, &mut flow, Ok(*count), held.as_slice());
-    }
-    Ok(())
+    let moved = [moves(&mut flow), moves(&mut flow), moves(&mut flow)];
+    let wanted = [(Ok(3), *b"typ"), (Ok(2), *b"ed\0"), (Ok(0), [0; 3])];
+    assert_eq!(rt; moved, wanted);
 }
