@@ -1,11 +1,11 @@
 // Frames that are cut out of a file of two, by their bytes. No frame is decoded, so that theirs may be any.
+ghost use Rattle.std.specs.Prelude.{◌≤◌};
+
 use dsdiff_chunks::{FileFault, OpenFault};
 use dst_cut::{Cut, CutFault, cut_file};
 use dst_streams::{HonestSource, MemorySink, MemorySource};
 use example_files::{SILENT, joined};
 use std::alloc::{AllocError, Global};
-use std::process::Abort;
-use std::test::Fail;
 
 // What stands behind the size of the form, up to the sound, and the last chunk, which lacks its pad byte.
 const OPENING: &[u8; 88] = b"DSD \
@@ -98,107 +98,148 @@ fn both_cut(alloc: Global) -> Result<Vec<u8>, AllocError> {
     )
 }
 
-// These frames of the file are written so.
-fn gives(
-    rt: &impl Abort,
+// The files that frames are cut out of and those that are written.
+#[derive(Clone, Copy)]
+enum Known {
+    Both,
+    BothCut,
+    First,
+    Second,
+}
+
+fn made(alloc: Global, file: Known) -> Result<Vec<u8>, AllocError> {
+    match file {
+        Known::Both => both(alloc),
+        Known::BothCut => both_cut(alloc),
+        Known::First => first_alone(alloc),
+        Known::Second => second_alone(alloc),
+    }
+}
+
+// What cutting frames out of a file answers, and whether these bytes are written.
+type Told = (Result<Cut, CutFault>, bool);
+
+fn cut_bytes(
     alloc: Global,
     file: &[u8],
     first: u32,
-    count: u32,
-    whole: &[u8],
-) -> Result<(), AllocError> {
+    last: u32,
+    wanted: &[u8],
+) -> Result<Told, AllocError>
+    requires { first ≤ last }
+{
     let mut source = HonestSource::new(file);
     let mut sink = MemorySink::new(alloc, 400, &[])?;
-    let last = first.saturating_add(count.saturating_sub(1));
     let answer = cut_file(alloc, &mut source, &mut sink, first, last);
-    assert_eq!(rt; answer, Ok(Cut { frames: count }));
-    assert!(rt; sink.written() == whole, "{count} frames from {first}");
-    Ok(())
+    Ok((answer, sink.written() == wanted))
 }
 
+// The same of so many frames from one on.
+fn cut(
+    alloc: Global,
+    file: Known,
+    first: u32,
+    count: u32,
+    wanted: Known,
+) -> Result<Told, AllocError> {
+    let file = made(alloc, file)?;
+    let wanted = made(alloc, wanted)?;
+    let last = first.saturating_add(count.saturating_sub(1));
+    cut_bytes(alloc, &file, first, last, &wanted)
+}
+
+// A file, the first frame that is cut out and how many, and the file that is written. A frame that stands alone is cut out of its file as it is.
+const CUTS: [(Known, u32, u32, Known); 7] = [
+    (Known::Both, 0, 2, Known::BothCut),
+    (Known::Both, 0, 1, Known::First),
+    (Known::Both, 1, 1, Known::Second),
+    (Known::BothCut, 0, 1, Known::First),
+    (Known::BothCut, 1, 1, Known::Second),
+    (Known::First, 0, 1, Known::First),
+    (Known::Second, 0, 1, Known::Second),
+];
+
 #[test]
-fn frames_are_cut_out(rt: HostRuntime) -> Result<(), Fail> {
-    let alloc = rt.alloc();
-    let first = first_alone(alloc)?;
-    let second = second_alone(alloc)?;
-    let file = both(alloc)?;
-    let cut = both_cut(alloc)?;
-    gives(&rt, alloc, &file, 0, 2, &cut)?;
-    for from in [file, cut] {
-        gives(&rt, alloc, &from, 0, 1, &first)?;
-        gives(&rt, alloc, &from, 1, 1, &second)?;
+fn frames_are_cut_out(rt: HostRuntime) {
+    for &(file, first, count, wanted) in &CUTS {
+        let told = cut(rt.alloc(), file, first, count, wanted);
+        let done = (Ok(Cut { frames: count }), true);
+        assert_eq!(rt; told, Ok(done), "{count} frames from {first}");
     }
-    // A frame that stands alone is cut out of its file as it is.
-    gives(&rt, alloc, &first, 0, 1, &first)?;
-    gives(&rt, alloc, &second, 0, 1, &second)?;
-    Ok(())
+}
+
+// Frames 1 and 2 of a file of two frames.
+fn cut_past(alloc: Global) -> Result<Told, AllocError> {
+    let file = both(alloc)?;
+    cut_bytes(alloc, &file, 1, 2, &[])
+}
+
+fn refused(fault: FileFault) -> Result<Told, AllocError> {
+    Ok((Err(CutFault::Source(OpenFault::File(fault))), true))
 }
 
 #[test]
-fn a_frame_past_the_last_is_refused(rt: HostRuntime) -> Result<(), Fail> {
-    let alloc = rt.alloc();
-    let file = both(alloc)?;
+fn a_frame_past_the_last_is_refused(rt: HostRuntime) {
     let past = FileFault::Range {
         asked: 2,
         frames: 2,
     };
-    let refused: [(&[u8], FileFault); 2] = [(&file, past), (SILENT, FileFault::NotCoded)];
-    for (file, fault) in refused {
-        let mut source = HonestSource::new(file);
-        let mut sink = MemorySink::new(alloc, 400, &[])?;
-        let answer = cut_file(alloc, &mut source, &mut sink, 1, 2);
-        assert_eq!(rt; answer, Err(CutFault::Source(OpenFault::File(fault))));
-        assert!(rt; sink.written().is_empty());
-    }
-    Ok(())
+    let told = [
+        cut_past(rt.alloc()),
+        cut_bytes(rt.alloc(), SILENT, 1, 2, &[]),
+    ];
+    assert_eq!(rt; told, [refused(past), refused(FileFault::NotCoded)]);
 }
 
 // More than the calls on a device in any of these runs.
 const CALLS: u64 = 100;
 
-#[test]
-fn a_read_that_fails_leaves_the_front_of_the_output(rt: HostRuntime) -> Result<(), Fail> {
-    let alloc = rt.alloc();
+// What cutting both frames out answers where these calls fail, whether a front of the whole file is written, and whether all of it.
+type Run = (Result<Cut, CutFault>, bool, bool);
+
+fn cut_over(
+    alloc: Global,
+    file: &[u8],
+    whole: &[u8],
+    reads: &[u64],
+    writes: &[u64],
+) -> Result<Run, AllocError> {
+    let mut source = MemorySource::new(file, &[], reads);
+    let mut sink = MemorySink::new(alloc, 400, writes)?;
+    let answer = cut_file(alloc, &mut source, &mut sink, 0, 1);
+    let written = sink.written();
+    Ok((answer, whole.starts_with(written), written == whole))
+}
+
+// A call that fails, a read or a write, is told by this fault and leaves a front of the whole file. Of the first call where that isn't so: whether
+// more than eight calls are before it, and its run.
+fn first_other(alloc: Global, is_read: bool, fault: CutFault) -> Result<(bool, Run), AllocError> {
     let file = both(alloc)?;
     let whole = both_cut(alloc)?;
-    let mut ended = CALLS;
     for call in 0..CALLS {
         let fails = [call];
-        let mut source = MemorySource::new(&file, &[], &fails);
-        let mut sink = MemorySink::new(alloc, 400, &[])?;
-        let answer = cut_file(alloc, &mut source, &mut sink, 0, 1);
-        if answer.is_ok() {
-            assert!(rt; sink.written() == whole.as_slice());
-            ended = call;
-            break;
+        let run = if is_read {
+            cut_over(alloc, &file, &whole, &fails, &[])?
+        } else {
+            cut_over(alloc, &file, &whole, &[], &fails)?
+        };
+        if run.0 != Err(fault) || !run.1 {
+            return Ok((8 < call, run));
         }
-        let failed = Err(CutFault::Source(OpenFault::Read));
-        assert_eq!(rt; answer, failed, "at call {call}");
-        assert!(rt; whole.starts_with(sink.written()), "at call {call}");
     }
-    assert!(rt; 8 < ended && ended < CALLS, "{ended} calls");
-    Ok(())
+    Ok((false, (Err(fault), false, false)))
+}
+
+const DONE: Run = (Ok(Cut { frames: 2 }), true, true);
+
+#[test]
+fn a_read_that_fails_leaves_the_front_of_the_output(rt: HostRuntime) {
+    let first = first_other(rt.alloc(), true, CutFault::Source(OpenFault::Read));
+    assert_eq!(rt; first, Ok((true, DONE)));
 }
 
 #[test]
-fn a_write_that_fails_leaves_the_front_of_the_output(rt: HostRuntime) -> Result<(), Fail> {
-    let alloc = rt.alloc();
-    let file = both(alloc)?;
-    let whole = both_cut(alloc)?;
-    let mut ended = CALLS;
-    for call in 0..CALLS {
-        let fails = [call];
-        let mut source = HonestSource::new(&file);
-        let mut sink = MemorySink::new(alloc, 400, &fails)?;
-        let answer = cut_file(alloc, &mut source, &mut sink, 0, 1);
-        if answer.is_ok() {
-            assert!(rt; sink.written() == whole.as_slice());
-            ended = call;
-            break;
-        }
-        assert_eq!(rt; answer, Err(CutFault::Write), "at call {call}");
-        assert!(rt; whole.starts_with(sink.written()), "at call {call}");
-    }
-    assert!(rt; 8 < ended && ended < CALLS, "{ended} calls");
-    Ok(())
+fn a_write_that_fails_leaves_the_front_of_the_output(rt: HostRuntime) {
+    let first = first_other(rt.alloc(), false, CutFault::Write);
+    assert_eq!(rt; first, Ok((true, DONE)));
 }
