@@ -1,0 +1,6 @@
+-- The plain file is settled with all its sound, or what failed is told.
+use Rattle.std.proofs.Common.{rules}
+use Rattle.dst_pipes.proofs.pipe.finish.Goals as goal
+
+pub returns-clause-settled : goal.returns-clause-settled
+returns-clause-settled c = search rules
