@@ -1,15 +1,13 @@
 // What no clause says: which calls of a device in memory fail, and what real files and streams do.
 ghost use Rattle.std.specs.Prelude.{◌≡◌, ◌≤◌, IsSome, OnOk};
 
-mod full_disk;
-mod small_steps;
+mod faulty;
 
 use dst_streams::{
     Failed, FileSink, FileSource, Flow, HonestSource, MemoryFlow, MemorySink, MemorySource,
     PipeFlow, ShortFlowSink, Sink, Source, TextSink,
 };
-use full_disk::FullDisk;
-use small_steps::{BrokenPipe, SmallSteps};
+use faulty::{BrokenPipe, Disk};
 use std::alloc::{AllocError, Allocator, Global};
 use std::fs::{self, Files};
 use std::io::{self, BufRead, ErrorKind, Input, Lines};
@@ -51,25 +49,23 @@ fn read_from<S: Source>(source: &mut S, place: u64) -> (Result<usize, Failed>, [
     (read, out)
 }
 
+// A place, the answer, and what is held then.
+const READS: [(u64, Result<usize, Failed>, [u8; 4]); 5] = [
+    (1, Ok(3), [2, 3, 4, 0]),
+    (1, Err(Failed), [0, 0, 0, 0]),
+    (4, Ok(1), [5, 0, 0, 0]),
+    (0, Ok(1), [1, 0, 0, 0]),
+    (5, Ok(0), [0, 0, 0, 0]),
+];
+
 #[test]
 fn a_source_in_memory_gives_its_pieces_and_fails_as_planned(rt: HostRuntime) {
     let mut source = MemorySource::new(&[1, 2, 3, 4, 5], &[3, 0], &[0, 3]);
     let sizes = (source.size(), source.size());
-    let reads = [
-        read_from(&mut source, 1),
-        read_from(&mut source, 1),
-        read_from(&mut source, 4),
-        read_from(&mut source, 0),
-        read_from(&mut source, 5),
-    ];
-    let wanted = [
-        (Ok(3), [2, 3, 4, 0]),
-        (Err(Failed), [0, 0, 0, 0]),
-        (Ok(1), [5, 0, 0, 0]),
-        (Ok(1), [1, 0, 0, 0]),
-        (Ok(0), [0, 0, 0, 0]),
-    ];
-    assert_eq!(rt; (sizes, reads), ((Err(Failed), Ok(5)), wanted));
+    assert_eq!(rt; sizes, (Err(Failed), Ok(5)));
+    for &(place, answer, held) in &READS {
+        assert_eq!(rt; read_from(&mut source, place), (answer, held), "at {place}");
+    }
 }
 
 #[test]
@@ -184,26 +180,22 @@ fn moves<F: Flow>(flow: &mut F) -> (Result<usize, Failed>, [u8; 3]) {
     (moved, out)
 }
 
+// What a flow gives in order, and what is held then.
+const PIECES: [(Result<usize, Failed>, [u8; 3]); 6] = [
+    (Ok(2), [1, 2, 0]),
+    (Ok(1), [3, 0, 0]),
+    (Err(Failed), [0, 0, 0]),
+    (Ok(1), [4, 0, 0]),
+    (Ok(2), [5, 6, 0]),
+    (Ok(0), [0, 0, 0]),
+];
+
 #[test]
 fn a_flow_in_memory_moves_its_pieces(rt: HostRuntime) {
     let mut flow = MemoryFlow::new(&[1, 2, 3, 4, 5, 6], &[2, 0], &[2]);
-    let moved = [
-        moves(&mut flow),
-        moves(&mut flow),
-        moves(&mut flow),
-        moves(&mut flow),
-        moves(&mut flow),
-        moves(&mut flow),
-    ];
-    let wanted = [
-        (Ok(2), [1, 2, 0]),
-        (Ok(1), [3, 0, 0]),
-        (Err(Failed), [0, 0, 0]),
-        (Ok(1), [4, 0, 0]),
-        (Ok(2), [5, 6, 0]),
-        (Ok(0), [0, 0, 0]),
-    ];
-    assert_eq!(rt; moved, wanted);
+    for &wanted in &PIECES {
+        assert_eq!(rt; moves(&mut flow), wanted);
+    }
 }
 
 // Whether the system did what it was asked.
@@ -262,7 +254,7 @@ fn written_in_parts<D: Files>(disk: &D) -> Result<(), Failed> {
 #[test]
 fn a_piece_that_is_taken_in_parts_is_written_whole(rt: HostRuntime) {
     let _is_gone = is_done(fs::remove_file(&rt, "parts.bin"));
-    let written = written_in_parts(&SmallSteps { rt: &rt });
+    let written = written_in_parts(&Disk::SmallSteps(&rt));
     let is_held = holds(&rt, "parts.bin", b"seven BYTES");
     assert_eq!(rt; (written, is_held), (Ok(()), true));
 }
@@ -276,7 +268,7 @@ fn finishes<D: Files>(disk: &D) -> [Result<(), Failed>; 3] {
 
 #[test]
 fn a_file_that_the_disk_refuses_is_a_failure(rt: HostRuntime) {
-    assert_eq!(rt; finishes(&FullDisk), [Ok(()), Ok(()), Err(Failed)]);
+    assert_eq!(rt; finishes(&Disk::Full), [Ok(()), Ok(()), Err(Failed)]);
 }
 
 // The size of a file, what reading answers from byte 2 on and behind its end, and the bytes from byte 2 on.
@@ -339,7 +331,7 @@ fn a_file_that_gives_nothing_is_a_failure(rt: HostRuntime) {
     let is_made = is_done(fs::write(&rt, "shrinks.bin", b"seven b"));
     let shrunk = read_shrunk(&rt);
     let is_removed = is_done(fs::remove_file(&rt, "shrinks.bin"));
-    let (no_size, _) = size_or_reason(&FullDisk);
+    let (no_size, _) = size_or_reason(&Disk::Full);
     assert_eq!(rt;
         (is_made, shrunk, is_removed, read_folder(&rt), no_size),
         (
@@ -390,10 +382,17 @@ fn standard_input_that_breaks_off_is_a_failure(rt: HostRuntime) {
     assert_eq!(rt; breaks_off(), (Ok(3), Err(Failed), broken));
 }
 
+// What a pipe of five bytes gives, and what is held then.
+const TYPED: [(Result<usize, Failed>, [u8; 3]); 3] = [
+    (Ok(3), *b"typ"),
+    (Ok(2), *b"ed\0"),
+    (Ok(0), [0; 3]),
+];
+
 #[test]
 fn standard_input_comes_in_order_to_its_end(rt: HostRuntime) {
     let mut flow = PipeFlow::new(&Typed);
-    let moved = [moves(&mut flow), moves(&mut flow), moves(&mut flow)];
-    let wanted = [(Ok(3), *b"typ"), (Ok(2), *b"ed\0"), (Ok(0), [0; 3])];
-    assert_eq!(rt; moved, wanted);
+    for &wanted in &TYPED {
+        assert_eq!(rt; moves(&mut flow), wanted);
+    }
 }

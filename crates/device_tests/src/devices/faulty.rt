@@ -1,57 +1,88 @@
-// Devices that do less than they are asked: a disk that takes three bytes at a time, and a pipe that breaks.
+// Devices that do less than they are asked: a disk that takes three bytes at a time, one that keeps nothing, and a pipe that breaks.
 use std::alloc::Allocator;
 use std::fs::{File, Files, Metadata, OpenFile, OpenOptions};
 use std::io::{self, BufRead, ErrorKind, Input, Lines, Read, Seek, SeekFrom, Write};
 
-/// The system's files, of which each write takes three bytes at most.
+/// Disks that do less than they are asked.
 #[derive(Clone, Copy)]
-pub(super) struct SmallSteps<'r> {
-    pub(super) rt: &'r HostRuntime,
+pub(super) enum Disk<'r> {
+    /// The system's files, of which each write takes three bytes at most.
+    SmallSteps(&'r HostRuntime),
+    /// Files that are made and written, and can't be put on the disk.
+    Full,
 }
 
-/// One of its files.
+/// One of their files; None on the full disk.
 #[derive(Drop)]
-pub(super) struct SmallStepFile {
-    file: File,
+pub(super) struct DiskFile {
+    file: Option<File>,
 }
 
-impl Read for SmallStepFile {
+fn refused() -> io::Error {
+    io::Error::from(ErrorKind::StorageFull)
+}
+
+impl Read for DiskFile {
     fn read(&mut self, out: &mut [u8]) -> io::Result<usize> {
-        self.file.read(out)
+        match &mut self.file {
+            Some(file) => file.read(out),
+            None => Ok(0),
+        }
     }
 }
 
-impl Write for SmallStepFile {
+impl Write for DiskFile {
     fn write(&mut self, piece: &[u8]) -> io::Result<usize> {
-        self.file.write(&piece[..piece.len().min(3)])
+        match &mut self.file {
+            Some(file) => file.write(&piece[..piece.len().min(3)]),
+            None => Ok(piece.len()),
+        }
     }
 
     fn flush(&mut self) -> io::Result<()> {
-        self.file.flush()
+        match &mut self.file {
+            Some(file) => file.flush(),
+            None => Ok(()),
+        }
     }
 }
 
-impl Seek for SmallStepFile {
+impl Seek for DiskFile {
     fn seek(&mut self, to: SeekFrom) -> io::Result<u64> {
-        self.file.seek(to)
+        match &mut self.file {
+            Some(file) => file.seek(to),
+            None => Ok(0),
+        }
     }
 }
 
-impl OpenFile for SmallStepFile {
+impl OpenFile for DiskFile {
     fn metadata(&self) -> io::Result<Metadata> {
-        self.file.metadata()
+        match &self.file {
+            Some(file) => file.metadata(),
+            None => Err(refused()),
+        }
     }
 
     fn set_len(&self, size: u64) -> io::Result<()> {
-        self.file.set_len(size)
+        match &self.file {
+            Some(file) => file.set_len(size),
+            None => Err(refused()),
+        }
     }
 
     fn sync_all(&self) -> io::Result<()> {
-        self.file.sync_all()
+        match &self.file {
+            Some(file) => file.sync_all(),
+            None => Err(refused()),
+        }
     }
 
     fn sync_data(&self) -> io::Result<()> {
-        self.file.sync_data()
+        match &self.file {
+            Some(file) => file.sync_data(),
+            None => Err(refused()),
+        }
     }
 }
 
@@ -59,15 +90,17 @@ fn unasked() -> io::Error {
     ErrorKind::Unsupported.into()
 }
 
-impl<'r> Files for SmallSteps<'r> {
-    type File = SmallStepFile;
+impl<'r> Files for Disk<'r> {
+    type File = DiskFile;
 
     type Dir = &'static [u8];
 
-    fn open_file(&self, how: &OpenOptions, path: &str) -> io::Result<SmallStepFile> {
-        Ok(SmallStepFile {
-            file: self.rt.open_file(how, path)?,
-        })
+    fn open_file(&self, how: &OpenOptions, path: &str) -> io::Result<DiskFile> {
+        let file = match self {
+            Disk::SmallSteps(rt) => Some(rt.open_file(how, path)?),
+            Disk::Full => None,
+        };
+        Ok(DiskFile { file })
     }
 
     fn open_dir(&self, _path: &str) -> io::Result<&'static [u8]> {
