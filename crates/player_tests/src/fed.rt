@@ -1,7 +1,7 @@
 // The file of one frame, in pieces.
 use push_decoder::uses::{Player, play_piece};
 use push_decoder::{FileFault, PushDecoder, Step};
-use std::test::Fail;
+use std::alloc::{AllocError, Global};
 
 // One frame FC 00 00 05 FF F8 of one channel, in 158 bytes.
 const FILE: &[u8; 158] = b"FRM8\0\0\0\0\0\0\0\x92DSD \
@@ -75,60 +75,80 @@ fn head_of_file(decoder: &mut PushDecoder) -> (usize, u32, u32, u32) {
     }
 }
 
+// What feeding a file answers, how many frames are played, the last of them, and what closing answers.
+type Fed = (Result<bool, FileFault>, u32, [u8; 6], Result<(), FileFault>);
+
+// The file is fed in pieces of so many bytes.
+fn fed_in_pieces(alloc: Global, size: usize) -> Result<Fed, AllocError> {
+    let mut decoder = PushDecoder::new(alloc)?;
+    let mut tape = empty_tape();
+    let ended = feed(&mut decoder, size, &mut tape);
+    Ok((ended, tape.frames, tape.bytes, decoder.close()))
+}
+
+// The file is fed in two pieces, the first of so many bytes.
+fn fed_in_two(alloc: Global, cut: usize) -> Result<Fed, AllocError> {
+    let mut decoder = PushDecoder::new(alloc)?;
+    let mut tape = empty_tape();
+    let ended = feed_two(&mut decoder, cut, &mut tape);
+    Ok((ended, tape.frames, tape.bytes, decoder.close()))
+}
+
+const ONE_FRAME: Fed = (Ok(true), 1, *b"\xfc\0\0\x05\xff\xf8", Ok(()));
+
 #[test]
-fn a_file_in_pieces_of_any_size_has_one_frame(rt: HostRuntime) -> Result<(), Fail> {
-    for size in [1, 7, 158] {
-        let mut decoder = PushDecoder::new(rt.alloc())?;
-        let mut tape = empty_tape();
-        let ended = feed(&mut decoder, size, &mut tape);
-        assert_eq!(rt; ended, Ok(true));
-        assert_eq!(rt; tape.frames, 1);
-        assert_eq!(rt; tape.bytes, *b"\xfc\0\0\x05\xff\xf8");
-        assert_eq!(rt; decoder.close(), Ok(()));
+fn a_file_in_pieces_of_any_size_has_one_frame(rt: HostRuntime) {
+    for size in [1usize, 7, 158] {
+        let fed = fed_in_pieces(rt.alloc(), size);
+        assert_eq!(rt; fed, Ok(ONE_FRAME), "pieces of {size}");
     }
-    Ok(())
 }
 
 #[test]
-fn a_file_cut_in_two_at_any_place_has_one_frame(rt: HostRuntime) -> Result<(), Fail> {
+fn a_file_cut_in_two_at_any_place_has_one_frame(rt: HostRuntime) {
     for cut in 0..159usize {
-        let mut decoder = PushDecoder::new(rt.alloc())?;
-        let mut tape = empty_tape();
-        let ended = feed_two(&mut decoder, cut, &mut tape);
-        assert_eq!(rt; ended, Ok(true), "cut at {cut}");
-        assert_eq!(rt; tape.frames, 1, "cut at {cut}");
-        assert_eq!(rt; tape.bytes, *b"\xfc\0\0\x05\xff\xf8");
-        assert_eq!(rt; decoder.close(), Ok(()));
+        let fed = fed_in_two(rt.alloc(), cut);
+        assert_eq!(rt; fed, Ok(ONE_FRAME), "cut at {cut}");
     }
-    Ok(())
 }
 
-#[test]
-fn a_stream_that_is_cut_off_is_told_by_its_chunk(rt: HostRuntime) -> Result<(), Fail> {
-    let cases = [
-        (15, FileFault::NotForm),
-        (110, FileFault::Overrun { place: 110 }),
-        (157, FileFault::Overrun { place: 140 }),
-    ];
-    for (length, fault) in cases {
-        let mut decoder = PushDecoder::new(rt.alloc())?;
-        let mut tape = empty_tape();
-        let file = FILE.as_slice();
-        let played = play_piece(&mut decoder, &file[..length], &mut tape);
-        assert_eq!(rt; played, Ok(false));
-        assert_eq!(rt; tape.frames, 0);
-        assert_eq!(rt; decoder.close(), Err(fault));
-    }
-    Ok(())
+// What feeding so many bytes of the file answers, how many frames are played, and what closing answers.
+type CutOff = (Result<bool, FileFault>, u32, Result<(), FileFault>);
+
+fn cut_off(alloc: Global, length: usize) -> Result<CutOff, AllocError> {
+    let mut decoder = PushDecoder::new(alloc)?;
+    let mut tape = empty_tape();
+    let file = FILE.as_slice();
+    let played = play_piece(&mut decoder, &file[..length.min(158)], &mut tape);
+    Ok((played, tape.frames, decoder.close()))
 }
 
+const CUT_OFF: [(usize, FileFault); 3] = [
+    (15, FileFault::NotForm),
+    (110, FileFault::Overrun { place: 110 }),
+    (157, FileFault::Overrun { place: 140 }),
+];
+
 #[test]
-fn the_head_tells_channels_and_frames(rt: HostRuntime) -> Result<(), Fail> {
-    let mut decoder = PushDecoder::new(rt.alloc())?;
+fn a_stream_that_is_cut_off_is_told_by_its_chunk(rt: HostRuntime) {
+    for &(length, fault) in &CUT_OFF {
+        let wanted = (Ok(false), 0, Err(fault));
+        assert_eq!(rt; cut_off(rt.alloc(), length), Ok(wanted));
+    }
+}
+
+// What the first event tells, and whether the bodies of `FVER` and `PROP` are those of the file.
+type Head = ((usize, u32, u32, u32), [bool; 2]);
+
+fn head(alloc: Global) -> Result<Head, AllocError> {
+    let mut decoder = PushDecoder::new(alloc)?;
     let file = FILE.as_slice();
     let told = head_of_file(&mut decoder);
-    assert_eq!(rt; told, (140, 1, 1, 1));
-    assert_eq!(rt; decoder.version(), [1, 5, 0, 0].as_slice());
-    assert_eq!(rt; decoder.prop(), &file[44..110]);
-    Ok(())
+    let is_version = decoder.version() == [1, 5, 0, 0].as_slice();
+    Ok((told, [is_version, decoder.prop() == &file[44..110]]))
+}
+
+#[test]
+fn the_head_tells_channels_and_frames(rt: HostRuntime) {
+    assert_eq!(rt; head(rt.alloc()), Ok(((140, 1, 1, 1), [true; 2])));
 }

@@ -7,7 +7,6 @@ use dst_streams::{HonestSource, Source};
 use frame_cache::{RangeFault, RangeReader, Reading};
 use frame_index::walk;
 use std::alloc::Global;
-use std::test::Fail;
 
 // Three frames of one channel, whose bodies stand at places 140, 158 and 176. The first means bytes FF, the second 00, the third AA.
 const THREE_FRAMES: [u8; 182] =
@@ -29,12 +28,14 @@ fn byte_at<S: Source>(reader: &mut RangeReader, source: &mut S, from: u64) -> By
 }
 
 // Three bytes of a file's sound, read one after the other, and the order behind them.
+type ThreeBytes = ([Byte; 3], [Option<u32>; 3]);
+
 fn three_bytes(
     alloc: Global,
     file: &[u8],
     capacity: u32,
     places: [u64; 3],
-) -> Result<([Byte; 3], [Option<u32>; 3]), OpenFault>
+) -> Result<ThreeBytes, OpenFault>
     requires least { 1 ≤ capacity }
     requires most { capacity ≤ 64 }
 {
@@ -57,56 +58,61 @@ fn three_bytes(
 }
 
 #[test]
-fn one_frame_is_kept(rt: HostRuntime) -> Result<(), Fail> {
-    let (bytes, order) = three_bytes(rt.alloc(), &THREE_FRAMES, 1, [0, 9_408, 1])?;
-    assert_eq!(rt; bytes, [Ok((0xff, 1)), Ok((0xaa, 1)), Ok((0xff, 1))]);
-    assert_eq!(rt; order, [Some(0), None, None]);
-    Ok(())
+fn one_frame_is_kept(rt: HostRuntime) {
+    let told = three_bytes(rt.alloc(), &THREE_FRAMES, 1, [0, 9_408, 1]);
+    let bytes = [Ok((0xff, 1)), Ok((0xaa, 1)), Ok((0xff, 1))];
+    assert_eq!(rt; told, Ok((bytes, [Some(0), None, None])));
 }
 
 #[test]
-fn two_frames_are_kept(rt: HostRuntime) -> Result<(), Fail> {
-    let (bytes, order) = three_bytes(rt.alloc(), &THREE_FRAMES, 2, [0, 9_408, 1])?;
-    assert_eq!(rt; bytes, [Ok((0xff, 1)), Ok((0xaa, 1)), Ok((0xff, 0))]);
-    assert_eq!(rt; order, [Some(0), Some(2), None]);
-    Ok(())
+fn two_frames_are_kept(rt: HostRuntime) {
+    let told = three_bytes(rt.alloc(), &THREE_FRAMES, 2, [0, 9_408, 1]);
+    let bytes = [Ok((0xff, 1)), Ok((0xaa, 1)), Ok((0xff, 0))];
+    assert_eq!(rt; told, Ok((bytes, [Some(0), Some(2), None])));
 }
 
 #[test]
-fn a_refused_frame_leaves_the_reader_serving(rt: HostRuntime) -> Result<(), Fail> {
+fn a_refused_frame_leaves_the_reader_serving(rt: HostRuntime) {
     let mut file = THREE_FRAMES;
     file[158] = 0xe0;
-    let (bytes, order) = three_bytes(rt.alloc(), &file, 64, [0, 4_704, 9_408])?;
+    let told = three_bytes(rt.alloc(), &file, 64, [0, 4_704, 9_408]);
     let fault = FrameFault {
         reason: Reason::MultiSegment,
         bit: 3,
     };
     let refused = RangeFault::Frame { frame: 1, fault };
-    assert_eq!(rt; bytes, [Ok((0xff, 1)), Err(refused), Ok((0xaa, 1))]);
-    assert_eq!(rt; order, [Some(2), Some(0), None]);
-    Ok(())
+    let bytes = [Ok((0xff, 1)), Err(refused), Ok((0xaa, 1))];
+    assert_eq!(rt; told, Ok((bytes, [Some(2), Some(0), None])));
+}
+
+// The size of the sound, what reading a part of all three frames answers, and two bytes at each of its ends.
+type Part = (u64, Option<Result<Reading, RangeFault>>, [u8; 4]);
+
+fn part_of_three(alloc: Global) -> Result<Part, OpenFault> {
+    let mut source = HonestSource::new(&THREE_FRAMES);
+    let Form::Coded(form) = open_form(alloc, &mut source)? else {
+        return Err(OpenFault::File(FileFault::NotCoded));
+    };
+    let index = walk(alloc, &mut source, &form)?;
+    let mut reader = match RangeReader::new(alloc, &form, index, 64) {
+        Ok(reader) => reader,
+        Err(refused) => return Err(OpenFault::Memory(refused)),
+    };
+    let size = reader.size();
+    let mut part = [1; 4_706];
+    let reading = if size >= 9_409 {
+        Some(reader.read(&mut source, 4_703, &mut part))
+    } else {
+        None
+    };
+    Ok((size, reading, [part[0], part[1], part[4_704], part[4_705]]))
 }
 
 #[test]
-fn a_part_of_three_frames(rt: HostRuntime) -> Result<(), Fail> {
-    let alloc = rt.alloc();
-    let mut source = HonestSource::new(&THREE_FRAMES);
-    let Ok(Form::Coded(form)) = open_form(alloc, &mut source) else {
-        return Err(Fail::new("no form"));
-    };
-    let Ok(index) = walk(alloc, &mut source, &form) else {
-        return Err(Fail::new("no form"));
-    };
-    let mut reader = RangeReader::new(alloc, &form, index, 64)?;
-    assert_eq!(rt; reader.size(), 14_112);
-    let mut part = [1; 4_706];
-    if reader.size() >= 9_409 {
-        let reading = reader.read(&mut source, 4_703, &mut part);
-        assert_eq!(rt; reading, Ok(Reading { decoded: 3 }));
-    }
+fn a_part_of_three_frames(rt: HostRuntime) {
+    let reading = Some(Ok(Reading { decoded: 3 }));
     assert_eq!(rt;
-        (part[0], part[1], part[4_704], part[4_705]),
-        (0xff, 0, 0, 0xaa)
+        part_of_three(rt.alloc()),
+        Ok((14_112, reading, [0xff, 0, 0, 0xaa]))
     );
-    Ok(())
 }

@@ -2,8 +2,6 @@
 use dst_streams::{MemoryFlow, MemorySink};
 use pipe_tool::dst_pipe;
 use std::alloc::{AllocError, Global};
-use std::process::Abort;
-use std::test::Fail;
 
 // One frame FC 00 00 05 FF F8 of one channel, in 158 bytes: 4,704 bytes of sound behind 126 bytes of head.
 const FILE: &[u8; 158] = b"FRM8\0\0\0\0\0\0\0\x92DSD \
@@ -33,62 +31,6 @@ fn split(alloc: Global, text: &str) -> Result<Vec<String>, AllocError> {
     Ok(words)
 }
 
-// The status, how many bytes are written, and the line, in pieces of several sizes.
-fn gives(
-    rt: &impl Abort,
-    alloc: Global,
-    text: &str,
-    stream: &[u8],
-    wanted: (u8, usize, &str),
-) -> Result<(), AllocError> {
-    let words = split(alloc, text)?;
-    let pieces: [&[usize]; 4] = [&[], &[1], &[7], &[5, 64, 1]];
-    let (status, length, line) = wanted;
-    for pieces in &pieces {
-        let mut flow = MemoryFlow::new(stream, pieces, &[]);
-        let mut sink = MemorySink::new(alloc, 10_000, &[])?;
-        let mut report = MemorySink::new(alloc, 200, &[])?;
-        let answer = dst_pipe(alloc, &words, &mut flow, &mut sink, &mut report);
-        assert!(rt;
-            report.written() == line.as_bytes(),
-            "{text}: the report of {line}"
-        );
-        assert_eq!(rt; answer, status, "{text}: the status of {line}");
-        assert_eq!(rt;
-            sink.written().len(),
-            length,
-            "{text}: the output of {line}"
-        );
-    }
-    Ok(())
-}
-
-#[test]
-fn a_stream_is_decoded_in_pieces_of_any_size(rt: HostRuntime) -> Result<(), Fail> {
-    let alloc = rt.alloc();
-    let two = two_frames(alloc)?;
-    let file = FILE.as_slice();
-    let mut refused = *FILE;
-    refused[157] = 0xfc;
-    let out = "pipe out.dff";
-    let cut = "file refused: 3 Overrun 140\n";
-    let at_fault = "frame 0 refused: 9 FirstCodeBit at bit 45\n";
-    let cases: [(&str, &[u8], u8, usize, &str); 8] = [
-        (out, file, 0, 4_830, "decoded 1 frames into 4704 bytes\n"),
-        (out, &two, 0, 9_534, "decoded 2 frames into 9408 bytes\n"),
-        (out, &file[..157], 5, 126, cut),
-        (out, &file[..15], 5, 0, "file refused: 1 NotForm\n"),
-        (out, &refused, 6, 126, at_fault),
-        (out, PLAIN, 5, 0, "file refused: 27 NotCoded\n"),
-        ("pipe", file, 1, 0, "words not understood\n"),
-        ("pipe in.dff out.dff", file, 1, 0, "words not understood\n"),
-    ];
-    for (text, stream, status, length, line) in &cases {
-        gives(&rt, alloc, text, stream, (*status, *length, line))?;
-    }
-    Ok(())
-}
-
 // The file of the frame twice.
 fn two_frames(alloc: Global) -> Result<Vec<u8>, AllocError> {
     let mut first = *FILE;
@@ -103,4 +45,103 @@ fn two_frames(alloc: Global) -> Result<Vec<u8>, AllocError> {
         two.push(*byte)?;
     }
     Ok(two)
+}
+
+// The streams that are decoded.
+#[derive(Clone, Copy)]
+enum Stream {
+    // So many bytes of the file.
+    Front(usize),
+    // The file whose last byte makes its frame a wrong one.
+    Wrong,
+    // The file of the frame twice.
+    Two,
+    // A plain file.
+    Plain,
+}
+
+fn made(alloc: Global, stream: Stream) -> Result<Vec<u8>, AllocError> {
+    match stream {
+        Stream::Front(length) => FILE[..length.min(158)].to_vec(alloc),
+        Stream::Wrong => {
+            let mut wrong = *FILE;
+            wrong[157] = 0xfc;
+            wrong.to_vec(alloc)
+        }
+        Stream::Two => two_frames(alloc),
+        Stream::Plain => PLAIN.to_vec(alloc),
+    }
+}
+
+// The status, how many bytes are written, and whether the report is this line.
+type Told = (u8, usize, bool);
+
+fn piped(
+    alloc: Global,
+    text: &str,
+    stream: &[u8],
+    pieces: &[usize],
+    line: &str,
+) -> Result<Told, AllocError> {
+    let words = split(alloc, text)?;
+    let mut flow = MemoryFlow::new(stream, pieces, &[]);
+    let mut sink = MemorySink::new(alloc, 10_000, &[])?;
+    let mut report = MemorySink::new(alloc, 200, &[])?;
+    let status = dst_pipe(alloc, &words, &mut flow, &mut sink, &mut report);
+    let is_reported = report.written() == line.as_bytes();
+    Ok((status, sink.written().len(), is_reported))
+}
+
+// The same in pieces of several sizes.
+type AllTold = [Result<Told, AllocError>; 4];
+
+fn all_piped(alloc: Global, text: &str, stream: Stream, line: &str) -> Result<AllTold, AllocError> {
+    let stream = made(alloc, stream)?;
+    Ok([
+        piped(alloc, text, &stream, &[], line),
+        piped(alloc, text, &stream, &[1], line),
+        piped(alloc, text, &stream, &[7], line),
+        piped(alloc, text, &stream, &[5, 64, 1], line),
+    ])
+}
+
+const OUT: &str = "pipe out.dff";
+
+const CUT: &str = "file refused: 3 Overrun 140\n";
+
+const AT_FAULT: &str = "frame 0 refused: 9 FirstCodeBit at bit 45\n";
+
+const WORDS: &str = "words not understood\n";
+
+// Words, a stream, the status, how many bytes are written, and the line.
+const ROWS: [(&str, Stream, u8, usize, &str); 8] = [
+    (
+        OUT,
+        Stream::Front(158),
+        0,
+        4_830,
+        "decoded 1 frames into 4704 bytes\n",
+    ),
+    (
+        OUT,
+        Stream::Two,
+        0,
+        9_534,
+        "decoded 2 frames into 9408 bytes\n",
+    ),
+    (OUT, Stream::Front(157), 5, 126, CUT),
+    (OUT, Stream::Front(15), 5, 0, "file refused: 1 NotForm\n"),
+    (OUT, Stream::Wrong, 6, 126, AT_FAULT),
+    (OUT, Stream::Plain, 5, 0, "file refused: 27 NotCoded\n"),
+    ("pipe", Stream::Front(158), 1, 0, WORDS),
+    ("pipe in.dff out.dff", Stream::Front(158), 1, 0, WORDS),
+];
+
+#[test]
+fn a_stream_is_decoded_in_pieces_of_any_size(rt: HostRuntime) {
+    for &(text, stream, status, length, line) in &ROWS {
+        let told = all_piped(rt.alloc(), text, stream, line);
+        let wanted = [Ok((status, length, true)); 4];
+        assert_eq!(rt; told, Ok(wanted), "{text}: {line}");
+    }
 }
