@@ -13,13 +13,22 @@ fn numbers_are_put_behind_each_other(rt: HostRuntime) -> Result<(), Fail> {
         writer.put(1, 9),
         writer.put(3, 2),
     ];
-    assert_eq!(rt; put, [true, true, true, true, false, true]);
-    assert_eq!(rt; (writer.length(), writer.room()), (18, 6));
+    let before = (writer.length(), writer.room());
     writer.finish();
     // 101 1001 110101011 11 000000
     assert_eq!(rt;
-        (writer.length(), writer.room(), writer.bytes()),
-        (24, 0, [0xb3, 0xab, 0xc0].as_slice())
+        (
+            put,
+            before,
+            (writer.length(), writer.room()),
+            writer.bytes(),
+        ),
+        (
+            [true, true, true, true, false, true],
+            (18, 6),
+            (24, 0),
+            [0xb3, 0xab, 0xc0].as_slice(),
+        )
     );
     Ok(())
 }
@@ -27,21 +36,29 @@ fn numbers_are_put_behind_each_other(rt: HostRuntime) -> Result<(), Fail> {
 #[test]
 fn numbers_are_read_behind_each_other(rt: HostRuntime) -> Result<(), Fail> {
     let mut reader = BitReader::new(&[0xb3, 0xab, 0xc0]);
-    let read = (reader.read(3), reader.read_signed(4));
-    assert_eq!(rt;
-        (read, reader.place(), reader.left()),
-        ((Some(5), Some(-7)), 7, 17)
+    let read = (
+        reader.read(3),
+        reader.read_signed(4),
+        reader.place(),
+        reader.left(),
     );
-    let past = (reader.read(18), reader.read_signed(18));
-    assert_eq!(rt;
-        (past, reader.place(), reader.left()),
-        ((None, None), 7, 17)
+    let past = (
+        reader.read(18),
+        reader.read_signed(18),
+        reader.place(),
+        reader.left(),
     );
     let rest = reader.rest();
-    assert_eq!(rt; (rest.first, rest.bytes.len()), (7, 3));
+    let behind = (rest.first, rest.bytes.len());
+    let padded = (reader.read_or_zero(32), reader.place(), reader.left());
     assert_eq!(rt;
-        (reader.read_or_zero(32), reader.place(), reader.left()),
-        (0xd5e0_0000, 39, 0)
+        (read, past, behind, padded),
+        (
+            (Some(5), Some(-7), 7, 17),
+            (None, None, 7, 17),
+            (7, 3),
+            (0xd5e0_0000, 39, 0),
+        )
     );
     Ok(())
 }
@@ -97,9 +114,12 @@ fn cleared_writers_begin_anew(rt: HostRuntime) -> Result<(), Fail> {
     let mut writer = BitWriter::new(rt.alloc(), 2)?;
     let before = writer.put(0x7ff, 11);
     writer.clear();
-    assert_eq!(rt; (before, writer.length(), writer.room()), (true, 0, 16));
+    let cleared = (writer.length(), writer.room());
     let anew = writer.put(0x8001, 16);
     writer.finish();
-    assert_eq!(rt; (anew, writer.bytes()), (true, [0x80, 0x01].as_slice()));
+    assert_eq!(rt;
+        (before, cleared, anew, writer.bytes()),
+        (true, (0, 16), true, [0x80, 0x01].as_slice())
+    );
     Ok(())
 }

@@ -6,19 +6,18 @@ use channel_params::{
 use dst_num::{FilterTable, Map, Params, ProbTable};
 use std::test::Fail;
 
-// Two channels of one filter and one table, whose half bits are 0 and this one.
-fn two_channels(coef: i16, second: bool) -> Result<Params, Fail> {
-    let filter_map = Map::new(&[0, 0]).ok_or("filters")?;
-    let prob_map = Map::new(&[0, 0]).ok_or("probabilities")?;
+// Two channels of one filter and one table, whose half bits are 0 and this one, where they can be.
+fn two_channels(coef: i16, second: bool) -> Option<Params> {
+    let filter_map = Map::new(&[0, 0])?;
+    let prob_map = Map::new(&[0, 0])?;
     let mut half_prob = ArrayVec::new();
     half_prob.push(false);
     half_prob.push(second);
     let mut filters = ArrayVec::new();
-    filters.push(FilterTable::new(&[coef, -1]).ok_or("a filter")?);
+    filters.push(FilterTable::new(&[coef, -1])?);
     let mut probs = ArrayVec::new();
-    probs.push(ProbTable::new(&[7, 128]).ok_or("a table")?);
-    let params = Params::new(filter_map, prob_map, half_prob, filters, probs);
-    Ok(params.ok_or("parameters")?)
+    probs.push(ProbTable::new(&[7, 128])?);
+    Params::new(filter_map, prob_map, half_prob, filters, probs)
 }
 
 #[test]
@@ -31,7 +30,7 @@ fn channels_have_their_tables(rt: HostRuntime) -> Result<(), Fail> {
         (8, true, 1, 9),
     ];
     for &(coef, second, alike, reserved) in &CASES {
-        let params = two_channels(coef, second)?;
+        let params = two_channels(coef, second).ok_or("parameters")?;
         if params.half_prob.len() != 2 {
             return Err("two channels")?;
         }

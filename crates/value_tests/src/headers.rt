@@ -1,7 +1,10 @@
 // Headers of worked frames, the faults of others, and the parts that are lent.
+ghost use Rattle.std.specs.Prelude.{◌≤◌, length};
+
 use bit_io::{BitReader, BitWriter};
 use dst_num::{Channels, FrameFault, Params, Reason};
 use frame_header::{FrameView, laws, read_header, view_frame, write_header};
+use std::alloc::{AllocError, Global};
 use std::test::Fail;
 
 // One channel, whose filter is coefficient 0 and whose probabilities are 128 and 128; the code begins at bit 45.
@@ -18,6 +21,25 @@ fn has_tables(params: &Params, coefs: &[i16], entries: &[u8]) -> bool {
         && filters[0].coefs() == coefs
         && probs.len() == 1
         && probs[0].entries() == entries
+}
+
+// Where the code of a coded frame begins, whether the whole frame is lent for it, and whether its tables are these.
+fn code_behind(
+    frame: &[u8],
+    channels: Channels,
+    coefs: &[i16],
+    entries: &[u8],
+) -> Option<(u64, bool, bool)>
+    requires { length frame.now ≤ 4708 }
+{
+    let _bytes = channels.sound_bytes();
+    match view_frame(frame, channels) {
+        Ok(FrameView::Coded(params, code)) => {
+            let has_tables = has_tables(&params, coefs, entries);
+            Some((code.first, code.bytes == frame, has_tables))
+        }
+        _ => None,
+    }
 }
 
 #[test]
@@ -41,14 +63,11 @@ fn headers_end_where_their_code_begins(rt: HostRuntime) -> Result<(), Fail> {
     ];
     for &(frame, first, coefs, entries) in &CASES {
         assert!(rt; frame.len() <= 9);
-        match view_frame(frame, mono) {
-            Ok(FrameView::Coded(params, code)) => {
-                let has_tables = has_tables(&params, coefs, entries);
-                assert_eq!(rt; (code.first, code.bytes, has_tables), (first, frame, true));
-            }
-            Ok(FrameView::Plain(_)) => assert!(rt; false, "{frame:?} is coded"),
-            Err(fault) => assert!(rt; false, "{frame:?}: {fault}"),
-        }
+        assert_eq!(rt;
+            code_behind(frame, mono, coefs, entries),
+            Some((first, true, true)),
+            "{frame:?}"
+        );
     }
     Ok(())
 }
@@ -90,17 +109,24 @@ fn the_first_field_at_fault_is_told(rt: HostRuntime) -> Result<(), Fail> {
     Ok(())
 }
 
+// Whether a frame is plain and this sound is lent.
+fn lends(frame: &[u8], channels: Channels, wanted: &[u8]) -> bool
+    requires { length frame.now ≤ 4708 }
+{
+    let _bytes = channels.sound_bytes();
+    match view_frame(frame, channels) {
+        Ok(FrameView::Plain(sound)) => sound == wanted,
+        _ => false,
+    }
+}
+
 #[test]
 fn the_sound_of_a_plain_frame_is_lent(rt: HostRuntime) -> Result<(), Fail> {
     let mono = Channels::new(1).ok_or("one channel")?;
     let mut frame = [7; 4708];
     for first in [0x00, 0x40] {
         frame[0] = first;
-        match view_frame(&frame, mono) {
-            Ok(FrameView::Plain(sound)) => assert!(rt; sound == [7; 4704].as_slice()),
-            Ok(FrameView::Coded(_, _)) => assert!(rt; false, "{first} is plain"),
-            Err(fault) => assert!(rt; false, "{first}: {fault}"),
-        }
+        assert!(rt; lends(&frame, mono, &[7; 4704]), "{first}");
     }
     Ok(())
 }
@@ -117,22 +143,38 @@ fn read_coefficient_0() -> Result<(Params, u64, u64), Fail> {
     Ok((header.params, header.code, reader.place()))
 }
 
+// Whether a header is written into room for so many bytes, the bits that it took and those that are left, and whether the bytes are
+// these.
+fn written(
+    alloc: Global,
+    params: &Params,
+    bytes: usize,
+    wanted: &[u8],
+) -> Result<(bool, u64, u64, bool), AllocError>
+    requires { bytes ≤ 6 }
+{
+    let mut writer = BitWriter::new(alloc, bytes)?;
+    let fits = write_header(params, &mut writer);
+    let (length, room) = (writer.length(), writer.room());
+    writer.finish();
+    Ok((fits, length, room, writer.bytes() == wanted))
+}
+
 #[test]
 fn a_header_is_read_and_written(rt: HostRuntime) -> Result<(), Fail> {
     laws::header_law();
     let (params, code, place) = read_coefficient_0()?;
-    assert_eq!(rt; (code, place), (45, 45));
-    let mut short = BitWriter::new(rt.alloc(), 5)?;
-    let in_short = write_header(&params, &mut short);
-    assert_eq!(rt; (in_short, short.length()), (false, 0));
-    let mut writer = BitWriter::new(rt.alloc(), 6)?;
-    let written = write_header(&params, &mut writer);
+    let in_short = written(rt.alloc(), &params, 5, &[])?;
     // the probabilities take one bit less by method 0 with m = 0: 128 plain, and a residual of 0
-    assert_eq!(rt; (written, writer.length(), writer.room()), (true, 44, 4));
-    writer.finish();
+    let in_six = written(
+        rt.alloc(),
+        &params,
+        6,
+        &[0xfc, 0x00, 0x00, 0x06, 0x7f, 0x10],
+    )?;
     assert_eq!(rt;
-        writer.bytes(),
-        [0xfc, 0x00, 0x00, 0x06, 0x7f, 0x10].as_slice()
+        (code, place, in_short, in_six),
+        (45, 45, (false, 0, 40, true), (true, 44, 4, true))
     );
     Ok(())
 }
