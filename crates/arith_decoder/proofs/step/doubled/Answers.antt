@@ -1,4 +1,4 @@
--- A range that is doubled stays one of the code's.
+-- The range is doubled where that is due.
 use Rattle.std.proofs.Common.{rules}
 use Rattle.arith_decoder.proofs.step.doubled.Goals as goal
 

@@ -1,4 +1,4 @@
--- The plain file is settled with all its sound, or what failed is told.
+-- A plain file that is finished is settled.
 use Rattle.std.proofs.Common.{rules}
 use Rattle.dst_pipes.proofs.pipe.finish.Goals as goal
 
