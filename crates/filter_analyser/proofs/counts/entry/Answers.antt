@@ -1,4 +1,4 @@
--- The part is rounded as the table has it.
+-- Both returns give the entry of the counts: where nothing was guessed, and else.
 use Rattle.std.proofs.Common.{rules}
 use Rattle.filter_analyser.proofs.counts.entry.Goals as goal
 
