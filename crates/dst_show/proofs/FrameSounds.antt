@@ -8,12 +8,15 @@ use Rattle.dst_spec.specs.Offends.{Offends}
 use Rattle.dst_spec.specs.declared.faults.FrameFault.{FrameFault}
 use Rattle.dst_spec.proofs.Unique.{tail_law}
 use Rattle.dsdiff_spec.specs.Bytes.{bytes_at}
-use Rattle.dsdiff_spec.specs.Form.{Form, shape}
+use Rattle.dsdiff_spec.specs.Form.{Form, shape, shape_of}
+use Rattle.dsdiff_spec.specs.Parts.{channel_count}
 use Rattle.dsdiff_spec.specs.Walk.{frame_at}
 use Rattle.dsdiff_spec.specs.Words.{Command, frame}
 use Rattle.dsdiff_spec.specs.Refusal.{refusal}
 use Rattle.dsdiff_spec.specs.Lines.{Line, frame_line}
 use Rattle.dsdiff_spec.specs.Outcome.{Answer, done, frame_refused, IsStopped, IsDone}
+use Rattle.dsdiff_spec.proofs.CodedFiles.{longest_sound_of_frame}
+use Rattle.dsdiff_spec.proofs.Lawful.{prop_has_a_shape}
 use Rattle.dsdiff_spec.proofs.OneAnswer.{HasOutcome}
 use Rattle.dst_commands.specs.Commands.{OutcomeOf}
 use Rattle.dst_commands.specs.Opened.{named_entry, IsFound}
@@ -34,6 +37,15 @@ pub found_inside : (f : FoundFrame) (n : ℕ) → n ≡ f.entry.size → f.entry
 found_inside f n long =
     let sound = sound_inside (coded_seen f.form) f.form.lawful in
     omega (arith, f.inside.before, sound, long)
+
+-- and is no longer than the longest of six channels
+pub found_at_most : (f : FoundFrame) → f.entry.size ≤ 225794
+found_at_most f =
+    let form = coded_seen f.form in
+    let lawful = f.form.lawful in
+    let of_prop = subst (λ m. IsShape (shape_of (channel_count form.prop) m)) (sym lawful.multiple) (prop_has_a_shape 0 form.prop lawful.prop.rules) in
+    let most = longest_sound_of_frame (shape form) (subst (λ c. IsShape (shape_of c form.multiple)) (sym lawful.channels) of_prop) in
+    omega (arith, most, f.inside.short)
 
 -- it is read where it stands, into a buffer that is lent whole
 pub frame_is_read : (file : List ℕ) (f : FoundFrame) (n : ℕ) (stored out lent old : List ℕ) → stored ≡ take n (out ++ drop (length out) old) → length lent ≡ n →

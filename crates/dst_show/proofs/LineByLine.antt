@@ -1,6 +1,6 @@
 -- What counts as appended grows by whole lines, one for each call that succeeds.
 use Rattle.std.proofs.Common.{◌≡◌, ℕ, ◌+◌, ◌<◌, ◌≤◌, List, [], ◌∷◌, ◌++◌, length, map, take, get_or, Result, Ok, Err, refl, ap, sym, ◌∙◌, arith}
-use Rattle.std.proofs.Common.{length-append}
+use Rattle.std.proofs.Common.{length-append, append-nil}
 use Rattle.std.specs.Prelude.{flat_map, MatchResult}
 use Rattle.std.proofs.lemmas.Grind.{flat_map-append}
 use Rattle.std.proofs.lemmas.List.{length-map, take-map, take_all, take-append-le}
@@ -37,6 +37,19 @@ bytes_of_lines part xs told e =
 
 pub as_many_lines : {X : Type 0} (part : Parts X) (xs : List X) (told : List Line) → map part xs ≡ fed told → length xs ≡ length told
 as_many_lines part xs told e = sym (length-map xs part) ∙ ap length e ∙ length-map told (λ (line : Line). line ++ 10 ∷ [])
+
+-- ---- pieces that are one line each
+fed_next : (line : Line) (piece : List ℕ) (pieces : List (List ℕ)) (lines : List Line) → piece ≡ report (line ∷ []) → pieces ≡ fed lines →
+    piece ∷ pieces ≡ fed (line ∷ lines)
+fed_next line piece pieces lines is rest = let whole = is ∙ append-nil (line ++ 10 ∷ []) in cc
+
+pub fed_three : (x y z : Line) {a b c : List ℕ} → a ≡ report (x ∷ []) → b ≡ report (y ∷ []) → c ≡ report (z ∷ []) →
+    a ∷ b ∷ c ∷ [] ≡ fed (x ∷ y ∷ z ∷ [])
+fed_three x y z p q r = fed_next x _ _ (y ∷ z ∷ []) p (fed_next y _ _ (z ∷ []) q (fed_next z _ _ [] r refl))
+
+pub fed_five : (v w x y z : Line) {a b c d e : List ℕ} → a ≡ report (v ∷ []) → b ≡ report (w ∷ []) → c ≡ report (x ∷ []) → d ≡ report (y ∷ []) →
+    e ≡ report (z ∷ []) → a ∷ b ∷ c ∷ d ∷ e ∷ [] ≡ fed (v ∷ w ∷ x ∷ y ∷ z ∷ [])
+fed_five v w x y z p q r s t = fed_next v _ _ (w ∷ x ∷ y ∷ z ∷ []) p (fed_next w _ _ (x ∷ y ∷ z ∷ []) q (fed_three x y z r s t))
 
 -- ---- the call for line k failed, or all lines were appended
 pub stops_at_line : {X : Type 0} (part : Parts X) (xs : List X) (told : List Line) (k before mid now : ℕ) → map part xs ≡ fed told → k < length xs →

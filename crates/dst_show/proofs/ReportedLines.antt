@@ -1,6 +1,7 @@
 -- Outcomes of the commands that report lines of a file, and of a report that fails.
-use Rattle.std.proofs.Common.{◌≡◌, ℕ, ◌≤◌, List, [], ◌∷◌, ◌++◌, length, map, inl, inr, Option, Some, None, Result, Ok, Err, refl, ap, sym, subst, ◌∙◌, arith}
-use Rattle.dst_streams.specs.Causes.{HasCause}
+use Rattle.std.proofs.Common.{◌≡◌, ℕ, ◌+◌, ◌≤◌, false, List, [], ◌∷◌, ◌++◌, length, map, inl, inr, Option, Some, None, Result, Ok, Err, refl}
+use Rattle.std.proofs.Common.{ap, sym, subst, ◌∙◌, arith}
+use Rattle.dst_streams.specs.Causes.{Rose, HasCause}
 use Rattle.std.specs.Prelude.{IfErr, MatchResult, codes, decimal}
 use Rattle.std.proofs.lemmas.Grind.{flat_map-append}
 use Rattle.std.proofs.lemmas.List.{length-map}
@@ -28,15 +29,31 @@ use Rattle.dsdiff_chunks.specs.Opening as opening
 use Rattle.dsdiff_chunks.specs.Forms.{coded_seen}
 use Rattle.dsdiff_chunks.specs.Seen.{head_seen}
 use Rattle.dsdiff_chunks.specs.declared.lists.ChunkHead.{ChunkHead}
-use Rattle.dst_commands.specs.Opened.{IsWalked}
+use Rattle.dst_commands.specs.Opened.{IsWalked, IsFound}
+use Rattle.dst_commands.specs.declared.opened.FoundFrame.{FoundFrame}
+use Rattle.frame_index.specs.Entries.{entry_seen}
 use Rattle.dsdiff_chunks.specs.declared.form.CodedForm.{CodedForm}
 use Rattle.dst_commands.specs.declared.opened.WalkedForm.{WalkedForm}
-use Rattle.dst_commands.proofs.InOrder.{rules_of_index}
+use Rattle.dst_commands.proofs.InOrder.{rules_of_index, rules_of_show_frame}
 use Rattle.dst_commands.specs.Commands.{OutcomeOf}
 use Rattle.dst_show.specs.LineByLine.{GoesByLines, fed}
-use Rattle.dst_show.specs.Reporting.{HasReportCause, ReportEnds, reported_as, IsUnshown}
+use Rattle.dst_show.specs.Reporting.{HasReportCause, ReportEnds, reported_as, IsShown, IsUnshown, IsHeaderOf, FindsNoHeader}
 use Rattle.dst_commands.specs.Writing.{Adds, Stops}
 use Rattle.dst_commands.proofs.Writing.{added, cut_off, adds_then, stops_then}
+use Rattle.dst_show.proofs.LineByLine.{goes_by_one}
+
+-- ---- what is answered is done or one fault
+pub done_or_fault : {T E : Type 0} (s : T) (fault : E) → ◌≡◌ {A = Result T E} (Ok s) (Err fault) → ⊥
+done_or_fault s fault e = cc
+
+pub one_fault : {T E : Type 0} (a b : E) → ◌≡◌ {A = Result T E} (Err a) (Err b) → a ≡ b
+one_fault a b e = cc
+
+pub source_is_no_frame : (fault : OpenFault) (k : ℕ) (frame_fault : FrameFault) → Source fault ≡ Frame k frame_fault → ⊥
+source_is_no_frame fault k frame_fault e = cc
+
+pub frame_is_no_report : (k : ℕ) (fault : FrameFault) → Frame k fault ≡ Report → ⊥
+frame_is_no_report k fault e = cc
 
 -- a file keeps some rules, and this is its form
 pub record IsAccepted (rules : List ℕ → Option FileFault) (file : List ℕ) (form : Form) : Type 0 where
@@ -166,9 +183,20 @@ coded_ends r a file w old new room left before now e accepts is written by_lines
     (show_outcome file form (record { accepts = accepts; form_is = is.form_is })) in
     reported_ends r a show file form (show_lines form w.index) old new room left before now e is.form_is outcome written by_lines
 
-pub only_reported : {T : Type 0} (r : Result T Failed) (frames : ℕ) (fault : ShowFault) → reported_as r frames ≡ Err fault → fault ≡ Report
-only_reported (Ok u) frames fault e = absurd cc
-only_reported (Err failed) frames fault e = cc
+-- nothing but the report fails behind an opened file, and by its cause
+pub report_failed : {T : Type 0} (r : Result T Failed) (a : Result Reported ShowFault) (frames before now : ℕ) → a ≡ reported_as r frames →
+    HasCause before now r → IfErr a (λ fault. (fault ≡ Report) × Rose before now)
+report_failed (Ok u) a frames before now e h = subst (λ a. IfErr a (λ fault. (fault ≡ Report) × Rose before now)) (sym e) (tt {0})
+report_failed (Err failed) a frames before now e h = subst (λ a. IfErr a (λ fault. (fault ≡ Report) × Rose before now)) (sym e) (refl, h.failed)
+
+pub cause_as_reported : (a : Result Reported ShowFault) (source_before source_now before now : ℕ) →
+    IfErr a (λ fault. (fault ≡ Report) × Rose before now) → IfErr a (λ fault. HasReportCause fault source_before source_now before now)
+cause_as_reported (Ok s) source_before source_now before now h = tt {0}
+cause_as_reported (Err fault) source_before source_now before now h = subst (λ f. HasReportCause f source_before source_now before now) (sym h.0) h.1
+
+pub only_reported : (a : Result Reported ShowFault) (fault : ShowFault) (before now : ℕ) → IfErr a (λ fault. (fault ≡ Report) × Rose before now) →
+    a ≡ Err fault → fault ≡ Report
+only_reported a fault before now h e = (subst (λ a. IfErr a (λ fault. (fault ≡ Report) × Rose before now)) e h).0
 
 pub ends_unopened : (fault : OpenFault) (c : Command) (bytes : Option (List ℕ)) (before now : ℕ) (file : List ℕ) (old new : Option (List ℕ))
     (room : Option ℕ) (appended_before appended_now : ℕ) → bytes ≡ Some file → opening.Stops (refusal c) bytes before now fault →
@@ -177,10 +205,11 @@ ends_unopened (File f) c bytes before now file old new room appended_before appe
 ends_unopened Read c bytes before now file old new room appended_before appended_now told stops = tt {0}
 ends_unopened (Memory refused) c bytes before now file old new room appended_before appended_now told stops = tt {0}
 
-pub cause_of_report : {T : Type 0} (r : Result T Failed) (frames source_before source_now before now : ℕ) → HasCause before now r →
-    IfErr (reported_as r frames) (λ fault. HasReportCause fault source_before source_now before now)
-cause_of_report (Ok u) frames source_before source_now before now h = tt {0}
-cause_of_report (Err failed) frames source_before source_now before now h = h.failed
+pub cause_unopened : (fault : OpenFault) (rules : List ℕ → Option FileFault) (bytes : Option (List ℕ)) (source_before source_now before now : ℕ) →
+    opening.Stops rules bytes source_before source_now fault → HasReportCause (Source fault) source_before source_now before now
+cause_unopened (File f) rules bytes source_before source_now before now stops = tt {0}
+cause_unopened Read rules bytes source_before source_now before now stops = stops
+cause_unopened (Memory refused) rules bytes source_before source_now before now stops = tt {0}
 
 -- ---- one frame that is shown, or refused
 pub frame_is_shown : (file : List ℕ) (form : Form) (k : ℕ) (f : Shape) (w : List ℕ) (told : Line) → IsAccepted (refusal (show_frame k)) file form →
@@ -210,14 +239,57 @@ frame_is_refused file form k f w fault a same is r =
       answer = refl;
     })
 
-pub ends_unshown : (fault : ShowFault) (bytes : Option (List ℕ)) (before now : ℕ) (file : List ℕ) (form : Form) (k : ℕ) (f : Shape) (e : Entry)
-    (old new : Option (List ℕ)) (room : Option ℕ) (appended_before appended_now : ℕ) → bytes ≡ Some file →
-    IsAccepted (refusal (show_frame k)) file form → shape form ≡ f → entry (entries file form) k ≡ e → IsUnshown f k e fault bytes before now →
-    ReportEnds (Err fault) (show_frame k) file old new room appended_before appended_now
-ends_unshown (Frame j fault) bytes before now file form k f e old new room appended_before appended_now told a same is h =
+-- the line of a frame that was found is what the command reports
+pub header_is_found : (file line : List ℕ) (found : FoundFrame) (k : ℕ) → form_refusal (show_frame k) file ≡ None → IsFound false file k found →
+    IsShown found.form.channels k (frame_at file (entry_seen found.entry)) line → IsHeaderOf k file line found.form.frames
+header_is_found file line found k accepts is shown = record {
+  told = shown.told;
+  outcome = frame_is_shown file (coded_seen found.form) k found.form.channels (frame_at file (entry_seen found.entry)) shown.told
+      (record { accepts = rules_of_show_frame k file ∙ accepts; form_is = is.form_is }) found.form.shape (ap (frame_at file) is.entry_is) shown.shows
+      shown.not_refused;
+  is = shown.is;
+  count = ap (λ (f : Form). f.frames) (sym is.form_is);
+}
+
+-- where no line is found of it, the command finds none
+pub finds_no_header : (found : FoundFrame) (k : ℕ) (fault : ShowFault) (bytes opened : Option (List ℕ)) (before mid now : ℕ) → opened ≡ bytes →
+    before ≤ mid → ((file : List ℕ) → bytes ≡ Some file → form_refusal (show_frame k) file ≡ None) →
+    ((file : List ℕ) → bytes ≡ Some file → IsFound false file k found) → IsUnshown found.form.channels k (entry_seen found.entry) fault opened mid now →
+    FindsNoHeader k bytes before now fault
+finds_no_header found k (Frame j fault) bytes opened before mid now same later accepts is h = λ file told.
     subst (λ j. OutcomeOf (show_frame k) file (frame_refused j fault [])) (sym h.0)
-    (frame_is_refused file form k f (frame_at file e) fault a same (ap (frame_at file) is) (h.1 file told))
-ends_unshown (Source Read) bytes before now file form k f e old new room appended_before appended_now told a same is h = tt {0}
-ends_unshown (Source (Memory refused)) bytes before now file form k f e old new room appended_before appended_now told a same is h = absurd h
-ends_unshown Report bytes before now file form k f e old new room appended_before appended_now told a same is h = absurd h
-ends_unshown (Source (File fault)) bytes before now file form k f e old new room appended_before appended_now told a same is h = absurd h
+    (frame_is_refused file (coded_seen found.form) k found.form.channels (frame_at file (entry_seen found.entry)) fault
+    (record { accepts = rules_of_show_frame k file ∙ accepts file told; form_is = (is file told).form_is }) found.form.shape
+    (ap (frame_at file) (is file told).entry_is) (h.1 file (same ∙ told)))
+finds_no_header found k (Source Read) bytes opened before mid now same later accepts is h = omega (arith, later, h)
+finds_no_header found k (Source (Memory refused)) bytes opened before mid now same later accepts is h = absurd h
+finds_no_header found k (Source (File fault)) bytes opened before mid now same later accepts is h = absurd h
+finds_no_header found k Report bytes opened before mid now same later accepts is h = absurd h
+
+-- ---- how the command ends behind a header, and without one
+pub ends_with_header : {T : Type 0} (r : Result T Failed) (a : Result Reported ShowFault) (k : ℕ) (file line piece : List ℕ) (frames : ℕ)
+    (old new : Option (List ℕ)) (room left : Option ℕ) (before now : ℕ) → a ≡ reported_as r frames → IsHeaderOf k file line frames → piece ≡ line →
+    MatchResult r (λ _. new ≡ and_then old piece) (λ _. IsCutShort old piece new) → IsSure room left (length piece) r →
+    MatchResult r (λ _. now ≡ before + length piece) (λ _. now ≡ before) → ReportEnds a (show_frame k) file old new room before now
+ends_with_header r a k file line piece frames old new room left before now e header same written sure added =
+    let whole : piece ≡ report (header.told ∷ []) = same ∙ header.is in
+    reported_ends r a (show_frame k) file (accepted file) (header.told ∷ []) old new room left before now (e ∙ ap (reported_as r) header.count) refl
+    header.outcome (same_written r piece (report (header.told ∷ [])) old new room left whole (appended r piece old new room left written sure))
+    (goes_by_one r header.told piece before now whole added)
+
+pub ends_without_header : (k : ℕ) (fault : ShowFault) (bytes : Option (List ℕ)) (source_before source_now : ℕ) (file : List ℕ) (old new : Option (List ℕ))
+    (room : Option ℕ) (before now : ℕ) → bytes ≡ Some file → FindsNoHeader k bytes source_before source_now fault →
+    ReportEnds (Err fault) (show_frame k) file old new room before now
+ends_without_header k (Source (File fault)) bytes source_before source_now file old new room before now told h = h file told
+ends_without_header k (Source Read) bytes source_before source_now file old new room before now told h = tt {0}
+ends_without_header k (Source (Memory refused)) bytes source_before source_now file old new room before now told h = tt {0}
+ends_without_header k (Frame j fault) bytes source_before source_now file old new room before now told h = h file told
+ends_without_header k Report bytes source_before source_now file old new room before now told h = absurd h
+
+pub cause_without_header : (k : ℕ) (fault : ShowFault) (bytes : Option (List ℕ)) (source_before source_now before now : ℕ) →
+    FindsNoHeader k bytes source_before source_now fault → HasReportCause fault source_before source_now before now
+cause_without_header k (Source Read) bytes source_before source_now before now h = h
+cause_without_header k (Source (Memory refused)) bytes source_before source_now before now h = tt {0}
+cause_without_header k (Source (File fault)) bytes source_before source_now before now h = tt {0}
+cause_without_header k (Frame j fault) bytes source_before source_now before now h = tt {0}
+cause_without_header k Report bytes source_before source_now before now h = absurd h

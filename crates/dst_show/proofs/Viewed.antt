@@ -1,5 +1,6 @@
 -- The parts of a frame that are shown, and the faults that they leave.
-use Rattle.std.proofs.Common.{◌≡◌, ◌≢◌, ◌⊎◌, inl, inr, ℕ, zero, suc, ◌+◌, ◌*◌, ◌<◌, ◌≤◌, List, [], ◌∷◌, length, take, get_or, Ok, refl, ap, sym, ◌∙◌, arith}
+use Rattle.std.proofs.Common.{◌≡◌, ◌≢◌, ◌⊎◌, inl, inr, ℕ, zero, suc, ◌+◌, ◌*◌, ◌<◌, ◌≤◌, List, [], ◌∷◌, length, take, get_or, Ok, refl}
+use Rattle.std.proofs.Common.{ap, sym, subst, ◌∙◌, arith}
 use Rattle.std.proofs.lemmas.Bool.{cases_order}
 use Rattle.dst_spec.specs.Bits.{bits, number_from}
 use Rattle.dst_spec.specs.Sample.{Shape}
@@ -8,6 +9,7 @@ use Rattle.dst_spec.specs.Means.{IsPlain}
 use Rattle.dst_spec.specs.Offends.{Offends}
 use Rattle.dst_spec.specs.declared.faults.FrameFault.{FrameFault}
 use Rattle.dst_spec.specs.declared.faults.Reason.TheVariants.{FirstCodeBit, CodeRange}
+use Rattle.dst_spec.specs.Reasons.{reason_number}
 use Rattle.dst_spec.proofs.Numbers.{length-bits, AreBits-bits, bit-below}
 use Rattle.dsdiff_spec.specs.Words.{show_frame}
 use Rattle.dsdiff_spec.specs.Lines.{report, plain_frame_line, coded_frame_line}
@@ -52,6 +54,15 @@ nowhere_but_in_code f w first bit range whole fault r = go (zero_or_one (get_or 
     go : (get_or (bits w) first 0 ≡ 0) ⊎ (get_or (bits w) first 0 ≡ 1) → ⊥
     go (inl e) = at_range e (cases_order twelve 4095)
     go (inr e) = only_of_code f w fault (first_bit_fault first) (inl refl) (bit e) r
+
+-- a fault in front of the code refuses a frame that is shown
+pub refuses_shown : (k : ℕ) (f : Shape) (read w : List ℕ) (fault : FrameFault) → read ≡ w → Offends f read fault → reason_number fault.reason ≤ 8 →
+    Refuses (show_frame k) f w fault
+refuses_shown k f read w fault same o early = (
+  subst (λ w. Offends f w fault) same o,
+  λ e. let number = ap reason_number e in omega (arith, early, number),
+  λ e. let number = ap reason_number e in omega (arith, early, number),
+)
 
 -- what a view says of a frame that is shown
 pub view_is_shown : (f : Shape) (k bytes : ℕ) (w line : List ℕ) (view : FrameView) → length w ≡ bytes → line ≡ report (view_line k bytes view ∷ []) →

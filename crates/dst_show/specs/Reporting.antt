@@ -11,6 +11,7 @@ use Rattle.dsdiff_spec.specs.Words.{Command, show_frame}
 use Rattle.dsdiff_spec.specs.Refusal.{refusal}
 use Rattle.dsdiff_spec.specs.Lines.{Line, report, plain_frame_line, coded_frame_line}
 use Rattle.dsdiff_spec.specs.Outcome.{done, frame_refused, Refuses, Shows}
+use Rattle.dsdiff_chunks.specs.Opening as opening
 use Rattle.dsdiff_chunks.specs.declared.open.OpenFault.TheVariants.{Read, Memory, File}
 use Rattle.dst_show.specs.declared.faults.Reported.{Reported}
 use Rattle.dst_show.specs.declared.faults.ShowFault.{ShowFault}
@@ -55,6 +56,19 @@ summary_of s =
     ∷ []
 
 -- ---- the header of frame k
+-- this line, reported alone, is what the command does with a file of so many frames
+pub record IsHeaderOf (k : ℕ) (file line : List ℕ) (frames : ℕ) : Type 0 where
+  pub told : Line
+  pub outcome : OutcomeOf (show_frame k) file (done [] (told ∷ []))
+  pub is : line ≡ report (told ∷ [])
+  pub count : frames ≡ (accepted file).frames
+
+-- why the command finds no header: the file or the frame is refused, or the source or memory fails
+abbrev pub FindsNoHeader : ℕ → Option (List ℕ) → (source_before source_now : ℕ) → ShowFault → Type 0
+FindsNoHeader k bytes before now (Source fault) = opening.Stops (refusal (show_frame k)) bytes before now fault
+FindsNoHeader k bytes before now (Frame j fault) = (file : List ℕ) → bytes ≡ Some file → OutcomeOf (show_frame k) file (frame_refused j fault [])
+FindsNoHeader k bytes before now Report = ⊥
+
 -- the line of a frame of so many bytes, by its parts
 abbrev pub view_line : ℕ → ℕ → FrameView → Line
 view_line k bytes (Plain sound) = plain_frame_line k bytes

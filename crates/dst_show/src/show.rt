@@ -12,8 +12,9 @@ ghost use Rattle.dsdiff_spec.specs.Words as words;
 ghost use Rattle.dsdiff_spec.specs.Outcome.{Answer, done, frame_refused};
 ghost use Rattle.frame_index.specs.Entries.{entry_seen};
 ghost use Rattle.dst_commands.specs.Commands.{OutcomeOf, shown};
+ghost use Rattle.dst_commands.specs.Opened.{IsAny};
 ghost use Rattle.dst_show.specs.LineByLine.{AddsLines, StopsAtALine};
-ghost use Rattle.dst_show.specs.Reporting.{view_line, IsShown, IsUnshown, ReportEnds, HasReportCause, reported_as};
+ghost use Rattle.dst_show.specs.Reporting.{view_line, IsShown, IsUnshown, IsHeaderOf, FindsNoHeader, ReportEnds, HasReportCause, reported_as};
 
 use crate::faults::{Reported, ShowFault};
 use crate::summary::{report_coded, report_plain};
@@ -97,9 +98,19 @@ fn show_form<S: Source, T: Sink>(
         Ok(opened) => opened,
         Err(fault) => return Err(ShowFault::Source(fault)),
     };
+    report_summary(report, &opened)
+}
+
+// Reports the summary of a file that was opened.
+fn report_summary<T: Sink>(report: &mut T, opened: &AnyForm) -> Result<Reported, ShowFault>
+    ensures later { T.faults report.old ≤ T.faults report.new }
+    ensures ends { (file : List ℕ) → refusal words.show file ≡ None → IsAny file opened.now → ReportEnds result words.show file (T.written report.old) (T.written report.new) (T.room report.old)
+        (T.appended report.old) (T.appended report.new) }
+    ensures cause { IfErr result (λ fault. (fault ≡ ShowFault.Report) × Rose (T.faults report.old) (T.faults report.new)) }
+{
     match opened {
-        AnyForm::Plain(form) => reported(report_plain(report, &form), form.frames),
-        AnyForm::Coded(walked) => reported(report_coded(report, &walked), walked.form.frames),
+        AnyForm::Plain(form) => reported(report_plain(report, form), form.frames),
+        AnyForm::Coded(walked) => reported(report_coded(report, walked), walked.form.frames),
     }
 }
 
@@ -118,6 +129,25 @@ fn show_header<S: Source, T: Sink>(
     ensures untouched { (fault : ShowFault) → result ≡ Err fault → (fault ≢ ShowFault.Report) → report.new ≡ report.old }
     ensures given { S.given source.new ≤ S.given source.old + 208948 + 48000000 + 225794 }
 {
+    let (line, frames) = match read_header(alloc, source, number) {
+        Ok(header) => header,
+        Err(fault) => return Err(fault),
+    };
+    reported(report.append(line.as_bytes()), frames)
+}
+
+// Opens a coded file, and gives the line of the header of one of its frames, with how many frames the file has.
+fn read_header<S: Source>(
+    alloc: Global,
+    source: &mut S,
+    number: u32,
+) -> Result<(Line, u32), ShowFault>
+    ensures bytes { S.bytes source.new ≡ S.bytes source.old }
+    ensures later { S.faults source.old ≤ S.faults source.new }
+    ensures header { IfOk result (λ h. (file : List ℕ) → S.bytes source.old ≡ Some file → IsHeaderOf number file h.0.bytes h.1) }
+    ensures no_header { IfErr result (FindsNoHeader number (S.bytes source.old) (S.faults source.old) (S.faults source.new)) }
+    ensures given { S.given source.new ≤ S.given source.old + 208948 + 48000000 + 225794 }
+{
     let found = match open_file(alloc, source, &FrameByWalk { number }) {
         Ok(found) => found,
         Err(fault) => return Err(ShowFault::Source(fault)),
@@ -126,11 +156,10 @@ fn show_header<S: Source, T: Sink>(
         Ok(bytes) => bytes,
         Err(refused) => return Err(ShowFault::Source(OpenFault::Memory(refused))),
     };
-    let line = match header_line(source, &found, number, &mut bytes) {
-        Ok(line) => line,
-        Err(fault) => return Err(fault),
-    };
-    reported(report.append(line.as_bytes()), found.form.frames)
+    match header_line(source, &found, number, &mut bytes) {
+        Ok(line) => Ok((line, found.form.frames)),
+        Err(fault) => Err(fault),
+    }
 }
 
 // Reads a frame, and gives the line of its header. It takes no memory.

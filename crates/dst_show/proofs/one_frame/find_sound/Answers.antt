@@ -2,7 +2,7 @@
 use Rattle.std.proofs.Common.{◌∙◌, ap, arith}
 use Rattle.std.proofs.lemmas.Result.{IfOk-weaker, IfErr-weaker}
 use Rattle.dsdiff_spec.specs.Form.{sound_bytes_of}
-use Rattle.dst_show.proofs.FrameSounds.{sound_is_written, finds_no_sound}
+use Rattle.dst_show.proofs.FrameSounds.{found_at_most, sound_is_written, finds_no_sound}
 use Rattle.dst_show.proofs.one_frame.find_sound.Goals as goal
 
 pub returns-clause-accepted : goal.returns-clause-accepted
@@ -24,3 +24,61 @@ pub returns-clause-given : goal.returns-clause-given
 returns-clause-given g c by file told =
     let same = ap sound_bytes_of (c.in-Ok.ensures.found file told).form_is in
     omega (arith, c.read_sound.ensures.given, c.in-Ok.ensures.given by, c.in-Ok.found.inside.short, same)
+
+-- ---- where it isn't opened
+
+pub returns-in-Err-clause-bytes : goal.returns-in-Err-clause-bytes
+returns-in-Err-clause-bytes g c = c.open_frame.ensures.bytes
+
+pub returns-in-Err-clause-later : goal.returns-in-Err-clause-later
+returns-in-Err-clause-later g c = c.open_frame.ensures.later
+
+pub returns-in-Err-clause-no_sound : goal.returns-in-Err-clause-no_sound
+returns-in-Err-clause-no_sound g c = c.in-Err.ensures.stops
+
+pub returns-in-Err-clause-given : goal.returns-in-Err-clause-given
+returns-in-Err-clause-given g c by file told = omega (arith, c.open_frame.ensures.given by)
+
+pub returns-in-Err-clause-given_any : goal.returns-in-Err-clause-given_any
+returns-in-Err-clause-given_any g c by = omega (arith, c.open_frame.ensures.given by)
+
+pub returns-in-Err-clause-given_walk : goal.returns-in-Err-clause-given_walk
+returns-in-Err-clause-given_walk g c = omega (arith, c.open_frame.ensures.given_walk)
+
+-- ---- where memory is refused
+
+pub returns-in-Err-new-clause-bytes : goal.returns-in-Err-new-clause-bytes
+returns-in-Err-new-clause-bytes g c = c.open_frame.ensures.bytes
+
+pub returns-in-Err-new-clause-later : goal.returns-in-Err-new-clause-later
+returns-in-Err-new-clause-later g c = c.open_frame.ensures.later
+
+pub returns-in-Err-new-clause-no_sound : goal.returns-in-Err-new-clause-no_sound
+returns-in-Err-new-clause-no_sound g c = tt {0}
+
+pub returns-in-Err-new-clause-given : goal.returns-in-Err-new-clause-given
+returns-in-Err-new-clause-given g c by file told = omega (arith, c.open_frame.ensures.given by)
+
+pub returns-in-Err-new-clause-given_any : goal.returns-in-Err-new-clause-given_any
+returns-in-Err-new-clause-given_any g c by = omega (arith, c.open_frame.ensures.given by)
+
+pub returns-in-Err-new-clause-given_walk : goal.returns-in-Err-new-clause-given_walk
+returns-in-Err-new-clause-given_walk g c = omega (arith, c.open_frame.ensures.given_walk)
+
+-- ---- where it is read
+
+pub returns-clause-bytes : goal.returns-clause-bytes
+returns-clause-bytes g c = c.read_sound.ensures.bytes ∙ c.open_frame.ensures.bytes
+
+pub returns-clause-later : goal.returns-clause-later
+returns-clause-later g c = omega (arith, c.read_sound.ensures.later, c.open_frame.ensures.later)
+
+pub returns-clause-given_any : goal.returns-clause-given_any
+returns-clause-given_any g c by =
+    let most = found_at_most c.in-Ok.found in
+    omega (arith, c.read_sound.ensures.given, c.open_frame.ensures.given by, most)
+
+pub returns-clause-given_walk : goal.returns-clause-given_walk
+returns-clause-given_walk g c =
+    let most = found_at_most c.in-Ok.found in
+    omega (arith, c.read_sound.ensures.given, c.open_frame.ensures.given_walk, most)

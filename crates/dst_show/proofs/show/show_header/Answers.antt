@@ -1,49 +1,53 @@
--- The line of the frame is reported, or the frame refused.
-use Rattle.std.proofs.Common.{◌≡◌, [], ◌∷◌, ap, ◌∙◌}
-use Rattle.dsdiff_spec.specs.Lines.{report}
-use Rattle.dsdiff_spec.specs.Refusal.{form_refusal, refusal}
-use Rattle.dsdiff_spec.specs.Walk.{frame_at}
-use Rattle.dsdiff_spec.specs.Words.{show_frame}
-use Rattle.dsdiff_chunks.specs.Forms.{coded_seen}
-use Rattle.frame_index.specs.Entries.{entry_seen}
-use Rattle.dst_commands.proofs.InOrder.{rules_of_show_frame, stops_as}
-use Rattle.dst_show.proofs.LineByLine.{goes_by_one}
-use Rattle.dst_show.proofs.ReportedLines.{appended, same_written, reported_ends, frame_is_shown, ends_unopened, ends_unshown}
+-- The line of the header is reported, or there is none.
+use Rattle.std.proofs.Common.{refl, ◌∙◌, arith}
+use Rattle.dst_show.proofs.ReportedLines.{report_failed, cause_as_reported, only_reported, ends_with_header, ends_without_header, cause_without_header}
 use Rattle.dst_show.proofs.show.show_header.Goals as goal
 
+-- ---- where none is found
 pub returns-in-Err-clause-ends : goal.returns-in-Err-clause-ends
 returns-in-Err-clause-ends g c file told =
-    let k = c.args.number in
-    ends_unopened c.in-Err.fault (show_frame k) (g.S.Source.bytes c.args.source.now) (g.S.Source.faults c.args.source.now)
-    (g.S.Source.faults c.open_file.new.source) file (g.T.Sink.written c.args.report.now) (g.T.Sink.written c.args.report.now)
-    (g.T.Sink.room c.args.report.now) (g.T.Sink.appended c.args.report.now) (g.T.Sink.appended c.args.report.now) told
-    (stops_as (form_refusal (show_frame k)) (refusal (show_frame k)) c.in-Err.fault (g.S.Source.bytes c.args.source.now) (g.S.Source.faults c.args.source.now)
-    (g.S.Source.faults c.open_file.new.source) (rules_of_show_frame k) c.in-Err.ensures.stops)
+    ends_without_header c.args.number c.in-Err.fault (g.S.Source.bytes c.args.source.now) (g.S.Source.faults c.args.source.now)
+    (g.S.Source.faults c.read_header.new.source) file _ _ _ _ _ told c.in-Err.ensures.no_header
 
-pub returns-in-Err-header_line-clause-ends : goal.returns-in-Err-header_line-clause-ends
-returns-in-Err-header_line-clause-ends g c file told =
-    let found = c.in-Ok.found in
-    let is = c.in-Ok.ensures.opened file told in
-    ends_unshown c.in-Err-header_line.fault (g.S.Source.bytes c.open_file.new.source) _ _ file (coded_seen found.form) c.args.number found.form.channels
-    (entry_seen found.entry) _ _ _ _ _
-    (c.in-Ok.ensures.bytes ∙ told) (record {
-      accepts = rules_of_show_frame c.args.number file ∙ c.in-Ok.ensures.accepted file told;
-      form_is =
-          is.form_is;
-    }) found.form.shape is.entry_is c.in-Err-header_line.ensures.unshown
+pub returns-in-Err-clause-bytes : goal.returns-in-Err-clause-bytes
+returns-in-Err-clause-bytes g c = c.read_header.ensures.bytes
 
+pub returns-in-Err-clause-later : goal.returns-in-Err-clause-later
+returns-in-Err-clause-later g c = (c.read_header.ensures.later, omega arith)
+
+pub returns-in-Err-clause-cause : goal.returns-in-Err-clause-cause
+returns-in-Err-clause-cause g c =
+    cause_without_header c.args.number c.in-Err.fault (g.S.Source.bytes c.args.source.now) (g.S.Source.faults c.args.source.now)
+    (g.S.Source.faults c.read_header.new.source) _ _ c.in-Err.ensures.no_header
+
+pub returns-in-Err-clause-untouched : goal.returns-in-Err-clause-untouched
+returns-in-Err-clause-untouched g c fault e other = refl
+
+pub returns-in-Err-clause-given : goal.returns-in-Err-clause-given
+returns-in-Err-clause-given g c = c.read_header.ensures.given
+
+-- ---- where one is
 pub returns-clause-ends : goal.returns-clause-ends
 returns-clause-ends g c file told =
-    let found = c.in-Ok.found in
-    let form = coded_seen found.form in
-    let k = c.args.number in
-    let is = c.in-Ok.ensures.opened file told in
-    let shown = c.in-Ok-header_line.ensures.shown file (c.in-Ok.ensures.bytes ∙ told) in
-    let outcome = frame_is_shown file form k found.form.channels (frame_at file (entry_seen found.entry)) shown.told
-    (record { accepts = rules_of_show_frame k file ∙ c.in-Ok.ensures.accepted file told; form_is = is.form_is }) found.form.shape
-    (ap (frame_at file) is.entry_is) shown.shows shown.not_refused in
-    let piece : c.as_bytes.result.now ≡ report (shown.told ∷ []) = c.as_bytes.ensures.value ∙ c.deref.ensures.0 ∙ shown.is in
-    let written = same_written c.append.result _ _ _ _ _ _ piece
-    (appended c.append.result c.as_bytes.result.now _ _ _ _ c.append.ensures.written c.append.ensures.sure) in
-    reported_ends c.append.result c.reported.result (show_frame k) file form (shown.told ∷ []) _ _ _ _ _ _ c.reported.ensures is.form_is outcome written
-    (goes_by_one c.append.result shown.told c.as_bytes.result.now _ _ piece c.append.ensures.appended)
+    ends_with_header c.append.result c.reported.result c.args.number file c.in-Ok.header.0.bytes c.as_bytes.result.now c.in-Ok.header.1 _ _ _ _ _ _
+    c.reported.ensures (c.in-Ok.ensures.header file told) (c.as_bytes.ensures.value ∙ c.deref.ensures.0) c.append.ensures.written c.append.ensures.sure
+    c.append.ensures.appended
+
+pub returns-clause-bytes : goal.returns-clause-bytes
+returns-clause-bytes g c = c.read_header.ensures.bytes
+
+pub returns-clause-later : goal.returns-clause-later
+returns-clause-later g c = (c.read_header.ensures.later, omega arith)
+
+pub returns-clause-cause : goal.returns-clause-cause
+returns-clause-cause g c =
+    cause_as_reported c.reported.result _ _ _ _
+    (report_failed c.append.result c.reported.result c.in-Ok.header.1 _ _ c.reported.ensures c.append.ensures.cause)
+
+pub returns-clause-untouched : goal.returns-clause-untouched
+returns-clause-untouched g c fault e other =
+    absurd (other (only_reported c.reported.result fault _ _
+    (report_failed c.append.result c.reported.result c.in-Ok.header.1 _ _ c.reported.ensures c.append.ensures.cause) e))
+
+pub returns-clause-given : goal.returns-clause-given
+returns-clause-given g c = c.read_header.ensures.given
