@@ -1,9 +1,13 @@
 -- The frames, up to the first that is refused.
-use Rattle.std.proofs.Common.{◌≡◌, Result, Err, ap, sym, refl, subst, arith}
+use Rattle.std.proofs.Common.{◌≡◌, Result, Ok, Err, ap, sym, refl, subst, arith}
+use Rattle.std.proofs.Math.Nat.{le_refl}
+use Rattle.std.specs.declared.alloc.AllocError.{AllocError}
 use Rattle.dsdiff_spec.specs.Form.{Form}
 use Rattle.dsdiff_chunks.specs.Forms.{coded_seen}
+use Rattle.dsdiff_chunks.specs.declared.open.OpenFault.TheVariants.{Read, Memory}
 use Rattle.dst_read.specs.declared.faults.Checked.{Checked}
 use Rattle.dst_read.specs.declared.faults.CheckFault.{CheckFault}
+use Rattle.dst_read.specs.declared.faults.CheckFault.TheVariants.{Source}
 use Rattle.dst_read.specs.Checking.{HasSourceCause}
 use Rattle.dst_read.proofs.Checks.{coded_is_sound, stopped}
 use Rattle.dst_read.proofs.Once.{stored_in_sound, stored_at_most}
@@ -43,3 +47,62 @@ returns-in-Ok-sum_tails-clause-given_any g c =
 pub returns-clause-given_any : goal.returns-clause-given_any
 returns-clause-given_any g c =
     omega (arith, c.sum_tails.ensures.given, stored_at_most c.args.walked.now c.in-Ok-jobs_for.ensures.jobs.lawful)
+
+-- ---- the source behind the frames
+pub returns-in-Ok-sum_tails-clause-bytes : goal.returns-in-Ok-sum_tails-clause-bytes
+returns-in-Ok-sum_tails-clause-bytes g c = c.sum_tails.ensures.bytes
+
+pub returns-clause-bytes : goal.returns-clause-bytes
+returns-clause-bytes g c = c.sum_tails.ensures.bytes
+
+pub returns-in-Ok-sum_tails-clause-later : goal.returns-in-Ok-sum_tails-clause-later
+returns-in-Ok-sum_tails-clause-later g c = c.sum_tails.ensures.later
+
+pub returns-clause-later : goal.returns-clause-later
+returns-clause-later g c = c.sum_tails.ensures.later
+
+sound_not_fault : (s : Checked) (fault : CheckFault) → ◌≡◌ {A = Result Checked CheckFault} (Ok s) (Err fault) → ⊥
+sound_not_fault s fault e = cc
+
+pub returns-in-Ok-sum_tails-clause-read : goal.returns-in-Ok-sum_tails-clause-read
+returns-in-Ok-sum_tails-clause-read g c e = absurd (sound_not_fault _ _ e)
+
+-- ---- where memory is refused nothing was read
+memory_not_read : (refused : AllocError) → ◌≡◌ {A = Result Checked CheckFault} (Err (Source (Memory refused))) (Err (Source Read)) → ⊥
+memory_not_read refused e = cc
+
+pub returns-in-Err-clause-bytes : goal.returns-in-Err-clause-bytes
+returns-in-Err-clause-bytes g c = refl
+
+pub returns-in-Err-clause-later : goal.returns-in-Err-clause-later
+returns-in-Err-clause-later g c = le_refl (g.S.Source.faults c.args.source.now)
+
+pub returns-in-Err-clause-read : goal.returns-in-Err-clause-read
+returns-in-Err-clause-read g c e = absurd (memory_not_read c.in-Err.refused e)
+
+pub returns-in-Err-clause-given : goal.returns-in-Err-clause-given
+returns-in-Err-clause-given g c = omega arith
+
+pub returns-in-Err-clause-given_any : goal.returns-in-Err-clause-given_any
+returns-in-Err-clause-given_any g c = omega arith
+
+pub returns-in-Err-clause-ends : goal.returns-in-Err-clause-ends
+returns-in-Err-clause-ends g c file told = tt {0}
+
+pub returns-in-Err-jobs_for-clause-bytes : goal.returns-in-Err-jobs_for-clause-bytes
+returns-in-Err-jobs_for-clause-bytes g c = refl
+
+pub returns-in-Err-jobs_for-clause-later : goal.returns-in-Err-jobs_for-clause-later
+returns-in-Err-jobs_for-clause-later g c = le_refl (g.S.Source.faults c.args.source.now)
+
+pub returns-in-Err-jobs_for-clause-read : goal.returns-in-Err-jobs_for-clause-read
+returns-in-Err-jobs_for-clause-read g c e = absurd (memory_not_read c.in-Err-jobs_for.refused e)
+
+pub returns-in-Err-jobs_for-clause-given : goal.returns-in-Err-jobs_for-clause-given
+returns-in-Err-jobs_for-clause-given g c = omega arith
+
+pub returns-in-Err-jobs_for-clause-given_any : goal.returns-in-Err-jobs_for-clause-given_any
+returns-in-Err-jobs_for-clause-given_any g c = omega arith
+
+pub returns-in-Err-jobs_for-clause-ends : goal.returns-in-Err-jobs_for-clause-ends
+returns-in-Err-jobs_for-clause-ends g c file told = tt {0}

@@ -55,6 +55,16 @@ pub returns-in-Err-write_end-clause-sink_later : goal.returns-in-Err-write_end-c
 returns-in-Err-write_end-clause-sink_later g c =
     le_trans c.write_front.ensures.sink_later (le_trans c.write_frames.ensures.sink_later c.write_end.ensures.sink_later)
 
+pub returns-in_default-finish-clause-sink_later : goal.returns-in_default-finish-clause-sink_later
+returns-in_default-finish-clause-sink_later g c =
+    le_trans c.write_front.ensures.sink_later
+    (le_trans c.write_frames.ensures.sink_later (le_trans c.write_end.ensures.sink_later c.finish.ensures.cause.later))
+
+pub returns-clause-sink_later : goal.returns-clause-sink_later
+returns-clause-sink_later g c =
+    le_trans c.write_front.ensures.sink_later
+    (le_trans c.write_frames.ensures.sink_later (le_trans c.write_end.ensures.sink_later c.finish.ensures.cause.later))
+
 -- ---- the causes
 pub returns-in-Err-clause-cause : goal.returns-in-Err-clause-cause
 returns-in-Err-clause-cause g c =
@@ -84,10 +94,41 @@ returns-in_default-finish-clause-cause g c =
     (le_trans c.write_front.ensures.sink_later (le_trans c.write_frames.ensures.sink_later c.write_end.ensures.sink_later))
     c.in_default-finish.ensures.cause.failed
 
+pub returns-clause-cause : goal.returns-clause-cause
+returns-clause-cause g c = tt {0}
+
 -- ---- what is answered
 pub returns-clause-done : goal.returns-clause-done
 returns-clause-done g c =
     decoded_alike c.args.walked.now.form.frames c.sound_size-size.result _ c.sound_size-size.ensures.size
+
+pub returns-in-Err-clause-done : goal.returns-in-Err-clause-done
+returns-in-Err-clause-done g c = tt {0}
+
+pub returns-in-Err-write_frames-clause-done : goal.returns-in-Err-write_frames-clause-done
+returns-in-Err-write_frames-clause-done g c = tt {0}
+
+pub returns-in-Err-write_end-clause-done : goal.returns-in-Err-write_end-clause-done
+returns-in-Err-write_end-clause-done g c = tt {0}
+
+pub returns-in_default-finish-clause-done : goal.returns-in_default-finish-clause-done
+returns-in_default-finish-clause-done g c = tt {0}
+
+-- ---- only what is done has settled the sink
+pub returns-in-Err-clause-settled : goal.returns-in-Err-clause-settled
+returns-in-Err-clause-settled g c = tt {0}
+
+pub returns-in-Err-write_frames-clause-settled : goal.returns-in-Err-write_frames-clause-settled
+returns-in-Err-write_frames-clause-settled g c = tt {0}
+
+pub returns-in-Err-write_end-clause-settled : goal.returns-in-Err-write_end-clause-settled
+returns-in-Err-write_end-clause-settled g c = tt {0}
+
+pub returns-in_default-finish-clause-settled : goal.returns-in_default-finish-clause-settled
+returns-in_default-finish-clause-settled g c = tt {0}
+
+pub returns-clause-settled : goal.returns-clause-settled
+returns-clause-settled g c = c.in-Ok.ensures.settled
 
 -- ---- the sizes that calls ask for
 pub write_front-requires-clause-size : goal.write_front-requires-clause-size
