@@ -9,6 +9,7 @@ use Rattle.dst_read.specs.declared.faults.Checked.{Checked}
 use Rattle.dst_read.specs.declared.faults.CheckFault.{CheckFault}
 use Rattle.dst_read.specs.declared.faults.CheckFault.TheVariants.{Source}
 use Rattle.dst_read.specs.Checking.{HasSourceCause}
+use Rattle.dst_read.specs.Jobs.{AreJobsFor, AreTablesFor}
 use Rattle.dst_read.proofs.Checks.{coded_is_sound, stopped}
 use Rattle.dst_read.proofs.Once.{stored_in_sound, stored_at_most}
 use Rattle.dst_read.proofs.check.check_frames.Goals as goal
@@ -106,3 +107,18 @@ returns-in-Err-jobs_for-clause-given_any g c = omega arith
 
 pub returns-in-Err-jobs_for-clause-ends : goal.returns-in-Err-jobs_for-clause-ends
 returns-in-Err-jobs_for-clause-ends g c file told = tt {0}
+
+-- ---- the frames are summed in the tables and jobs that were made
+pub sum_tails-requires-clause-size : goal.sum_tails-requires-clause-size
+sum_tails-requires-clause-size g c κs within = c.requires.size
+
+pub sum_tails-requires-clause-tables : goal.sum_tails-requires-clause-tables
+sum_tails-requires-clause-tables g c κs within =
+    subst (AreTablesFor c.args.walked.now.form.channels) (sym c.deref_mut.ensures.value) c.in-Ok.ensures.tables
+
+pub sum_tails-requires-clause-jobs : goal.sum_tails-requires-clause-jobs
+sum_tails-requires-clause-jobs g c κs within =
+    subst (AreJobsFor c.args.walked.now.form.channels) (sym c.deref_mut-2.ensures.value) c.in-Ok-jobs_for.ensures.jobs
+
+pub sum_tails-requires-clause-walked : goal.sum_tails-requires-clause-walked
+sum_tails-requires-clause-walked g c κs within file told = (c.requires.walked file told).entries_are

@@ -1,10 +1,11 @@
 -- In front of the sound, the sound, behind it.
-use Rattle.std.proofs.Common.{refl, sym, ◌∙◌, arith}
+use Rattle.std.proofs.Common.{length, refl, ap, sym, subst, ◌∙◌, rules, arith}
 use Rattle.std.proofs.Math.Nat.{le_trans}
 use Rattle.dst_streams.proofs.Counts.{Rose-earlier}
 use Rattle.dsdiff_chunks.specs.Forms.{coded_seen}
 use Rattle.dst_read.proofs.Ending.{ends_at_front, ends_in_frames, ends_at_end, ends_unsettled, ends_done}
 use Rattle.dst_commands.proofs.Taken.{parts_of_form}
+use Rattle.dst_read.specs.Jobs.{AreJobsFor, AreTablesFor}
 use Rattle.dst_read.proofs.Once.{stored_in_sound}
 use Rattle.dst_read.proofs.Causes.{caused_by_device, caused_later, decoded_alike}
 use Rattle.dst_read.proofs.decode.write_decoded.Goals as goal
@@ -141,8 +142,25 @@ pub write_end-requires-clause-size : goal.write_end-requires-clause-size
 write_end-requires-clause-size g c =
     (c.requires.size.0, c.write_frames.ensures.stays ∙ c.write_front.ensures.stays ∙ c.requires.size.1, c.requires.size.2)
 
--- ---- what is written
+-- ---- the tables, the jobs and the buffer of the workspace
+pub write_front-requires-clause-buffer : goal.write_front-requires-clause-buffer
+write_front-requires-clause-buffer g c = omega (arith, ap length c.deref_mut.ensures.value, c.requires.room.buffer)
 
+pub write_front-requires-clause-most : goal.write_front-requires-clause-most
+write_front-requires-clause-most g c = c.sound_size-size.ensures.most
+
+pub write_frames-requires-clause-tables : goal.write_frames-requires-clause-tables
+write_frames-requires-clause-tables g c κs within =
+    subst (AreTablesFor c.args.walked.now.form.channels) (sym c.deref_mut-2.ensures.value) c.requires.room.tables
+
+pub write_frames-requires-clause-jobs : goal.write_frames-requires-clause-jobs
+write_frames-requires-clause-jobs g c κs within =
+    subst (AreJobsFor c.args.walked.now.form.channels) (sym c.deref_mut-3.ensures.value) c.requires.room.jobs
+
+pub write_end-requires-clause-buffer : goal.write_end-requires-clause-buffer
+write_end-requires-clause-buffer g c = search rules
+
+-- ---- what is written
 pub returns-in-Err-clause-written : goal.returns-in-Err-clause-written
 returns-in-Err-clause-written g c file told =
     ends_at_front c.fault_of_device.result c.in-Err.fault c.sound_size-size.result file (coded_seen c.args.walked.now.form) c.args.walked.now.index _ _ _
