@@ -287,8 +287,15 @@ impl Drain<Number> for InOrder {
 
 const NEVER: u32 = u32::MAX;
 
-// What one run answers, how many jobs were drained, whether each stood at its place, and how often the end was answered.
-type Outcome = (Result<u32, (&'static str, u32)>, u32, bool, u64);
+// How a run ends.
+const WHOLE: u8 = 0;
+
+const FEED_FAILS: u8 = 1;
+
+const DRAIN_FAILS: u8 = 2;
+
+// How one run ends, with which number, how many jobs were drained, whether each stood at its place, and how often the end was answered.
+type Outcome = (u8, u32, u32, bool, u64);
 
 fn run_numbers<R: Threads + Sync>(
     rt: &R,
@@ -313,7 +320,7 @@ fn run_numbers<R: Threads + Sync>(
     };
     let mut scratches = [IDLE; 16];
     let mut jobs = [Number { value: 0 }; 32];
-    let answer = match run_ordered(
+    let (how, number) = match run_ordered(
         rt,
         &ADD_ONE,
         &mut feed,
@@ -322,37 +329,39 @@ fn run_numbers<R: Threads + Sync>(
         &mut scratches[..workers],
         &mut jobs,
     ) {
-        Ok(count) => Ok(count),
-        Err(RunFault::Feed(place)) => Err(("feed", place)),
-        Err(RunFault::Drain(place)) => Err(("drain", place)),
+        Ok(count) => (WHOLE, count),
+        Err(RunFault::Feed(place)) => (FEED_FAILS, place),
+        Err(RunFault::Drain(place)) => (DRAIN_FAILS, place),
     };
     (
-        answer,
+        how,
+        number,
         drain.count,
         drain.is_in_order,
         ends.load(Ordering::SeqCst),
     )
 }
 
-// Numbers, where the feed and the drain fail, and what one run answers.
-const ROWS: [(u32, u32, u32, Outcome); 17] = [
-    (0, NEVER, NEVER, (Ok(0), 0, true, 1)),
-    (1, NEVER, NEVER, (Ok(1), 1, true, 1)),
-    (31, NEVER, NEVER, (Ok(31), 31, true, 1)),
-    (32, NEVER, NEVER, (Ok(32), 32, true, 1)),
-    (33, NEVER, NEVER, (Ok(33), 33, true, 1)),
-    (100, NEVER, NEVER, (Ok(100), 100, true, 1)),
-    (1, 0, NEVER, (Err(("feed", 0)), 0, true, 0)),
-    (100, 31, NEVER, (Err(("feed", 31)), 31, true, 0)),
-    (100, 32, NEVER, (Err(("feed", 32)), 32, true, 0)),
-    (100, 40, NEVER, (Err(("feed", 40)), 40, true, 0)),
-    (1, NEVER, 0, (Err(("drain", 0)), 0, true, 1)),
-    (33, NEVER, 32, (Err(("drain", 32)), 32, true, 1)),
-    (100, NEVER, 31, (Err(("drain", 31)), 31, true, 0)),
-    (100, NEVER, 50, (Err(("drain", 50)), 50, true, 0)),
-    (100, 40, 39, (Err(("drain", 39)), 39, true, 0)),
-    (100, 40, 40, (Err(("feed", 40)), 40, true, 0)),
-    (100, 40, 7, (Err(("drain", 7)), 7, true, 0)),
+// Numbers, where the feed and the drain fail, how each run ends, with which number, which is that of the jobs drained too, and how often the
+// end was answered.
+const ROWS: [(u32, u32, u32, u8, u32, u64); 17] = [
+    (0, NEVER, NEVER, WHOLE, 0, 1),
+    (1, NEVER, NEVER, WHOLE, 1, 1),
+    (31, NEVER, NEVER, WHOLE, 31, 1),
+    (32, NEVER, NEVER, WHOLE, 32, 1),
+    (33, NEVER, NEVER, WHOLE, 33, 1),
+    (100, NEVER, NEVER, WHOLE, 100, 1),
+    (1, 0, NEVER, FEED_FAILS, 0, 0),
+    (100, 31, NEVER, FEED_FAILS, 31, 0),
+    (100, 32, NEVER, FEED_FAILS, 32, 0),
+    (100, 40, NEVER, FEED_FAILS, 40, 0),
+    (1, NEVER, 0, DRAIN_FAILS, 0, 1),
+    (33, NEVER, 32, DRAIN_FAILS, 32, 1),
+    (100, NEVER, 31, DRAIN_FAILS, 31, 0),
+    (100, NEVER, 50, DRAIN_FAILS, 50, 0),
+    (100, 40, 39, DRAIN_FAILS, 39, 0),
+    (100, 40, 40, FEED_FAILS, 40, 0),
+    (100, 40, 7, DRAIN_FAILS, 7, 0),
 ];
 
 // The first number of workers whose run answers other than this, and what it answers.
@@ -374,7 +383,8 @@ fn first_other<R: Threads + Sync>(
 
 #[test]
 fn every_number_of_workers_gives_one_answer(rt: HostRuntime) {
-    for &(end, feed_fails_at, drain_fails_at, wanted) in &ROWS {
+    for &(end, feed_fails_at, drain_fails_at, how, number, ends) in &ROWS {
+        let wanted = (how, number, number, true, ends);
         let other = first_other(&rt, end, feed_fails_at, drain_fails_at, wanted);
         assert_eq!(rt; other, None, "{end} numbers");
     }

@@ -8,7 +8,7 @@ use dst_streams::{
     PipeFlow, ShortFlowSink, Sink, Source, TextSink,
 };
 use faulty::{BrokenPipe, Disk};
-use std::alloc::{AllocError, Allocator, Global};
+use std::alloc::{Alloc, AllocError, Allocator, Global};
 use std::fs::{self, Files};
 use std::io::{self, BufRead, ErrorKind, Input, Lines};
 
@@ -49,23 +49,35 @@ fn read_from<S: Source>(source: &mut S, place: u64) -> (Result<usize, Failed>, [
     (read, out)
 }
 
-// A place, the answer, and what is held then.
-const READS: [(u64, Result<usize, Failed>, [u8; 4]); 5] = [
-    (1, Ok(3), [2, 3, 4, 0]),
-    (1, Err(Failed), [0, 0, 0, 0]),
-    (4, Ok(1), [5, 0, 0, 0]),
-    (0, Ok(1), [1, 0, 0, 0]),
-    (5, Ok(0), [0, 0, 0, 0]),
-];
+// What a source says of its size when it is asked twice, and gives then from five places.
+type Planned = (
+    [Result<u64, Failed>; 2],
+    [(Result<usize, Failed>, [u8; 4]); 5],
+);
+
+fn planned() -> Planned {
+    let mut source = MemorySource::new(&[1, 2, 3, 4, 5], &[3, 0], &[0, 3]);
+    let sizes = [source.size(), source.size()];
+    let reads = [
+        read_from(&mut source, 1),
+        read_from(&mut source, 1),
+        read_from(&mut source, 4),
+        read_from(&mut source, 0),
+        read_from(&mut source, 5),
+    ];
+    (sizes, reads)
+}
 
 #[test]
 fn a_source_in_memory_gives_its_pieces_and_fails_as_planned(rt: HostRuntime) {
-    let mut source = MemorySource::new(&[1, 2, 3, 4, 5], &[3, 0], &[0, 3]);
-    let sizes = (source.size(), source.size());
-    assert_eq!(rt; sizes, (Err(Failed), Ok(5)));
-    for &(place, answer, held) in &READS {
-        assert_eq!(rt; read_from(&mut source, place), (answer, held), "at {place}");
-    }
+    let reads = [
+        (Ok(3), [2, 3, 4, 0]),
+        (Err(Failed), [0, 0, 0, 0]),
+        (Ok(1), [5, 0, 0, 0]),
+        (Ok(1), [1, 0, 0, 0]),
+        (Ok(0), [0, 0, 0, 0]),
+    ];
+    assert_eq!(rt; planned(), ([Err(Failed), Ok(5)], reads));
 }
 
 #[test]
@@ -173,29 +185,35 @@ fn a_short_sink_keeps_its_prefix_and_then_fails(rt: HostRuntime) {
     assert_eq!(rt; cut_short(), Ok(wanted));
 }
 
-// Three bytes are asked of a flow: the answer, and what is held then.
-fn moves<F: Flow>(flow: &mut F) -> (Result<usize, Failed>, [u8; 3]) {
+// What a flow answers when three bytes are asked of it, and what is held then.
+type Moved = (Result<usize, Failed>, [u8; 3]);
+
+fn moves<F: Flow>(flow: &mut F) -> Moved {
     let mut out = [0u8; 3];
     let moved = flow.next(&mut out);
     (moved, out)
 }
 
-// What a flow gives in order, and what is held then.
-const PIECES: [(Result<usize, Failed>, [u8; 3]); 6] = [
-    (Ok(2), [1, 2, 0]),
-    (Ok(1), [3, 0, 0]),
-    (Err(Failed), [0, 0, 0]),
-    (Ok(1), [4, 0, 0]),
-    (Ok(2), [5, 6, 0]),
-    (Ok(0), [0, 0, 0]),
-];
+// The same three times in order.
+fn moves_thrice<F: Flow>(flow: &mut F) -> [Moved; 3] {
+    [moves(flow), moves(flow), moves(flow)]
+}
+
+// Six pieces of a flow in memory.
+fn pieces() -> [[Moved; 3]; 2] {
+    let mut flow = MemoryFlow::new(&[1, 2, 3, 4, 5, 6], &[2, 0], &[2]);
+    [moves_thrice(&mut flow), moves_thrice(&mut flow)]
+}
 
 #[test]
 fn a_flow_in_memory_moves_its_pieces(rt: HostRuntime) {
-    let mut flow = MemoryFlow::new(&[1, 2, 3, 4, 5, 6], &[2, 0], &[2]);
-    for &wanted in &PIECES {
-        assert_eq!(rt; moves(&mut flow), wanted);
-    }
+    let first = [
+        (Ok(2), [1, 2, 0]),
+        (Ok(1), [3, 0, 0]),
+        (Err(Failed), [0, 0, 0]),
+    ];
+    let then = [(Ok(1), [4, 0, 0]), (Ok(2), [5, 6, 0]), (Ok(0), [0, 0, 0])];
+    assert_eq!(rt; pieces(), [first, then]);
 }
 
 // Whether the system did what it was asked.
@@ -204,7 +222,7 @@ fn is_done(answer: io::Result<()>) -> bool {
 }
 
 // Whether a file holds these bytes. It is removed.
-fn holds(rt: &HostRuntime, path: &str, bytes: &[u8]) -> bool {
+fn holds<R: Files + Alloc>(rt: &R, path: &str, bytes: &[u8]) -> bool {
     match fs::read(rt, path) {
         Ok(held) => is_done(fs::remove_file(rt, path)) && held.as_slice() == bytes,
         Err(_) => false,
@@ -234,29 +252,44 @@ fn made_again<D: Files>(disk: &D) -> (Result<(), Failed>, Option<ErrorKind>, Opt
     (refused, kind_of(again.reason()), again.held())
 }
 
-#[test]
-fn a_file_is_made_where_there_is_none(rt: HostRuntime) {
-    let _is_gone = is_done(fs::remove_file(&rt, "made.bin"));
-    let size = made_size(&rt);
-    let again = made_again(&rt);
-    let is_held = holds(&rt, "made.bin", b"sEVen b!");
-    let refused = (Err(Failed), Some(ErrorKind::AlreadyExists), None);
-    assert_eq!(rt; (size, again, is_held), (Ok(Some(8)), refused, true));
+// What making a file answers, and making it again, and whether it holds what was written first.
+type Made = (
+    Result<Option<u64>, Failed>,
+    (Result<(), Failed>, Option<ErrorKind>, Option<u64>),
+    bool,
+);
+
+fn made_twice<R: Files + Alloc>(rt: &R) -> Made {
+    let _is_gone = is_done(fs::remove_file(rt, "made.bin"));
+    let size = made_size(rt);
+    let again = made_again(rt);
+    (size, again, holds(rt, "made.bin", b"sEVen b!"))
 }
 
-// A piece and a part of it written over, by a disk that takes them in small steps.
-fn written_in_parts<D: Files>(disk: &D) -> Result<(), Failed> {
+#[test]
+fn a_file_is_made_where_there_is_none(rt: HostRuntime) {
+    let refused = (Err(Failed), Some(ErrorKind::AlreadyExists), None);
+    assert_eq!(rt; made_twice(&rt), (Ok(Some(8)), refused, true));
+}
+
+// A piece and a part of it written over.
+fn write_parts<D: Files>(disk: &D) -> Result<(), Failed> {
     let mut sink = FileSink::new(disk, "parts.bin");
     sink.append(b"seven bytes")?;
     sink.overwrite(6, b"BYTES")
 }
 
+// What a disk that takes them in small steps answers, and whether they are held then.
+fn written_in_parts<R: Files + Alloc, D: Files>(rt: &R, steps: &D) -> (Result<(), Failed>, bool) {
+    let _is_gone = is_done(fs::remove_file(rt, "parts.bin"));
+    let written = write_parts(steps);
+    (written, holds(rt, "parts.bin", b"seven BYTES"))
+}
+
 #[test]
 fn a_piece_that_is_taken_in_parts_is_written_whole(rt: HostRuntime) {
-    let _is_gone = is_done(fs::remove_file(&rt, "parts.bin"));
-    let written = written_in_parts(&Disk::SmallSteps(&rt));
-    let is_held = holds(&rt, "parts.bin", b"seven BYTES");
-    assert_eq!(rt; (written, is_held), (Ok(()), true));
+    let written = written_in_parts(&rt, &Disk::SmallSteps(&rt));
+    assert_eq!(rt; written, (Ok(()), true));
 }
 
 // What finishing answers where nothing was made yet, and behind a piece.
@@ -290,21 +323,25 @@ fn size_or_reason<D: Files>(disk: &D) -> (Result<u64, Failed>, Option<ErrorKind>
     (size, kind_of(source.reason()))
 }
 
+// Whether a file of seven bytes is made and removed, what reading it tells, and its size when it is gone.
+type ReadAndGone = (
+    [bool; 2],
+    Result<Told, Failed>,
+    (Result<u64, Failed>, Option<ErrorKind>),
+);
+
+fn read_and_gone<D: Files>(disk: &D) -> ReadAndGone {
+    let is_made = is_done(fs::write(disk, "read.bin", b"seven b"));
+    let read = read_file(disk);
+    let is_removed = is_done(fs::remove_file(disk, "read.bin"));
+    ([is_made, is_removed], read, size_or_reason(disk))
+}
+
 #[test]
 fn a_file_is_read_as_it_is(rt: HostRuntime) {
-    let is_made = is_done(fs::write(&rt, "read.bin", b"seven b"));
-    let read = read_file(&rt);
-    let is_removed = is_done(fs::remove_file(&rt, "read.bin"));
-    let absent = size_or_reason(&rt);
-    assert_eq!(rt;
-        (is_made, read, is_removed, absent),
-        (
-            true,
-            Ok((7, Ok(5), Ok(0), *b"ven b\0")),
-            true,
-            (Err(Failed), Some(ErrorKind::NotFound))
-        )
-    );
+    let told = (7, Ok(5), Ok(0), *b"ven b\0");
+    let absent = (Err(Failed), Some(ErrorKind::NotFound));
+    assert_eq!(rt; read_and_gone(&rt), ([true; 2], Ok(told), absent));
 }
 
 // The size of a file that ends below it when it is read, whether it was made to, the answer behind that end, and why.
@@ -325,22 +362,28 @@ fn read_folder<D: Files>(disk: &D) -> Result<Result<usize, Failed>, Failed> {
     Ok(folder.read_at(0, &mut [0u8; 4]))
 }
 
+// Whether a file of seven bytes is made and removed, what it tells that ends below the size that it had, and what a folder answers.
+type NothingGiven = (
+    [bool; 2],
+    Result<Shrunk, Failed>,
+    Result<Result<usize, Failed>, Failed>,
+);
+
+fn nothing_given<D: Files>(disk: &D) -> NothingGiven {
+    let is_made = is_done(fs::write(disk, "shrinks.bin", b"seven b"));
+    let shrunk = read_shrunk(disk);
+    let is_removed = is_done(fs::remove_file(disk, "shrinks.bin"));
+    ([is_made, is_removed], shrunk, read_folder(disk))
+}
+
 // A file that ends below the size that it had, a folder, and a file whose size can't be had.
 #[test]
 fn a_file_that_gives_nothing_is_a_failure(rt: HostRuntime) {
-    let is_made = is_done(fs::write(&rt, "shrinks.bin", b"seven b"));
-    let shrunk = read_shrunk(&rt);
-    let is_removed = is_done(fs::remove_file(&rt, "shrinks.bin"));
     let (no_size, _) = size_or_reason(&Disk::Full);
+    let shrunk = (7, true, Err(Failed), Some(ErrorKind::UnexpectedEof));
     assert_eq!(rt;
-        (is_made, shrunk, is_removed, read_folder(&rt), no_size),
-        (
-            true,
-            Ok((7, true, Err(Failed), Some(ErrorKind::UnexpectedEof))),
-            true,
-            Ok(Err(Failed)),
-            Err(Failed)
-        )
+        (nothing_given(&rt), no_size),
+        (([true; 2], Ok(shrunk), Ok(Err(Failed))), Err(Failed))
     );
 }
 
@@ -382,17 +425,11 @@ fn standard_input_that_breaks_off_is_a_failure(rt: HostRuntime) {
     assert_eq!(rt; breaks_off(), (Ok(3), Err(Failed), broken));
 }
 
-// What a pipe of five bytes gives, and what is held then.
-const TYPED: [(Result<usize, Failed>, [u8; 3]); 3] = [
-    (Ok(3), *b"typ"),
-    (Ok(2), *b"ed\0"),
-    (Ok(0), [0; 3]),
-];
-
 #[test]
 fn standard_input_comes_in_order_to_its_end(rt: HostRuntime) {
-    let mut flow = PipeFlow::new(&Typed);
-    for &wanted in &TYPED {
-        assert_eq!(rt; moves(&mut flow), wanted);
-    }
+    let moved = moves_thrice(&mut PipeFlow::new(&Typed));
+    assert_eq!(rt;
+        moved,
+        [(Ok(3), *b"typ"), (Ok(2), *b"ed\0"), (Ok(0), [0; 3])]
+    );
 }
