@@ -1,10 +1,12 @@
 // Readers and writers at their edges.
 use bit_io::{BitReader, BitSlice, BitWriter};
-use std::test::Fail;
+use std::alloc::{AllocError, Global};
 
-#[test]
-fn numbers_are_put_behind_each_other(rt: HostRuntime) -> Result<(), Fail> {
-    let mut writer = BitWriter::new(rt.alloc(), 3)?;
+// Which of six numbers fit into three bytes, the length and the room then and behind the end, and whether the bytes are those that are wanted.
+type Put = ([bool; 6], [(u64, u64); 2], bool);
+
+fn put_six(alloc: Global) -> Result<Put, AllocError> {
+    let mut writer = BitWriter::new(alloc, 3)?;
     let put = [
         writer.put(0, 0),
         writer.put(5, 3),
@@ -15,28 +17,29 @@ fn numbers_are_put_behind_each_other(rt: HostRuntime) -> Result<(), Fail> {
     ];
     let before = (writer.length(), writer.room());
     writer.finish();
+    let behind = (writer.length(), writer.room());
     // 101 1001 110101011 11 000000
-    assert_eq!(rt;
-        (
-            put,
-            before,
-            (writer.length(), writer.room()),
-            writer.bytes(),
-        ),
-        (
-            [true, true, true, true, false, true],
-            (18, 6),
-            (24, 0),
-            [0xb3, 0xab, 0xc0].as_slice(),
-        )
-    );
-    Ok(())
+    let are_held = writer.bytes() == [0xb3, 0xab, 0xc0].as_slice();
+    Ok((put, [before, behind], are_held))
 }
 
 #[test]
-fn numbers_are_read_behind_each_other(rt: HostRuntime) -> Result<(), Fail> {
+fn numbers_are_put_behind_each_other(rt: HostRuntime) {
+    let put = [true, true, true, true, false, true];
+    let rooms = [(18, 6), (24, 0)];
+    assert_eq!(rt; put_six(rt.alloc()), Ok((put, rooms, true)));
+}
+
+// A number that is read, one with a sign, the place behind them, and how many bits are left.
+type Read = (Option<u32>, Option<i32>, u64, u64);
+
+// Of three bytes: what is read within them and what past their end, where the rest begins and how many bytes it has, and a number padded with
+// zeros, the place behind it and how many bits are left.
+type Reads = ([Read; 2], (u64, usize), (u32, u64, u64));
+
+fn read_three_bytes() -> Reads {
     let mut reader = BitReader::new(&[0xb3, 0xab, 0xc0]);
-    let read = (
+    let within = (
         reader.read(3),
         reader.read_signed(4),
         reader.place(),
@@ -51,75 +54,81 @@ fn numbers_are_read_behind_each_other(rt: HostRuntime) -> Result<(), Fail> {
     let rest = reader.rest();
     let behind = (rest.first, rest.bytes.len());
     let padded = (reader.read_or_zero(32), reader.place(), reader.left());
-    assert_eq!(rt;
-        (read, past, behind, padded),
-        (
-            (Some(5), Some(-7), 7, 17),
-            (None, None, 7, 17),
-            (7, 3),
-            (0xd5e0_0000, 39, 0),
-        )
-    );
-    Ok(())
+    ([within, past], behind, padded)
 }
 
 #[test]
-fn no_bit_fits_in_no_bytes(rt: HostRuntime) -> Result<(), Fail> {
-    let mut writer = BitWriter::new(rt.alloc(), 0)?;
+fn numbers_are_read_behind_each_other(rt: HostRuntime) {
+    let reads = [(Some(5), Some(-7), 7, 17), (None, None, 7, 17)];
+    assert_eq!(rt; read_three_bytes(), (reads, (7, 3), (0xd5e0_0000, 39, 0)));
+}
+
+// Whether a bit fits in no bytes, the length and the room, and how many bytes are held.
+fn put_in_no_bytes(alloc: Global) -> Result<(bool, u64, u64, usize), AllocError> {
+    let mut writer = BitWriter::new(alloc, 0)?;
     let put = writer.put(1, 1);
-    assert_eq!(rt;
-        (put, writer.length(), writer.room(), writer.bytes()),
-        (false, 0, 0, [].as_slice())
-    );
-    Ok(())
+    Ok((put, writer.length(), writer.room(), writer.bytes().len()))
 }
 
 #[test]
-fn numbers_are_read_at_every_place(rt: HostRuntime) -> Result<(), Fail> {
-    let bytes = [0x01, 0x23, 0x45, 0x67, 0x89, 0xab, 0xcd, 0xef, 0xff];
-    const CASES: [(u32, u32, Option<u32>, Option<i32>); 10] = [
-        (0, 32, Some(0x0123_4567), Some(0x0123_4567)),
-        (4, 32, Some(0x1234_5678), Some(0x1234_5678)),
-        (7, 32, Some(0x91a2_b3c4), Some(-0x6e5d_4c3c)),
-        (37, 32, Some(0x3579_bdff), Some(0x3579_bdff)),
-        (40, 32, Some(0xabcd_efff), Some(-0x5432_1001)),
-        (41, 32, None, None),
-        (63, 9, Some(0x1ff), Some(-1)),
-        (64, 1, Some(1), Some(-1)),
-        (72, 1, None, None),
-        (90, 1, None, None),
+fn no_bit_fits_in_no_bytes(rt: HostRuntime) {
+    assert_eq!(rt; put_in_no_bytes(rt.alloc()), Ok((false, 0, 0, 0)));
+}
+
+// A number of 1 to 32 bits at a place of nine bytes, the same with a sign, and whether it is the same where zeros may pad it, if it is there.
+fn read_at(place: u32, n: u32) -> Option<(Option<u32>, Option<i32>, bool)> {
+    if n < 1 || 32 < n {
+        return None;
+    }
+    let slice = BitSlice {
+        bytes: &[0x01, 0x23, 0x45, 0x67, 0x89, 0xab, 0xcd, 0xef, 0xff],
+        first: u64::from(place),
+    };
+    let number = BitReader::over(slice).read(n);
+    let signed = BitReader::over(slice).read_signed(n);
+    let padded = BitReader::over(slice).read_or_zero(n);
+    Some((number, signed, number.unwrap_or(padded) == padded))
+}
+
+#[test]
+fn numbers_are_read_at_every_place(rt: HostRuntime) {
+    // a place, how many bits, whether they are there, and if so their number and the same with a sign
+    const CASES: [(u32, u32, bool, u32, i32); 10] = [
+        (0, 32, true, 0x0123_4567, 0x0123_4567),
+        (4, 32, true, 0x1234_5678, 0x1234_5678),
+        (7, 32, true, 0x91a2_b3c4, -0x6e5d_4c3c),
+        (37, 32, true, 0x3579_bdff, 0x3579_bdff),
+        (40, 32, true, 0xabcd_efff, -0x5432_1001),
+        (41, 32, false, 0, 0),
+        (63, 9, true, 0x1ff, -1),
+        (64, 1, true, 1, -1),
+        (72, 1, false, 0, 0),
+        (90, 1, false, 0, 0),
     ];
-    for &(place, n, unsigned, signed) in &CASES {
-        assert!(rt; 1 <= n && n <= 32);
-        let slice = BitSlice {
-            bytes: &bytes,
-            first: u64::from(place),
-        };
-        let padded = BitReader::over(slice).read_or_zero(n);
+    for &(place, n, is_there, number, signed) in &CASES {
         assert_eq!(rt;
-            (
-                BitReader::over(slice).read(n),
-                BitReader::over(slice).read_signed(n),
-                unsigned.unwrap_or(padded),
-            ),
-            (unsigned, signed, padded),
+            read_at(place, n),
+            Some((is_there.then_some(number), is_there.then_some(signed), true)),
             "{n} bits at {place}"
         );
     }
-    Ok(())
 }
 
-#[test]
-fn cleared_writers_begin_anew(rt: HostRuntime) -> Result<(), Fail> {
-    let mut writer = BitWriter::new(rt.alloc(), 2)?;
+// Whether eleven bits are put into two bytes, the length and the room when they are cleared, whether sixteen are put then, and whether
+// these are held.
+fn put_anew(alloc: Global) -> Result<(bool, (u64, u64), bool, bool), AllocError> {
+    let mut writer = BitWriter::new(alloc, 2)?;
     let before = writer.put(0x7ff, 11);
     writer.clear();
     let cleared = (writer.length(), writer.room());
     let anew = writer.put(0x8001, 16);
     writer.finish();
-    assert_eq!(rt;
-        (before, cleared, anew, writer.bytes()),
-        (true, (0, 16), true, [0x80, 0x01].as_slice())
-    );
-    Ok(())
+    let are_held = writer.bytes() == [0x80, 0x01].as_slice();
+    Ok((before, cleared, anew, are_held))
+}
+
+#[test]
+fn cleared_writers_begin_anew(rt: HostRuntime) {
+    let wanted = (true, (0, 16), true, true);
+    assert_eq!(rt; put_anew(rt.alloc()), Ok(wanted));
 }

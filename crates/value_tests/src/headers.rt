@@ -1,11 +1,10 @@
 // Headers of worked frames, the faults of others, and the parts that are lent.
-ghost use Rattle.std.specs.Prelude.{◌≤◌, length};
+ghost use Rattle.std.specs.Prelude.{◌≤◌};
 
 use bit_io::{BitReader, BitWriter};
 use dst_num::{Channels, FrameFault, Params, Reason};
 use frame_header::{FrameView, laws, read_header, view_frame, write_header};
 use std::alloc::{AllocError, Global};
-use std::test::Fail;
 
 // One channel, whose filter is coefficient 0 and whose probabilities are 128 and 128; the code begins at bit 45.
 const COEFFICIENT_0: [u8; 6] = [0xfc, 0x00, 0x00, 0x05, 0xff, 0xf8];
@@ -23,17 +22,14 @@ fn has_tables(params: &Params, coefs: &[i16], entries: &[u8]) -> bool {
         && probs[0].entries() == entries
 }
 
-// Where the code of a coded frame begins, whether the whole frame is lent for it, and whether its tables are these.
-fn code_behind(
-    frame: &[u8],
-    channels: Channels,
-    coefs: &[i16],
-    entries: &[u8],
-) -> Option<(u64, bool, bool)>
-    requires { length frame.now ≤ 4708 }
-{
-    let _bytes = channels.sound_bytes();
-    match view_frame(frame, channels) {
+// Where the code of a coded frame of few bytes begins, whether the whole frame is lent for it, and whether its tables are these.
+fn code_behind(frame: &[u8], coefs: &[i16], entries: &[u8]) -> Option<(u64, bool, bool)> {
+    let mono = Channels::new(1)?;
+    if frame.len() > 9 {
+        return None;
+    }
+    let _bytes = mono.sound_bytes();
+    match view_frame(frame, mono) {
         Ok(FrameView::Coded(params, code)) => {
             let has_tables = has_tables(&params, coefs, entries);
             Some((code.first, code.bytes == frame, has_tables))
@@ -43,8 +39,7 @@ fn code_behind(
 }
 
 #[test]
-fn headers_end_where_their_code_begins(rt: HostRuntime) -> Result<(), Fail> {
-    let mono = Channels::new(1).ok_or("one channel")?;
+fn headers_end_where_their_code_begins(rt: HostRuntime) {
     const CASES: [(&[u8], u64, &[i16], &[u8]); 5] = [
         (&COEFFICIENT_0, 45, &[0], &[128, 128]),
         // a table of one probability
@@ -62,18 +57,23 @@ fn headers_end_where_their_code_begins(rt: HostRuntime) -> Result<(), Fail> {
         ),
     ];
     for &(frame, first, coefs, entries) in &CASES {
-        assert!(rt; frame.len() <= 9);
-        assert_eq!(rt;
-            code_behind(frame, mono, coefs, entries),
-            Some((first, true, true)),
-            "{frame:?}"
-        );
+        let told = code_behind(frame, coefs, entries);
+        assert_eq!(rt; told, Some((first, true, true)), "{frame:?}");
     }
-    Ok(())
+}
+
+// The fault of a frame of few bytes.
+fn fault_of(count: u32, frame: &[u8]) -> Option<FrameFault> {
+    let channels = Channels::new(count)?;
+    if frame.len() > 6 {
+        return None;
+    }
+    let _bytes = channels.sound_bytes();
+    view_frame(frame, channels).err()
 }
 
 #[test]
-fn the_first_field_at_fault_is_told(rt: HostRuntime) -> Result<(), Fail> {
+fn the_first_field_at_fault_is_told(rt: HostRuntime) {
     const CASES: [(u32, &[u8], Reason, u64); 12] = [
         (1, &[], Reason::Truncated, 0),
         (1, &[0x01], Reason::PlainStuffing, 2),
@@ -100,57 +100,47 @@ fn the_first_field_at_fault_is_told(rt: HostRuntime) -> Result<(), Fail> {
         ),
     ];
     for &(count, frame, reason, bit) in &CASES {
-        let channels = Channels::new(count).ok_or("channels")?;
-        let _bytes = channels.sound_bytes();
-        assert!(rt; frame.len() <= 6);
-        let fault = view_frame(frame, channels).err();
+        let fault = fault_of(count, frame);
         assert_eq!(rt; fault, Some(FrameFault { reason, bit }), "{frame:?}");
     }
-    Ok(())
 }
 
-// Whether a frame is plain and this sound is lent.
-fn lends(frame: &[u8], channels: Channels, wanted: &[u8]) -> bool
-    requires { length frame.now ≤ 4708 }
-{
-    let _bytes = channels.sound_bytes();
-    match view_frame(frame, channels) {
-        Ok(FrameView::Plain(sound)) => sound == wanted,
-        _ => false,
+// Whether a frame that begins so is plain, and the sound behind its first byte is lent.
+fn lends_sound(first: u8) -> Option<bool> {
+    let mono = Channels::new(1)?;
+    let mut frame = [7; 4708];
+    frame[0] = first;
+    let _bytes = mono.sound_bytes();
+    match view_frame(&frame, mono) {
+        Ok(FrameView::Plain(sound)) => Some(sound == [7; 4704].as_slice()),
+        _ => None,
     }
 }
 
 #[test]
-fn the_sound_of_a_plain_frame_is_lent(rt: HostRuntime) -> Result<(), Fail> {
-    let mono = Channels::new(1).ok_or("one channel")?;
-    let mut frame = [7; 4708];
-    for first in [0x00, 0x40] {
-        frame[0] = first;
-        assert!(rt; lends(&frame, mono, &[7; 4704]), "{first}");
-    }
-    Ok(())
+fn the_sound_of_a_plain_frame_is_lent(rt: HostRuntime) {
+    assert_eq!(rt; [lends_sound(0x00), lends_sound(0x40)], [Some(true); 2]);
 }
 
 // The parameters of the frame of coefficient 0, and where its code begins: as they say, and as the reader stands behind them.
-fn read_coefficient_0() -> Result<(Params, u64, u64), Fail> {
-    let mono = Channels::new(1).ok_or("one channel")?;
+fn read_coefficient_0() -> Option<(Params, u64, u64)> {
+    let mono = Channels::new(1)?;
     let mut reader = BitReader::new(&COEFFICIENT_0);
     let Some(1) = reader.read(1) else {
-        return Err("coded")?;
+        return None;
     };
     let _left = reader.left();
-    let header = read_header(&mut reader, mono)?;
-    Ok((header.params, header.code, reader.place()))
+    match read_header(&mut reader, mono) {
+        Ok(header) => Some((header.params, header.code, reader.place())),
+        Err(_) => None,
+    }
 }
 
 // Whether a header is written into room for so many bytes, the bits that it took and those that are left, and whether the bytes are
 // these.
-fn written(
-    alloc: Global,
-    params: &Params,
-    bytes: usize,
-    wanted: &[u8],
-) -> Result<(bool, u64, u64, bool), AllocError>
+type Written = Result<(bool, u64, u64, bool), AllocError>;
+
+fn written(alloc: Global, params: &Params, bytes: usize, wanted: &[u8]) -> Written
     requires { bytes ≤ 6 }
 {
     let mut writer = BitWriter::new(alloc, bytes)?;
@@ -160,21 +150,19 @@ fn written(
     Ok((fits, length, room, writer.bytes() == wanted))
 }
 
-#[test]
-fn a_header_is_read_and_written(rt: HostRuntime) -> Result<(), Fail> {
+// Where the code of that frame begins, in both ways, and its header written into five bytes and into six.
+fn read_and_written(alloc: Global) -> Option<([u64; 2], [Written; 2])> {
     laws::header_law();
     let (params, code, place) = read_coefficient_0()?;
-    let in_short = written(rt.alloc(), &params, 5, &[])?;
+    let in_short = written(alloc, &params, 5, &[]);
     // the probabilities take one bit less by method 0 with m = 0: 128 plain, and a residual of 0
-    let in_six = written(
-        rt.alloc(),
-        &params,
-        6,
-        &[0xfc, 0x00, 0x00, 0x06, 0x7f, 0x10],
-    )?;
-    assert_eq!(rt;
-        (code, place, in_short, in_six),
-        (45, 45, (false, 0, 40, true), (true, 44, 4, true))
-    );
-    Ok(())
+    let header = [0xfc, 0x00, 0x00, 0x06, 0x7f, 0x10];
+    let in_six = written(alloc, &params, 6, &header);
+    Some(([code, place], [in_short, in_six]))
+}
+
+#[test]
+fn a_header_is_read_and_written(rt: HostRuntime) {
+    let headers = [Ok((false, 0, 40, true)), Ok((true, 44, 4, true))];
+    assert_eq!(rt; read_and_written(rt.alloc()), Some(([45; 2], headers)));
 }
