@@ -1,6 +1,7 @@
 // Which jobs are worked at once, and one answer for every number of workers.
 ghost use Rattle.std.specs.Prelude.{◌≡◌, ◌+◌, ◌-◌, ◌%◌, ◌^◌, ◌<◌, ◌≤◌};
 
+use crate::compared::same;
 use frame_crew::{
     Drain, Feed, Gate, InTurn, JobWork, OpenGate, RunFault, Slot, run_batch, run_ordered,
 };
@@ -140,7 +141,8 @@ fn all_held(workers: usize) -> Held
 #[test]
 fn as_many_jobs_as_workers_are_worked_at_once(rt: HostRuntime) {
     for workers in 2..17usize {
-        assert_eq!(rt; held(&rt, workers), all_held(workers), "{workers} workers");
+        let found = (workers, held(&rt, workers));
+        same(&rt, &found, &(workers, all_held(workers)));
     }
 }
 
@@ -210,11 +212,9 @@ fn even_shares(workers: usize, count: usize) -> Shares {
 fn the_jobs_are_shared_out_evenly(rt: HostRuntime) {
     for workers in 1..17usize {
         for count in 0..65usize {
-            assert_eq!(rt;
-                shared_out(&rt, workers, count),
-                even_shares(workers, count),
-                "{count} jobs, {workers} workers"
-            );
+            let found = (workers, count, shared_out(&rt, workers, count));
+            let even = even_shares(workers, count);
+            same(&rt, &found, &(workers, count, even));
         }
     }
 }
@@ -386,6 +386,6 @@ fn every_number_of_workers_gives_one_answer(rt: HostRuntime) {
     for &(end, feed_fails_at, drain_fails_at, how, number, ends) in &ROWS {
         let wanted = (how, number, number, true, ends);
         let other = first_other(&rt, end, feed_fails_at, drain_fails_at, wanted);
-        assert_eq!(rt; other, None, "{end} numbers");
+        same(&rt, &(end, other), &(end, None));
     }
 }

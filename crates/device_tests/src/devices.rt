@@ -3,6 +3,7 @@ ghost use Rattle.std.specs.Prelude.{◌≡◌, ◌≤◌, IsSome, OnOk};
 
 mod faulty;
 
+use crate::compared::same;
 use dst_streams::{
     Failed, FileSink, FileSource, Flow, HonestSource, MemoryFlow, MemorySink, MemorySource,
     PipeFlow, ShortFlowSink, Sink, Source, TextSink,
@@ -77,14 +78,14 @@ fn a_source_in_memory_gives_its_pieces_and_fails_as_planned(rt: HostRuntime) {
         (Ok(1), [1, 0, 0, 0]),
         (Ok(0), [0, 0, 0, 0]),
     ];
-    assert_eq!(rt; planned(), ([Err(Failed), Ok(5)], reads));
+    same(&rt, &planned(), &([Err(Failed), Ok(5)], reads));
 }
 
 #[test]
 fn an_honest_source_gives_all_that_is_asked(rt: HostRuntime) {
     let mut source = HonestSource::new(&[1, 2, 3, 4, 5]);
     let told = (source.size(), read_from(&mut source, 1));
-    assert_eq!(rt; told, (Ok(5), (Ok(4), [2, 3, 4, 5])));
+    same(&rt, &told, &(Ok(5), (Ok(4), [2, 3, 4, 5])));
 }
 
 // A piece is appended: the answer, and whether these bytes are written then.
@@ -111,7 +112,7 @@ fn halves(alloc: Global) -> Result<Halves, AllocError> {
 fn a_sink_in_memory_keeps_half_of_a_refused_piece(rt: HostRuntime) {
     let refused = (Err(Failed), true);
     let appended = [(Ok(()), true), refused, refused, refused];
-    assert_eq!(rt; halves(rt.alloc()), Ok((appended, Err(Failed))));
+    same(&rt, &halves(rt.alloc()), &Ok((appended, Err(Failed))));
 }
 
 // Three bytes, of which the one at a place is written over.
@@ -133,7 +134,7 @@ fn is_written_over(alloc: Global) -> Result<(Result<(), Failed>, bool), AllocErr
 
 #[test]
 fn a_sink_in_memory_is_written_over(rt: HostRuntime) {
-    assert_eq!(rt; is_written_over(rt.alloc()), Ok((Ok(()), true)));
+    same(&rt, &is_written_over(rt.alloc()), &Ok((Ok(()), true)));
 }
 
 // Which of four calls of a sink fail.
@@ -162,7 +163,7 @@ const FAILING_CALLS: [(u64, Failing); 4] = [
 #[test]
 fn each_call_of_a_sink_in_memory_fails_in_its_turn(rt: HostRuntime) {
     for &(call, failing) in &FAILING_CALLS {
-        assert_eq!(rt; failing_calls(rt.alloc(), call), Ok(failing));
+        same(&rt, &failing_calls(rt.alloc(), call), &Ok(failing));
     }
 }
 
@@ -182,7 +183,7 @@ fn cut_short() -> Result<CutShort, Failed> {
 #[test]
 fn a_short_sink_keeps_its_prefix_and_then_fails(rt: HostRuntime) {
     let wanted = (Err(Failed), [Err(Failed); 3], [true; 2]);
-    assert_eq!(rt; cut_short(), Ok(wanted));
+    same(&rt, &cut_short(), &Ok(wanted));
 }
 
 // What a flow answers when three bytes are asked of it, and what is held then.
@@ -213,7 +214,7 @@ fn a_flow_in_memory_moves_its_pieces(rt: HostRuntime) {
         (Err(Failed), [0, 0, 0]),
     ];
     let then = [(Ok(1), [4, 0, 0]), (Ok(2), [5, 6, 0]), (Ok(0), [0, 0, 0])];
-    assert_eq!(rt; pieces(), [first, then]);
+    same(&rt, &pieces(), &[first, then]);
 }
 
 // Whether the system did what it was asked.
@@ -269,7 +270,7 @@ fn made_twice<R: Files + Alloc>(rt: &R) -> Made {
 #[test]
 fn a_file_is_made_where_there_is_none(rt: HostRuntime) {
     let refused = (Err(Failed), Some(ErrorKind::AlreadyExists), None);
-    assert_eq!(rt; made_twice(&rt), (Ok(Some(8)), refused, true));
+    same(&rt, &made_twice(&rt), &(Ok(Some(8)), refused, true));
 }
 
 // A piece and a part of it written over.
@@ -289,7 +290,7 @@ fn written_in_parts<R: Files + Alloc, D: Files>(rt: &R, steps: &D) -> (Result<()
 #[test]
 fn a_piece_that_is_taken_in_parts_is_written_whole(rt: HostRuntime) {
     let written = written_in_parts(&rt, &Disk::SmallSteps(&rt));
-    assert_eq!(rt; written, (Ok(()), true));
+    same(&rt, &written, &(Ok(()), true));
 }
 
 // What finishing answers where nothing was made yet, and behind a piece.
@@ -301,7 +302,7 @@ fn finishes<D: Files>(disk: &D) -> [Result<(), Failed>; 3] {
 
 #[test]
 fn a_file_that_the_disk_refuses_is_a_failure(rt: HostRuntime) {
-    assert_eq!(rt; finishes(&Disk::Full), [Ok(()), Ok(()), Err(Failed)]);
+    same(&rt, &finishes(&Disk::Full), &[Ok(()), Ok(()), Err(Failed)]);
 }
 
 // The size of a file, what reading answers from byte 2 on and behind its end, and the bytes from byte 2 on.
@@ -341,7 +342,7 @@ fn read_and_gone<D: Files>(disk: &D) -> ReadAndGone {
 fn a_file_is_read_as_it_is(rt: HostRuntime) {
     let told = (7, Ok(5), Ok(0), *b"ven b\0");
     let absent = (Err(Failed), Some(ErrorKind::NotFound));
-    assert_eq!(rt; read_and_gone(&rt), ([true; 2], Ok(told), absent));
+    same(&rt, &read_and_gone(&rt), &([true; 2], Ok(told), absent));
 }
 
 // The size of a file that ends below it when it is read, whether it was made to, the answer behind that end, and why.
@@ -381,9 +382,10 @@ fn nothing_given<D: Files>(disk: &D) -> NothingGiven {
 fn a_file_that_gives_nothing_is_a_failure(rt: HostRuntime) {
     let (no_size, _) = size_or_reason(&Disk::Full);
     let shrunk = (7, true, Err(Failed), Some(ErrorKind::UnexpectedEof));
-    assert_eq!(rt;
-        (nothing_given(&rt), no_size),
-        (([true; 2], Ok(shrunk), Ok(Err(Failed))), Err(Failed))
+    same(
+        &rt,
+        &(nothing_given(&rt), no_size),
+        &(([true; 2], Ok(shrunk), Ok(Err(Failed))), Err(Failed)),
     );
 }
 
@@ -396,14 +398,14 @@ fn says_a_line<K: Sink>(text: &mut K) -> Result<[Result<(), Failed>; 2], Failed>
 #[test]
 fn standard_output_takes_text_and_no_overwriting(rt: HostRuntime) {
     let mut text = TextSink::new(&rt);
-    assert_eq!(rt; says_a_line(&mut text), Ok([Err(Failed), Ok(())]));
+    same(&rt, &says_a_line(&mut text), &Ok([Err(Failed), Ok(())]));
 }
 
 #[test]
 fn standard_input_that_is_empty_is_at_its_end(rt: HostRuntime) {
     let mut out = [0u8; 4];
     let moved = PipeFlow::new(&rt).next(&mut out);
-    assert_eq!(rt; moved, Ok(0));
+    same(&rt, &moved, &Ok(0));
 }
 
 // What two calls of a pipe answer, and why the last one failed.
@@ -422,14 +424,15 @@ fn breaks_off() -> (
 #[test]
 fn standard_input_that_breaks_off_is_a_failure(rt: HostRuntime) {
     let broken = Some(ErrorKind::BrokenPipe);
-    assert_eq!(rt; breaks_off(), (Ok(3), Err(Failed), broken));
+    same(&rt, &breaks_off(), &(Ok(3), Err(Failed), broken));
 }
 
 #[test]
 fn standard_input_comes_in_order_to_its_end(rt: HostRuntime) {
     let moved = moves_thrice(&mut PipeFlow::new(&Typed));
-    assert_eq!(rt;
-        moved,
-        [(Ok(3), *b"typ"), (Ok(2), *b"ed\0"), (Ok(0), [0; 3])]
+    same(
+        &rt,
+        &moved,
+        &[(Ok(3), *b"typ"), (Ok(2), *b"ed\0"), (Ok(0), [0; 3])],
     );
 }
