@@ -1,4 +1,5 @@
 // Readers and writers at their edges.
+use crate::compared::same;
 use bit_io::{BitReader, BitSlice, BitWriter};
 use std::alloc::{AllocError, Global};
 
@@ -27,7 +28,7 @@ fn put_six(alloc: Global) -> Result<Put, AllocError> {
 fn numbers_are_put_behind_each_other(rt: HostRuntime) {
     let put = [true, true, true, true, false, true];
     let rooms = [(18, 6), (24, 0)];
-    assert_eq!(rt; put_six(rt.alloc()), Ok((put, rooms, true)));
+    same(&rt, &put_six(rt.alloc()), &Ok((put, rooms, true)));
 }
 
 // A number that is read, one with a sign, the place behind them, and how many bits are left.
@@ -60,7 +61,11 @@ fn read_three_bytes() -> Reads {
 #[test]
 fn numbers_are_read_behind_each_other(rt: HostRuntime) {
     let reads = [(Some(5), Some(-7), 7, 17), (None, None, 7, 17)];
-    assert_eq!(rt; read_three_bytes(), (reads, (7, 3), (0xd5e0_0000, 39, 0)));
+    same(
+        &rt,
+        &read_three_bytes(),
+        &(reads, (7, 3), (0xd5e0_0000, 39, 0)),
+    );
 }
 
 // Whether a bit fits in no bytes, the length and the room, and how many bytes are held.
@@ -72,7 +77,7 @@ fn put_in_no_bytes(alloc: Global) -> Result<(bool, u64, u64, usize), AllocError>
 
 #[test]
 fn no_bit_fits_in_no_bytes(rt: HostRuntime) {
-    assert_eq!(rt; put_in_no_bytes(rt.alloc()), Ok((false, 0, 0, 0)));
+    same(&rt, &put_in_no_bytes(rt.alloc()), &Ok((false, 0, 0, 0)));
 }
 
 // A number of 1 to 32 bits at a place of nine bytes, the same with a sign, and whether it is the same where zeros may pad it, if it is there.
@@ -106,10 +111,11 @@ fn numbers_are_read_at_every_place(rt: HostRuntime) {
         (90, 1, false, 0, 0),
     ];
     for &(place, n, is_there, number, signed) in &CASES {
-        assert_eq!(rt;
-            read_at(place, n),
-            Some((is_there.then_some(number), is_there.then_some(signed), true)),
-            "{n} bits at {place}"
+        let wanted = (is_there.then_some(number), is_there.then_some(signed), true);
+        same(
+            &rt,
+            &(place, n, read_at(place, n)),
+            &(place, n, Some(wanted)),
         );
     }
 }
@@ -130,5 +136,5 @@ fn put_anew(alloc: Global) -> Result<(bool, (u64, u64), bool, bool), AllocError>
 #[test]
 fn cleared_writers_begin_anew(rt: HostRuntime) {
     let wanted = (true, (0, 16), true, true);
-    assert_eq!(rt; put_anew(rt.alloc()), Ok(wanted));
+    same(&rt, &put_anew(rt.alloc()), &Ok(wanted));
 }

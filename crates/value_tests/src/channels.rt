@@ -1,4 +1,5 @@
 // What parameters give a channel.
+use crate::compared::same;
 use arrayvec::ArrayVec;
 use channel_params::{
     alike_channel, channel_filter, channel_half_prob, channel_probs, reserved_probability,
@@ -51,6 +52,6 @@ fn channels_have_their_tables(rt: HostRuntime) {
     ];
     for &(coef, second, alike, reserved) in &CASES {
         let wanted = ([true; 2], [false, second], [0, alike], reserved);
-        assert_eq!(rt; told(coef, second), Some(wanted));
+        same(&rt, &told(coef, second), &Some(wanted));
     }
 }

@@ -1,6 +1,7 @@
 // Headers of worked frames, the faults of others, and the parts that are lent.
 ghost use Rattle.std.specs.Prelude.{◌≤◌};
 
+use crate::compared::same;
 use bit_io::{BitReader, BitWriter};
 use dst_num::{Channels, FrameFault, Params, Reason};
 use frame_header::{FrameView, laws, read_header, view_frame, write_header};
@@ -58,7 +59,7 @@ fn headers_end_where_their_code_begins(rt: HostRuntime) {
     ];
     for &(frame, first, coefs, entries) in &CASES {
         let told = code_behind(frame, coefs, entries);
-        assert_eq!(rt; told, Some((first, true, true)), "{frame:?}");
+        same(&rt, &(frame, told), &(frame, Some((first, true, true))));
     }
 }
 
@@ -100,8 +101,8 @@ fn the_first_field_at_fault_is_told(rt: HostRuntime) {
         ),
     ];
     for &(count, frame, reason, bit) in &CASES {
-        let fault = fault_of(count, frame);
-        assert_eq!(rt; fault, Some(FrameFault { reason, bit }), "{frame:?}");
+        let found = (frame, fault_of(count, frame));
+        same(&rt, &found, &(frame, Some(FrameFault { reason, bit })));
     }
 }
 
@@ -119,7 +120,11 @@ fn lends_sound(first: u8) -> Option<bool> {
 
 #[test]
 fn the_sound_of_a_plain_frame_is_lent(rt: HostRuntime) {
-    assert_eq!(rt; [lends_sound(0x00), lends_sound(0x40)], [Some(true); 2]);
+    same(
+        &rt,
+        &[lends_sound(0x00), lends_sound(0x40)],
+        &[Some(true); 2],
+    );
 }
 
 // The parameters of the frame of coefficient 0, and where its code begins: as they say, and as the reader stands behind them.
@@ -164,5 +169,9 @@ fn read_and_written(alloc: Global) -> Option<([u64; 2], [Written; 2])> {
 #[test]
 fn a_header_is_read_and_written(rt: HostRuntime) {
     let headers = [Ok((false, 0, 40, true)), Ok((true, 44, 4, true))];
-    assert_eq!(rt; read_and_written(rt.alloc()), Some(([45; 2], headers)));
+    same(
+        &rt,
+        &read_and_written(rt.alloc()),
+        &Some(([45; 2], headers)),
+    );
 }

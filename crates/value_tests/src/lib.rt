@@ -7,6 +7,8 @@ mod bits;
 #[cfg(test)]
 mod channels;
 #[cfg(test)]
+mod compared;
+#[cfg(test)]
 mod headers;
 #[cfg(test)]
 mod prediction;

@@ -1,4 +1,5 @@
 // Predictions against plain sums, and sums ahead and side by side against them.
+use crate::compared::same;
 use byte_predictor::{
     Ahead, ByteFilter, EightAhead, History, KnownAhead, KnownFilter, RowFilter, predict,
 };
@@ -18,17 +19,17 @@ fn greatest_prediction_is_32768(rt: HostRuntime) {
     for _ in 0..128 {
         history.push(false);
     }
-    assert_eq!(rt; prediction_of(&[-256; 128], &history), Some(32768));
+    same(&rt, &prediction_of(&[-256; 128], &history), &Some(32768));
 }
 
 #[test]
 fn coefficient_1_predicts_minus_1_before_a_frame(rt: HostRuntime) {
-    assert_eq!(rt; prediction_of(&[1], &History::fresh()), Some(-1));
+    same(&rt, &prediction_of(&[1], &History::fresh()), &Some(-1));
 }
 
 #[test]
 fn fresh_history_is_sixteen_bytes_aa(rt: HostRuntime) {
-    assert_eq!(rt; *History::fresh().bytes(), [0xaa; 16]);
+    same(&rt, History::fresh().bytes(), &[0xaa; 16]);
 }
 
 // The next of some numbers without a pattern.
@@ -87,7 +88,7 @@ fn predictions_are_plain_sums(rt: HostRuntime) {
     let mut state = 1u32;
     for length in 1..129usize {
         let (found, plain) = predicted(&mut state, length);
-        assert_eq!(rt; found, Some(plain));
+        same(&rt, &found, &Some(plain));
     }
 }
 
@@ -146,8 +147,8 @@ fn sums_ahead_predict_what_the_tables_do(rt: HostRuntime) {
     let mut state = 7u32;
     let mut rows = RowFilter::new();
     for length in [1usize, 7, 8, 9, 100, 128] {
-        let found = sums_ahead(&mut state, length, &mut rows);
-        assert_eq!(rt; found, Some(((40, 40), true)), "{length} coefficients");
+        let found = (length, sums_ahead(&mut state, length, &mut rows));
+        same(&rt, &found, &(length, Some(((40, 40), true))));
     }
 }
 
@@ -217,6 +218,6 @@ fn sums_side_by_side_and_of_known_samples_are_those_ahead(rt: HostRuntime) {
     let mut known = KnownFilter::new();
     for length in [1usize, 8, 9, 64, 65, 128] {
         let found = sums_beside(&mut state, length, &mut rows, &mut known);
-        assert_eq!(rt; found, Some(([40; 3], true)), "{length} coefficients");
+        same(&rt, &(length, found), &(length, Some(([40; 3], true))));
     }
 }

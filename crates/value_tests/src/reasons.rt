@@ -1,4 +1,5 @@
 // The texts of faults, and the numbers and names of reasons.
+use crate::compared::same;
 use dst_spec::{FrameFault, Reason};
 use std::alloc::{AllocError, Global};
 use std::fmt::Write;
@@ -44,6 +45,6 @@ fn shown(alloc: Global) -> Result<String, AllocError> {
 #[test]
 fn a_fault_shows_its_number_name_and_bit(rt: HostRuntime) -> Result<(), Fail> {
     let text = shown(rt.alloc())?;
-    assert_eq!(rt; text.as_str(), SHOWN);
+    same(&rt, &text.as_str(), &SHOWN);
     Ok(())
 }

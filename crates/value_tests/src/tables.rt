@@ -1,6 +1,7 @@
 // Residuals and tables in worked examples.
 ghost use Rattle.std.specs.Prelude.{◌≤◌, ◌≤ℤ◌, pos, negsuc};
 
+use crate::compared::same;
 use bit_io::{BitReader, BitWriter};
 use dst_num::{FilterTable, FrameFault, ProbTable, Reason};
 use std::alloc::{AllocError, Global};
@@ -75,9 +76,10 @@ fn residuals_have_their_bits(rt: HostRuntime) {
     for &(r, m, bits, length) in &CASES {
         let place = u64::from(length);
         let read = Some((Some(r), place));
-        assert_eq!(rt;
-            written_in_one_byte(rt.alloc(), r, m),
-            Some((length, true, place, 1, Some(bits), read))
+        same(
+            &rt,
+            &written_in_one_byte(rt.alloc(), r, m),
+            &Some((length, true, place, 1, Some(bits), read)),
         );
     }
 }
@@ -101,7 +103,7 @@ fn first_other(alloc: Global, m: u32) -> Result<Option<(i32, Written)>, AllocErr
 #[test]
 fn every_residual_is_read_back(rt: HostRuntime) {
     for m in 0..8u32 {
-        assert_eq!(rt; (m, first_other(rt.alloc(), m)), (m, Ok(None)));
+        same(&rt, &(m, first_other(rt.alloc(), m)), &(m, Ok(None)));
     }
 }
 
@@ -110,7 +112,11 @@ fn cut_residual_leaves_the_reader(rt: HostRuntime) {
     let mut reader = BitReader::new(&[0x00]);
     let _left = reader.left();
     let residual = rice_read(&mut reader, 0);
-    assert_eq!(rt; (residual, reader.place(), reader.left()), (None, 0, 8));
+    same(
+        &rt,
+        &(residual, reader.place(), reader.left()),
+        &(None, 0, 8),
+    );
 }
 
 // The least spelling of a filter with these coefficients, and its length.
@@ -133,21 +139,22 @@ fn probs_spelling(entries: &[u8]) -> Option<(Spelling, u32)> {
 fn tables_take_their_least_spelling(rt: HostRuntime) {
     let by_method_0 = Spelling::Coded { method: 0, rice: 0 };
     let by_method_1 = Spelling::Coded { method: 1, rice: 0 };
-    assert_eq!(rt;
-        (
+    same(
+        &rt,
+        &(
             filter_spelling(&[10, 20, 30]),
             filter_spelling(&[0; 128]),
             probs_spelling(&[128, 128]),
             probs_spelling(&[1, 1]),
             probs_spelling(&[128]),
         ),
-        (
+        &(
             Some((by_method_1, 32)),
             Some((by_method_0, 149)),
             Some((by_method_0, 20)),
             Some((by_method_0, 20)),
             Some((Spelling::Plain, 6)),
-        )
+        ),
     );
 }
 
@@ -182,7 +189,7 @@ fn write_two_tables(alloc: Global) -> Option<Result<TwoTables, AllocError>> {
 #[test]
 fn tables_are_written(rt: HostRuntime) {
     let wanted = ([true, true, false], 52, true);
-    assert_eq!(rt; write_two_tables(rt.alloc()), Some(Ok(wanted)));
+    same(&rt, &write_two_tables(rt.alloc()), &Some(Ok(wanted)));
 }
 
 // Whether the filter and the probabilities at the head of the bytes above are those that were written, and the place behind them.
@@ -199,7 +206,7 @@ fn read_two_tables() -> Result<(bool, bool, u64), FrameFault> {
 
 #[test]
 fn written_tables_are_read_back(rt: HostRuntime) {
-    assert_eq!(rt; read_two_tables(), Ok((true, true, 52)));
+    same(&rt, &read_two_tables(), &Ok((true, true, 52)));
 }
 
 // Whether a filter of four values by method 2 has 1 as its last, and the place behind it.
@@ -213,7 +220,7 @@ fn read_by_method_2() -> Result<(bool, u64), FrameFault> {
 
 #[test]
 fn fourth_value_by_method_2_is_1(rt: HostRuntime) {
-    assert_eq!(rt; read_by_method_2(), Ok((true, 41)));
+    same(&rt, &read_by_method_2(), &Ok((true, 41)));
 }
 
 // The fault of a filter in few bytes.
@@ -239,6 +246,6 @@ fn first_field_at_fault_is_told(rt: HostRuntime) {
         (&[0x03, 0x1f, 0xe1], Reason::Truncated, 22),
     ];
     for &(bytes, reason, bit) in &CASES {
-        assert_eq!(rt; filter_fault(bytes), Some(FrameFault { reason, bit }));
+        same(&rt, &filter_fault(bytes), &Some(FrameFault { reason, bit }));
     }
 }

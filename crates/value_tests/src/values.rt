@@ -1,4 +1,5 @@
 // The tables of channels and rates, of probabilities, and of filters and their entries.
+use crate::compared::same;
 use arrayvec::ArrayVec;
 use dst_num::{Channels, FilterTable, Map, Params, Prob, ProbTable};
 
@@ -27,11 +28,12 @@ fn channels_give_the_bytes_of_a_frame(rt: HostRuntime) {
     ];
     for &(count, multiple, given) in &CASES {
         let found = shape_of(Channels::at(count, multiple));
-        assert_eq!(rt; found, given, "{count} channels at multiple {multiple}");
+        same(&rt, &(count, multiple, found), &(count, multiple, given));
     }
-    assert_eq!(rt;
-        [Channels::new(6), Channels::new(7)],
-        [Channels::at(6, 1), None]
+    same(
+        &rt,
+        &[Channels::new(6), Channels::new(7)],
+        &[Channels::at(6, 1), None],
     );
 }
 
@@ -45,9 +47,10 @@ fn prob_of(value: u32) -> Option<u32> {
 
 #[test]
 fn probabilities_are_1_to_128(rt: HostRuntime) {
-    assert_eq!(rt;
-        [prob_of(0), prob_of(1), prob_of(128), prob_of(129)],
-        [None, Some(1), Some(128), None]
+    same(
+        &rt,
+        &[prob_of(0), prob_of(1), prob_of(128), prob_of(129)],
+        &[None, Some(1), Some(128), None],
     );
 }
 
@@ -70,8 +73,8 @@ fn filters_have_1_to_128_coefficients_of_nine_bits(rt: HostRuntime) {
         (&[7; 129], false),
     ];
     for &(coefs, given) in &CASES {
-        let found = has_its_coefs(coefs);
-        assert_eq!(rt; found, given.then_some(true), "{coefs:?}");
+        let found = (coefs, has_its_coefs(coefs));
+        same(&rt, &found, &(coefs, given.then_some(true)));
     }
 }
 
@@ -96,8 +99,8 @@ fn probability_tables_have_1_to_64_entries(rt: HostRuntime) {
         (&[9; 65], false),
     ];
     for &(entries, given) in &CASES {
-        let found = has_its_entries(entries);
-        assert_eq!(rt; found, given.then_some(true), "{entries:?}");
+        let found = (entries, has_its_entries(entries));
+        same(&rt, &found, &(entries, given.then_some(true)));
     }
 }
 
@@ -121,7 +124,11 @@ fn maps_number_tables_in_order_of_first_use(rt: HostRuntime) {
         (&[0; 7], None),
     ];
     for &(elements, count) in &CASES {
-        assert_eq!(rt; map_of(elements), (count, true), "{elements:?}");
+        same(
+            &rt,
+            &(elements, map_of(elements)),
+            &(elements, (count, true)),
+        );
     }
 }
 
@@ -151,8 +158,9 @@ fn are_for_one_channel() -> [bool; 2] {
 #[test]
 fn parameters_have_a_table_for_each_number(rt: HostRuntime) {
     let made = [has_parameters([0, 0]), has_parameters([0, 1])];
-    assert_eq!(rt;
-        (made, are_for_one_channel()),
-        ([Some(true), Some(false)], [true; 2])
+    same(
+        &rt,
+        &(made, are_for_one_channel()),
+        &([Some(true), Some(false)], [true; 2]),
     );
 }
