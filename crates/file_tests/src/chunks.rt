@@ -1,4 +1,5 @@
 // The chunks in `PROP` of a small file, and what is refused.
+use crate::compared::same;
 use chunk_view::{
     Overrun, channels_of, compression_of, entry_of, frames_of, rate_of, split_chunks,
 };
@@ -44,7 +45,7 @@ fn chunks_are_lent_in_order(rt: HostRuntime) {
         ),
     ];
     for &(bytes, chunks) in &CASES {
-        assert_eq!(rt; told_of(bytes), Ok(chunks));
+        same(&rt, &told_of(bytes), &Ok(chunks));
     }
 }
 
@@ -57,12 +58,21 @@ fn bytes_that_are_no_whole_chunks_are_refused(rt: HostRuntime) {
         (b"all \xff\xff\xff\xff\xff\xff\xff\xff", 0),
     ];
     for (bytes, place) in cases {
-        assert_eq!(rt; split_chunks(bytes).err(), Some(Overrun { place }));
+        same(&rt, &split_chunks(bytes).err(), &Some(Overrun { place }));
     }
 }
 
-#[test]
-fn fields_are_read_with_their_greatest_byte_first(rt: HostRuntime) {
+// A rate, a number of channels, a compression, the frames with their rate, and an index's entry, where they are there.
+type Fields = (
+    Option<u32>,
+    Option<u16>,
+    Option<[u8; 4]>,
+    Option<(u32, u16)>,
+    Option<(u64, u32)>,
+);
+
+// What is read of whole fields, and of fields that end early.
+fn fields() -> [Fields; 2] {
     let body = b"\0\x2b\x11\0\0\x4b\0\0\0\0\0\x06";
     let whole = (
         rate_of(&body[..4]),
@@ -71,14 +81,6 @@ fn fields_are_read_with_their_greatest_byte_first(rt: HostRuntime) {
         frames_of(b"\0\0\0\x01\0\x4b"),
         entry_of(b"\0\0\0\0\0\0\x13\x06\0\0\0\x06"),
     );
-    let wanted = (
-        Some(2_822_400),
-        Some(75),
-        Some(*b"DST "),
-        Some((1, 75)),
-        Some((4870, 6)),
-    );
-    assert_eq!(rt; whole, wanted);
     let short = (
         rate_of(&body[..3]),
         channels_of(&body[..1]),
@@ -86,5 +88,17 @@ fn fields_are_read_with_their_greatest_byte_first(rt: HostRuntime) {
         frames_of(&body[..5]),
         entry_of(&body[..11]),
     );
-    assert_eq!(rt; short, (None, None, None, None, None));
+    [whole, short]
+}
+
+#[test]
+fn fields_are_read_with_their_greatest_byte_first(rt: HostRuntime) {
+    let whole = (
+        Some(2_822_400),
+        Some(75),
+        Some(*b"DST "),
+        Some((1, 75)),
+        Some((4870, 6)),
+    );
+    same(&rt, &fields(), &[whole, (None, None, None, None, None)]);
 }

@@ -1,8 +1,10 @@
 // DSF files written by hand, read as the form that stands for them.
+use crate::compared::same;
 use dsdiff_chunks::{FileFault, OpenFault, read_range};
 use dsf_files::{DsfForm, DsfSource, open_dsf, write_dsf_head};
 use dst_num::Channels;
-use dst_streams::{HonestSource, MemorySink, Source};
+use dst_streams::{Failed, HonestSource, MemorySink, Source};
+use std::alloc::{AllocError, Global};
 use std::test::Fail;
 
 // Twelve samples of one channel, with 1 bit per sample.
@@ -28,21 +30,37 @@ fn file_of(head: &[u8; 92], first: u8) -> [u8; 4188] {
     file
 }
 
-#[test]
-fn twelve_samples_are_two_bytes_of_sound(rt: HostRuntime) -> Result<(), Fail> {
+// What reading 154 bytes answers of the form that stands for the file, whether they are those above, and what is read behind them; where it
+// is of another size, that size, and where it isn't opened, None.
+type PlainRead = Result<(Result<(), Failed>, bool, Result<usize, Failed>), Option<u64>>;
+
+fn read_plain() -> PlainRead {
     let file = file_of(HEAD, 1);
     let mut source = HonestSource::new(&file);
     let Ok(form) = open_dsf(&mut source) else {
-        return Err("not opened")?;
+        return Err(None);
     };
     let mut plain = DsfSource::new(&mut source, form);
-    assert_eq!(rt; plain.size(), Ok(154));
+    let size = plain.size();
+    let Ok(154) = size else {
+        return Err(size.ok());
+    };
     let mut bytes = [0; 154];
     let read = read_range(&mut plain, 0, &mut bytes);
     let is_plain = bytes == *PLAIN;
-    let behind = plain.read_at(154, &mut bytes);
-    assert_eq!(rt; (read, is_plain, behind), (Ok(()), true, Ok(0)));
-    Ok(())
+    Ok((read, is_plain, plain.read_at(154, &mut bytes)))
+}
+
+#[test]
+fn twelve_samples_are_two_bytes_of_sound(rt: HostRuntime) {
+    same(&rt, &read_plain(), &Ok((Ok(()), true, Ok(0))));
+}
+
+// What writing the head of a form answers, and whether it is the head above.
+fn write_head(alloc: Global, form: &DsfForm) -> Result<(Result<(), Failed>, bool), AllocError> {
+    let mut sink = MemorySink::new(alloc, 92, &[])?;
+    let written = write_dsf_head(&mut sink, form);
+    Ok((written, sink.written() == HEAD.as_slice()))
 }
 
 #[test]
@@ -54,11 +72,9 @@ fn head_is_written_as_it_is_read(rt: HostRuntime) -> Result<(), Fail> {
         kind: 1,
         bits: 1,
     };
-    let mut sink = MemorySink::new(rt.alloc(), 92, &[])?;
-    let written = write_dsf_head(&mut sink, &form);
-    let is_head = sink.written() == HEAD.as_slice();
+    let written = write_head(rt.alloc(), &form);
     let read = open_dsf(&mut HonestSource::new(&file_of(HEAD, 0)));
-    assert_eq!(rt; (written, is_head, read), (Ok(()), true, Ok(form)));
+    same(&rt, &(written, read), &(Ok((Ok(()), true)), Ok(form)));
     Ok(())
 }
 
@@ -71,5 +87,5 @@ fn size_of_blocks_is_compared(rt: HostRuntime) {
         size: 4107,
     };
     let answer = open_dsf(&mut HonestSource::new(&file));
-    assert_eq!(rt; answer, Err(OpenFault::File(fault)));
+    same(&rt, &answer, &Err(OpenFault::File(fault)));
 }

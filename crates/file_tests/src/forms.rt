@@ -1,4 +1,5 @@
 // Files of one channel that are opened, or refused by name, with ample memory.
+use crate::compared::same;
 use dsdiff_chunks::{FileFault, Form, OpenFault, open_form};
 use dst_streams::HonestSource;
 use std::alloc::{AllocError, Global};
@@ -75,13 +76,13 @@ fn plain_numbers(alloc: Global, chunks: &[&[u8]]) -> Result<[u64; 5], OpenFault>
 fn a_plain_form_is_opened(rt: HostRuntime) {
     let sound = b"DSD \0\0\0\0\0\0\0\x03\x69\x69\x69\x07";
     let numbers = plain_numbers(rt.alloc(), &[&PLAIN_FRONT, sound]);
-    assert_eq!(rt; numbers, Ok([130, 1, 7, 114, 3]));
+    same(&rt, &numbers, &Ok([130, 1, 7, 114, 3]));
 }
 
 #[test]
 fn a_coded_form_is_opened_with_what_is_kept(rt: HostRuntime) {
     let count = count_of(rt.alloc(), &[&CODED_FRONT, &NO_FRAMES, &KEPT]);
-    assert_eq!(rt; count, Ok(4));
+    same(&rt, &count, &Ok(4));
 }
 
 #[test]
@@ -93,8 +94,9 @@ fn what_is_too_much_is_refused_by_name(rt: HostRuntime) {
     let more = count_beside(alloc, 1022);
     let kept_bad = OpenFault::File(FileFault::KeptBad);
     let too_many = OpenFault::File(FileFault::TooManyChunks);
-    assert_eq!(rt;
-        (twice, most, more),
-        (Err(kept_bad), Ok(1024), Err(too_many))
+    same(
+        &rt,
+        &[twice, most, more],
+        &[Err(kept_bad), Ok(1024), Err(too_many)],
     );
 }

@@ -1,4 +1,7 @@
 // Each call once, with ample memory.
+ghost use Rattle.std.specs.Prelude.{◌<◌};
+
+use crate::compared::same;
 use dsdiff_chunks::{FileFault, Form, OpenFault, open_form};
 use dst_streams::HonestSource;
 use frame_index::{Entry, Index, compare, locate_by_index, read_index, walk};
@@ -50,7 +53,7 @@ const SECOND: Entry = Entry {
 #[test]
 fn a_walk_finds_the_frames_between_other_chunks(rt: HostRuntime) {
     let frames = walked(rt.alloc(), &TWO_FRAMES);
-    assert_eq!(rt; frames, Ok([Some(FIRST), Some(SECOND), None]));
+    same(&rt, &frames, &Ok([Some(FIRST), Some(SECOND), None]));
 }
 
 #[test]
@@ -58,7 +61,7 @@ fn a_walk_refuses_another_number_of_frames(rt: HostRuntime) {
     let mut bytes = TWO_FRAMES;
     bytes[125] = 3;
     let expected = OpenFault::File(FileFault::CountDiffers { count: 3, found: 2 });
-    assert_eq!(rt; walked(rt.alloc(), &bytes), Err(expected));
+    same(&rt, &walked(rt.alloc(), &bytes), &Err(expected));
 }
 
 // The same frames, named by an index behind `DST `: 140 and 1, 168 and 3.
@@ -104,40 +107,38 @@ fn an_index_tells_the_frames(rt: HostRuntime) {
         located(alloc, &INDEXED, 0),
         located(alloc, &INDEXED, 1),
     );
-    assert_eq!(rt; found, (Ok(None), Ok(FIRST), Ok(SECOND)));
+    same(&rt, &found, &(Ok(None), Ok(FIRST), Ok(SECOND)));
+}
+
+// In the file with another value of this byte: the first entry in which the index differs from the walk, and where frame 1 stands.
+type Answers = (Result<Option<u32>, OpenFault>, Result<Entry, OpenFault>);
+
+fn answers_of(alloc: Global, place: usize, value: u8) -> Answers
+    requires { place < 208 }
+{
+    let mut bytes = INDEXED;
+    bytes[place] = value;
+    (difference(alloc, &bytes), located(alloc, &bytes, 1))
 }
 
 #[test]
 fn a_bad_index_is_refused(rt: HostRuntime) {
-    // A byte of the file, and what it is then: no `DSTI`, an index of one frame fewer, and another place of frame 1.
-    const CASES: [(usize, u8, Result<Option<u32>, FileFault>, FileFault); 3] = [
-        (
-            175,
-            b'J',
-            Err(FileFault::IndexMissing),
-            FileFault::IndexMissing,
-        ),
-        (
-            125,
-            3,
-            Err(FileFault::IndexBad { entry: 3 }),
-            FileFault::IndexBad { entry: 1 },
-        ),
-        (203, 0xa7, Ok(Some(1)), FileFault::IndexBad { entry: 1 }),
+    let alloc = rt.alloc();
+    // no `DSTI`, an index of one frame fewer, and another place of frame 1
+    let found = [
+        answers_of(alloc, 175, b'J'),
+        answers_of(alloc, 125, 3),
+        answers_of(alloc, 203, 0xa7),
     ];
-    for &(place, value, compared, fault) in &CASES {
-        let mut bytes = INDEXED;
-        bytes[place] = value;
-        let found = (
-            difference(rt.alloc(), &bytes),
-            located(rt.alloc(), &bytes, 1),
-        );
-        let wanted = (
-            compared.map_err(OpenFault::File),
-            Err(OpenFault::File(fault)),
-        );
-        assert_eq!(rt; found, wanted, "byte {place}");
-    }
+    let missing = OpenFault::File(FileFault::IndexMissing);
+    let bad_3 = OpenFault::File(FileFault::IndexBad { entry: 3 });
+    let bad_1 = OpenFault::File(FileFault::IndexBad { entry: 1 });
+    let wanted = [
+        (Err(missing), Err(missing)),
+        (Err(bad_3), Err(bad_1)),
+        (Ok(Some(1)), Err(bad_1)),
+    ];
+    same(&rt, &found, &wanted);
 }
 
 #[test]
@@ -149,5 +150,5 @@ fn a_frame_that_is_too_long_is_refused(rt: HostRuntime) {
         frame: 0,
         length: 9411,
     });
-    assert_eq!(rt; located(rt.alloc(), &bytes, 0), Err(expected));
+    same(&rt, &located(rt.alloc(), &bytes, 0), &Err(expected));
 }

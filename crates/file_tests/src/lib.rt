@@ -5,6 +5,8 @@
 #[cfg(test)]
 mod chunks;
 #[cfg(test)]
+mod compared;
+#[cfg(test)]
 mod dsf;
 #[cfg(test)]
 mod forms;
