@@ -1,10 +1,12 @@
 // What the commands that read give and refuse, over files that are known byte for byte.
 use crate::{Part, difference};
+use compared::same;
 use files::{Made, file_of};
 use std::alloc::{AllocError, Global};
 use std::process::Abort;
 use std::thread::Threads;
 
+mod compared;
 mod files;
 mod lines;
 mod ranges;
@@ -37,6 +39,6 @@ fn all_give(rt: &(impl Abort + Threads + Sync), alloc: Global, rows: &[Row]) {
     for row in rows {
         let (text, _, _, _, lines) = *row;
         let differs = difference_of(rt, alloc, *row);
-        assert_eq!(rt; differs, Ok(None), "{text} of {lines}");
+        same(rt, &(text, lines, differs), &(text, lines, Ok(None)));
     }
 }

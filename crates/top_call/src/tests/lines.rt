@@ -1,4 +1,5 @@
 // Each line of a report is added whole, by one call, and where there is no line there is no call.
+use super::compared::same;
 use super::files::Made::{Known, NoFrames, TwoFrames};
 use super::files::{Made, file_of};
 use crate::{run_over, split};
@@ -30,6 +31,21 @@ fn run(rt: &(impl Threads + Sync), alloc: Global, text: &str, file: Made, call: 
     Ok((left.status, lines_in(left.report.written())))
 }
 
+// The same with a report that fails behind its last line, and with one that fails at it, if there is one.
+fn run_twice(
+    rt: &(impl Threads + Sync),
+    alloc: Global,
+    text: &str,
+    file: Made,
+    lines: u64,
+) -> (Lines, Option<Lines>) {
+    let whole = run(rt, alloc, text, file, lines);
+    if lines == 0 {
+        return (whole, None);
+    }
+    (whole, Some(run(rt, alloc, text, file, lines - 1)))
+}
+
 #[test]
 fn each_line_takes_one_call(rt: HostRuntime) {
     // Words, a file, the status, and the number of lines.
@@ -49,12 +65,8 @@ fn each_line_takes_one_call(rt: HostRuntime) {
         ("decode a", TwoFrames, 1, 1),
     ];
     for &(text, file, status, lines) in &ROWS {
-        // A call behind the last line would fail.
-        let whole = run(&rt, rt.alloc(), text, file, lines);
-        assert_eq!(rt; whole, Ok((status, lines)), "{text}");
-        if lines > 0 {
-            let short = run(&rt, rt.alloc(), text, file, lines - 1);
-            assert_eq!(rt; short, Ok((7, lines - 1)), "{text}");
-        }
+        let found = run_twice(&rt, rt.alloc(), text, file, lines);
+        let short = (lines > 0).then_some(Ok((7, lines.saturating_sub(1))));
+        same(&rt, &(text, found), &(text, (Ok((status, lines)), short)));
     }
 }

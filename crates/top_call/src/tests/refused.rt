@@ -1,15 +1,15 @@
 // Words, files and frames that are refused.
+use super::compared::same;
 use super::files::Made;
 use super::files::Made::{
     Changed, Frame, KeptPlain, KeptTwice, Known, OddFront, PlainFront, TwoChanged,
 };
 use super::{DECODE, NOTHING, Row, all_give, difference_of};
-use crate::{Told, difference, run_over, split};
+use crate::{difference, run_over, split};
 use dst_streams::{HonestSource, MemorySource};
 use example_files::{EXAMPLE, SILENT};
 use std::alloc::{AllocError, Global};
 use std::process::Abort;
-use std::test::Fail;
 use std::thread::Threads;
 
 // A file, and what decoding it reports.
@@ -85,7 +85,7 @@ fn what_is_too_much_is_refused_by_name(rt: HostRuntime) {
 fn all_refused(rt: &(impl Abort + Threads + Sync), alloc: Global, rows: &[(Made, &'static str)]) {
     for &(file, line) in rows {
         let differs = difference_of(rt, alloc, (DECODE, file, 5, NOTHING, line));
-        assert_eq!(rt; differs, Ok(None), "{line}");
+        same(rt, &(line, differs), &(line, Ok(None)));
     }
 }
 
@@ -98,7 +98,7 @@ fn a_file_that_ends_early_is_refused(rt: HostRuntime) {
             "file refused: 3 Overrun 0\n"
         };
         let differs = difference(&rt, rt.alloc(), DECODE, &EXAMPLE[..length], 5, &[], line);
-        assert_eq!(rt; differs, Ok(None), "{length} bytes");
+        same(&rt, &(length, differs), &(length, Ok(None)));
     }
 }
 
@@ -158,24 +158,29 @@ fn the_first_refused_frame_is_told_behind_the_earlier_sounds(rt: HostRuntime) {
     all_give(&rt, rt.alloc(), &ROWS);
 }
 
-// What is told of a run by these words over devices that fail at their first call.
-fn told_of(rt: &(impl Threads + Sync), alloc: Global, text: &str) -> Result<Told, AllocError> {
+// A status, whether nothing is written, and whether the report is the line of words that aren't understood.
+type Told = Result<(u8, bool, bool), AllocError>;
+
+// A run by these words over devices that fail at their first call.
+fn told_of(rt: &(impl Threads + Sync), alloc: Global, text: &str) -> Told {
     let words = split(alloc, text)?;
     let mut source = MemorySource::new(EXAMPLE, &[], &[0]);
     let left = run_over(rt, alloc, &words, &mut source, 10_000, &[0], &[])?;
-    Ok(left.told(&[], "words not understood\n"))
+    let told = left.told(&[], "words not understood\n");
+    Ok((told.status, told.is_whole, told.is_reported))
 }
 
 // The same of no words, over a report that fails at its first call, and of the front of the line.
-fn told_of_none(rt: &(impl Threads + Sync), alloc: Global) -> Result<Told, AllocError> {
+fn told_of_none(rt: &(impl Threads + Sync), alloc: Global) -> Result<(u8, bool), AllocError> {
     let mut source = HonestSource::new(EXAMPLE);
     let left = run_over(rt, alloc, &[], &mut source, 10_000, &[], &[0])?;
-    Ok(left.told(&[], "words not "))
+    let told = left.told(&[], "words not ");
+    Ok((told.status, told.is_reported))
 }
 
 #[test]
-fn other_words_are_not_understood_and_touch_nothing(rt: HostRuntime) -> Result<(), Fail> {
-    let cases = [
+fn other_words_are_not_understood_and_touch_nothing(rt: HostRuntime) {
+    const CASES: [&str; 7] = [
         "",
         "decode a",
         "decode a b c",
@@ -184,15 +189,9 @@ fn other_words_are_not_understood_and_touch_nothing(rt: HostRuntime) -> Result<(
         "frame a b 01",
         "undo a b",
     ];
-    for text in &cases {
-        let told = told_of(&rt, rt.alloc(), text)?;
-        assert_eq!(rt;
-            (told.status, told.is_whole, told.is_reported),
-            (1, true, true),
-            "{text}"
-        );
+    for &text in &CASES {
+        let told = told_of(&rt, rt.alloc(), text);
+        same(&rt, &(text, told), &(text, Ok((1, true, true))));
     }
-    let told = told_of_none(&rt, rt.alloc())?;
-    assert_eq!(rt; (told.status, told.is_reported), (7, true));
-    Ok(())
+    same(&rt, &told_of_none(&rt, rt.alloc()), &Ok((7, true)));
 }
