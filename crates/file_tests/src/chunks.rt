@@ -1,7 +1,7 @@
 // The chunks in `PROP` of a small file, and what is refused.
 use crate::compared::same;
 use chunk_view::{
-    Overrun, channels_of, compression_of, entry_of, frames_of, rate_of, split_chunks,
+    ChunkView, Overrun, channels_of, compression_of, entry_of, frames_of, rate_of, split_chunks,
 };
 
 // The body of `PROP` behind `SND `.
@@ -12,54 +12,60 @@ CMPR\0\0\0\0\0\0\0\x10DST \x0bDST Encoded";
 // A chunk's id, place, size and pad byte.
 type Told = ([u8; 4], u64, usize, Option<u8>);
 
+fn told(chunk: Option<ChunkView<'_>>) -> Option<Told> {
+    match chunk {
+        Some(view) => Some((view.id, view.place, view.body.len(), view.pad)),
+        None => None,
+    }
+}
+
 // What is told of each of the first four chunks.
 fn told_of(bytes: &[u8]) -> Result<[Option<Told>; 4], Overrun> {
-    let mut told = [None; 4];
-    for (view, place) in split_chunks(bytes)?.zip(told.iter_mut()) {
-        *place = Some((view.id, view.place, view.body.len(), view.pad));
-    }
-    Ok(told)
+    let mut chunks = split_chunks(bytes)?;
+    Ok([
+        told(chunks.next()),
+        told(chunks.next()),
+        told(chunks.next()),
+        told(chunks.next()),
+    ])
 }
 
 #[test]
 fn chunks_are_lent_in_order(rt: HostRuntime) {
-    const CASES: [(&[u8], [Option<Told>; 4]); 3] = [
-        (b"", [None, None, None, None]),
-        (
-            LOCAL,
-            [
-                Some((*b"FS  ", 0, 4, None)),
-                Some((*b"CHNL", 16, 6, None)),
-                Some((*b"CMPR", 34, 16, None)),
-                None,
-            ],
-        ),
-        (
-            b"odd \0\0\0\0\0\0\0\x01ApNONE\0\0\0\0\0\0\0\0",
-            [
-                Some((*b"odd ", 0, 1, Some(b'p'))),
-                Some((*b"NONE", 14, 0, None)),
-                None,
-                None,
-            ],
-        ),
+    let odd = b"odd \0\0\0\0\0\0\0\x01ApNONE\0\0\0\0\0\0\0\0";
+    let found = [told_of(b""), told_of(LOCAL), told_of(odd)];
+    let local = [
+        Some((*b"FS  ", 0, 4, None)),
+        Some((*b"CHNL", 16, 6, None)),
+        Some((*b"CMPR", 34, 16, None)),
+        None,
     ];
-    for &(bytes, chunks) in &CASES {
-        same(&rt, &told_of(bytes), &Ok(chunks));
+    let two = [
+        Some((*b"odd ", 0, 1, Some(b'p'))),
+        Some((*b"NONE", 14, 0, None)),
+        None,
+        None,
+    ];
+    same(&rt, &found, &[Ok([None; 4]), Ok(local), Ok(two)]);
+}
+
+// Where bytes that are no whole chunks are cut.
+fn cut_at(bytes: &[u8]) -> Option<u64> {
+    match split_chunks(bytes) {
+        Ok(_) => None,
+        Err(overrun) => Some(overrun.place),
     }
 }
 
 #[test]
 fn bytes_that_are_no_whole_chunks_are_refused(rt: HostRuntime) {
-    let cases: [(&[u8], u64); 4] = [
-        (&LOCAL[..61], 34),
-        (&LOCAL[..45], 34),
-        (b"odd \0\0\0\0\0\0\0\x01A", 0),
-        (b"all \xff\xff\xff\xff\xff\xff\xff\xff", 0),
+    let found = [
+        cut_at(&LOCAL[..61]),
+        cut_at(&LOCAL[..45]),
+        cut_at(b"odd \0\0\0\0\0\0\0\x01A"),
+        cut_at(b"all \xff\xff\xff\xff\xff\xff\xff\xff"),
     ];
-    for (bytes, place) in cases {
-        same(&rt, &split_chunks(bytes).err(), &Some(Overrun { place }));
-    }
+    same(&rt, &found, &[Some(34), Some(34), Some(0), Some(0)]);
 }
 
 // A rate, a number of channels, a compression, the frames with their rate, and an index's entry, where they are there.

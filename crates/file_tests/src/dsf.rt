@@ -30,30 +30,32 @@ fn file_of(head: &[u8; 92], first: u8) -> [u8; 4188] {
     file
 }
 
-// What reading 154 bytes answers of the form that stands for the file, whether they are those above, and what is read behind them; where it
-// is of another size, that size, and where it isn't opened, None.
+// What reading 154 bytes answers of a form that stands for a file, whether they are those above, and what is read behind them; where it is of
+// another size, that size.
 type PlainRead = Result<(Result<(), Failed>, bool, Result<usize, Failed>), Option<u64>>;
 
-fn read_plain() -> PlainRead {
-    let file = file_of(HEAD, 1);
-    let mut source = HonestSource::new(&file);
-    let Ok(form) = open_dsf(&mut source) else {
-        return Err(None);
-    };
-    let mut plain = DsfSource::new(&mut source, form);
+fn read_plain<S: Source>(plain: &mut S) -> PlainRead {
     let size = plain.size();
     let Ok(154) = size else {
         return Err(size.ok());
     };
     let mut bytes = [0; 154];
-    let read = read_range(&mut plain, 0, &mut bytes);
+    let read = read_range(plain, 0, &mut bytes);
     let is_plain = bytes == *PLAIN;
     Ok((read, is_plain, plain.read_at(154, &mut bytes)))
 }
 
+// The same of the file.
+fn opened_and_read() -> Result<PlainRead, OpenFault> {
+    let file = file_of(HEAD, 1);
+    let mut source = HonestSource::new(&file);
+    let form = open_dsf(&mut source)?;
+    Ok(read_plain(&mut DsfSource::new(&mut source, form)))
+}
+
 #[test]
 fn twelve_samples_are_two_bytes_of_sound(rt: HostRuntime) {
-    same(&rt, &read_plain(), &Ok((Ok(()), true, Ok(0))));
+    same(&rt, &opened_and_read(), &Ok(Ok((Ok(()), true, Ok(0)))));
 }
 
 // What writing the head of a form answers, and whether it is the head above.

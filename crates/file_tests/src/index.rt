@@ -1,9 +1,9 @@
 // Each call once, with ample memory.
-ghost use Rattle.std.specs.Prelude.{◌<◌};
+ghost use Rattle.std.specs.Prelude.{◌≡◌, ◌<◌, ◌≤◌, ℕ, Some};
 
 use crate::compared::same;
-use dsdiff_chunks::{FileFault, Form, OpenFault, open_form};
-use dst_streams::HonestSource;
+use dsdiff_chunks::{CodedForm, FileFault, Form, OpenFault, open_form};
+use dst_streams::{HonestSource, Source};
 use frame_index::{Entry, Index, compare, locate_by_index, read_index, walk};
 use std::alloc::Global;
 
@@ -74,29 +74,50 @@ const LONG_FRAME: [u8; 140] =
 
 const LONG_INDEX: [u8; 24] = *b"DSTI\0\0\0\0\0\0\0\x0c\0\0\0\0\0\0\0\x8c\0\0\x24\xc3";
 
-// The first entry in which the index of a file differs from its walk.
-fn difference(alloc: Global, bytes: &[u8]) -> Result<Option<u32>, OpenFault> {
-    let mut source = HonestSource::new(bytes);
-    let Form::Coded(form) = open_form(alloc, &mut source)? else {
-        return Err(OpenFault::File(FileFault::NotCoded));
-    };
-    let index = read_index(alloc, &mut source, &form)?;
-    let found = walk(alloc, &mut source, &form)?;
+// The first entry in which the index of a form differs from its walk.
+fn first_difference<S: Source>(
+    alloc: Global,
+    source: &mut S,
+    form: &CodedForm,
+) -> Result<Option<u32>, OpenFault>
+    requires { (n : ℕ) × (S.known source.old ≡ Some n) × (form.now.end ≤ n) }
+{
+    let index = read_index(alloc, source, form)?;
+    let found = walk(alloc, source, form)?;
     Ok(compare(&index, &found))
 }
 
-fn located(alloc: Global, bytes: &[u8], k: u32) -> Result<Entry, OpenFault> {
+// The same of a file.
+fn difference(alloc: Global, bytes: &[u8]) -> Result<Option<u32>, OpenFault> {
     let mut source = HonestSource::new(bytes);
-    let Form::Coded(form) = open_form(alloc, &mut source)? else {
-        return Err(OpenFault::File(FileFault::NotCoded));
-    };
+    match open_form(alloc, &mut source) {
+        Ok(Form::Coded(form)) => first_difference(alloc, &mut source, &form),
+        Ok(Form::Plain(_)) => Err(OpenFault::File(FileFault::NotCoded)),
+        Err(fault) => Err(fault),
+    }
+}
+
+// Where the index of a form tells frame k, if there is such a frame.
+fn locate<S: Source>(source: &mut S, form: &CodedForm, k: u32) -> Result<Entry, OpenFault>
+    requires { (n : ℕ) × (S.known source.old ≡ Some n) × (form.now.end ≤ n) }
+{
     if k >= form.frames {
         return Err(OpenFault::File(FileFault::Range {
             asked: k,
             frames: form.frames,
         }));
     }
-    locate_by_index(&mut source, &form, k)
+    locate_by_index(source, form, k)
+}
+
+// The same of a file.
+fn located(alloc: Global, bytes: &[u8], k: u32) -> Result<Entry, OpenFault> {
+    let mut source = HonestSource::new(bytes);
+    match open_form(alloc, &mut source) {
+        Ok(Form::Coded(form)) => locate(&mut source, &form, k),
+        Ok(Form::Plain(_)) => Err(OpenFault::File(FileFault::NotCoded)),
+        Err(fault) => Err(fault),
+    }
 }
 
 #[test]
