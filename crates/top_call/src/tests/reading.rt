@@ -17,118 +17,183 @@ const FIRST_BIT_1: Made = Frame(b"\xfc\0\0\x05\xff\xfc", 0, 0, b"");
 
 #[test]
 fn a_frame_is_written_by_the_walk_and_by_the_index(rt: HostRuntime) {
-    const FIRST: &str = "frame 0, 4704 bytes\n";
-    const SECOND: &str = "frame 1, 4704 bytes\n";
-    const THIRD: &str = "frame 2, 4704 bytes\n";
-    const RANGE: &str = "file refused: 22 Range 3 3\n";
-    const BAD: &str = "file refused: 24 IndexBad 2\n";
-    const MISSING: &str = "file refused: 23 IndexMissing\n";
-    const NOT_CODED: &str = "file refused: 27 NotCoded\n";
     const ROWS: [Row; 11] = [
-        ("frame a b 1", TwoFrames, 0, SecondFrame, SECOND),
-        ("frame a b 1 --by-index", TwoFrames, 0, SecondFrame, SECOND),
-        ("frame a b 0", Known(EXAMPLE), 0, Filled(0xff, 4704), FIRST),
-        ("frame a b 3", ThreeFrames, 5, NOTHING, RANGE),
-        ("frame a b 3 --by-index", ThreeFrames, 5, NOTHING, RANGE),
-        ("frame a b 2 --by-index", ThreeMoved, 5, NOTHING, BAD),
-        ("check a", ThreeMoved, 5, NOTHING, BAD),
         (
-            "frame a b 0 --by-index",
+            "frame a b 1\nframe 1, 4704 bytes\n",
+            TwoFrames,
+            0,
+            SecondFrame,
+        ),
+        (
+            "frame a b 1 --by-index\nframe 1, 4704 bytes\n",
+            TwoFrames,
+            0,
+            SecondFrame,
+        ),
+        (
+            "frame a b 0\nframe 0, 4704 bytes\n",
+            Known(EXAMPLE),
+            0,
+            Filled(0xff, 4704),
+        ),
+        (
+            "frame a b 3\nfile refused: 22 Range 3 3\n",
+            ThreeFrames,
+            5,
+            NOTHING,
+        ),
+        (
+            "frame a b 3 --by-index\nfile refused: 22 Range 3 3\n",
+            ThreeFrames,
+            5,
+            NOTHING,
+        ),
+        (
+            "frame a b 2 --by-index\nfile refused: 24 IndexBad 2\n",
+            ThreeMoved,
+            5,
+            NOTHING,
+        ),
+        (
+            "check a\nfile refused: 24 IndexBad 2\n",
+            ThreeMoved,
+            5,
+            NOTHING,
+        ),
+        (
+            "frame a b 0 --by-index\nfile refused: 23 IndexMissing\n",
             Known(EXAMPLE),
             5,
             NOTHING,
-            MISSING,
         ),
-        ("frame a b 0", Known(SILENT), 5, NOTHING, NOT_CODED),
         (
-            "frame a b 0 --by-index",
+            "frame a b 0\nfile refused: 27 NotCoded\n",
             Known(SILENT),
             5,
             NOTHING,
-            NOT_CODED,
         ),
-        ("frame a b 2", ThreeMoved, 0, Filled(0x69, 4704), THIRD),
+        (
+            "frame a b 0 --by-index\nfile refused: 27 NotCoded\n",
+            Known(SILENT),
+            5,
+            NOTHING,
+        ),
+        (
+            "frame a b 2\nframe 2, 4704 bytes\n",
+            ThreeMoved,
+            0,
+            Filled(0x69, 4704),
+        ),
     ];
     all_give(&rt, rt.alloc(), &ROWS);
 }
 
 #[test]
 fn a_file_is_checked_whole(rt: HostRuntime) {
-    const SOUND: &str = "sound, 2 frames, 0 unread bytes\n";
-    const CODE_BIT: &str = "frame 0 refused: 9 FirstCodeBit at bit 45\n";
-    const DIFFERS: &str = "file refused: 16 CountDiffers 2 1\n";
     const ROWS: [Row; 7] = [
-        ("check a", TwoFrames, 0, NOTHING, SOUND),
-        ("check a --workers 2", TwoFrames, 0, NOTHING, SOUND),
-        ("check a", OddPlain, 0, NOTHING, SOUND),
-        ("check a", FIRST_BIT_1, 6, NOTHING, CODE_BIT),
-        ("frame a b 0", FIRST_BIT_1, 6, NOTHING, CODE_BIT),
         (
-            "check a",
+            "check a\nsound, 2 frames, 0 unread bytes\n",
+            TwoFrames,
+            0,
+            NOTHING,
+        ),
+        (
+            "check a --workers 2\nsound, 2 frames, 0 unread bytes\n",
+            TwoFrames,
+            0,
+            NOTHING,
+        ),
+        (
+            "check a\nsound, 2 frames, 0 unread bytes\n",
+            OddPlain,
+            0,
+            NOTHING,
+        ),
+        (
+            "check a\nframe 0 refused: 9 FirstCodeBit at bit 45\n",
+            FIRST_BIT_1,
+            6,
+            NOTHING,
+        ),
+        (
+            "frame a b 0\nframe 0 refused: 9 FirstCodeBit at bit 45\n",
+            FIRST_BIT_1,
+            6,
+            NOTHING,
+        ),
+        (
+            "check a\nfile refused: 16 CountDiffers 2 1\n",
             Changed(EXAMPLE, 134, b"\0\0\0\x02"),
             5,
             NOTHING,
-            DIFFERS,
         ),
         (
-            "check a",
+            "check a\nsound, 1 frames, 3 unread bytes\n",
             LongerFrame,
             0,
             NOTHING,
-            "sound, 1 frames, 3 unread bytes\n",
         ),
     ];
     all_give(&rt, rt.alloc(), &ROWS);
 }
 
-const HEAD: &str = "frame 0 coded length 6 filters 1 tables 1 code 45\n";
-
-const OF_TWO: &str =
-    "kind coded\nchannels 1\nsound 4705 bytes\nframes 2\nchunks 5\nstored 9410 bytes\nindex yes\nkept yes\n";
-
-const OF_ONE: &str =
-    "kind coded\nchannels 1\nsound 4704 bytes\nframes 1\nchunks 3\nstored 6 bytes\nindex no\nkept no\n";
-
-const OF_PLAIN: &str = "kind plain\nchannels 1\nsound 4705 bytes\nframes 2\nchunks 3\n";
-
-const SEGMENTS: &str = "frame 0 refused: 3 MultiSegment at bit 3\n";
-
 const SHOWN: [Row; 12] = [
-    ("show a", TwoFrames, 0, NOTHING, OF_TWO),
-    ("show a", Known(EXAMPLE), 0, NOTHING, OF_ONE),
-    ("show a", OddPlain, 0, NOTHING, OF_PLAIN),
     (
-        "show a 0",
+        "show a\nkind coded\nchannels 1\nsound 4705 bytes\nframes 2\nchunks 5\nstored 9410 bytes\nindex yes\nkept yes\n",
         TwoFrames,
         0,
         NOTHING,
-        "frame 0 plain length 4705\n",
     ),
-    ("show a 0", Known(EXAMPLE), 0, NOTHING, HEAD),
-    ("show a 0", FIRST_BIT_1, 0, NOTHING, HEAD),
     (
-        "index a",
+        "show a\nkind coded\nchannels 1\nsound 4704 bytes\nframes 1\nchunks 3\nstored 6 bytes\nindex no\nkept no\n",
+        Known(EXAMPLE),
+        0,
+        NOTHING,
+    ),
+    (
+        "show a\nkind plain\nchannels 1\nsound 4705 bytes\nframes 2\nchunks 3\n",
+        OddPlain,
+        0,
+        NOTHING,
+    ),
+    (
+        "show a 0\nframe 0 plain length 4705\n",
         TwoFrames,
         0,
         NOTHING,
-        "0 152 4705\n1 4870 4705\n",
     ),
-    ("index a", Known(EXAMPLE), 0, NOTHING, "0 152 6\n"),
-    ("index a", NoFrames, 0, NOTHING, ""),
-    ("show a 0", Frame(b"\xe0", 0, 0, b""), 6, NOTHING, SEGMENTS),
     (
-        "show a 2",
+        "show a 0\nframe 0 coded length 6 filters 1 tables 1 code 45\n",
+        Known(EXAMPLE),
+        0,
+        NOTHING,
+    ),
+    (
+        "show a 0\nframe 0 coded length 6 filters 1 tables 1 code 45\n",
+        FIRST_BIT_1,
+        0,
+        NOTHING,
+    ),
+    ("index a\n0 152 4705\n1 4870 4705\n", TwoFrames, 0, NOTHING),
+    ("index a\n0 152 6\n", Known(EXAMPLE), 0, NOTHING),
+    ("index a\n", NoFrames, 0, NOTHING),
+    (
+        "show a 0\nframe 0 refused: 3 MultiSegment at bit 3\n",
+        Frame(b"\xe0", 0, 0, b""),
+        6,
+        NOTHING,
+    ),
+    (
+        "show a 2\nfile refused: 22 Range 2 2\n",
         TwoFrames,
         5,
         NOTHING,
-        "file refused: 22 Range 2 2\n",
     ),
     (
-        "show a 0",
+        "show a 0\nfile refused: 27 NotCoded\n",
         Known(SILENT),
         5,
         NOTHING,
-        "file refused: 27 NotCoded\n",
     ),
 ];
 

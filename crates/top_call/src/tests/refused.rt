@@ -84,7 +84,7 @@ fn what_is_too_much_is_refused_by_name(rt: HostRuntime) {
 // Decoding each file writes nothing and reports the line beside it.
 fn all_refused(rt: &(impl Abort + Threads + Sync), alloc: Global, rows: &[(Made, &'static str)]) {
     for &(file, line) in rows {
-        let differs = difference_of(rt, alloc, (DECODE, file, 5, NOTHING, line));
+        let differs = difference_of(rt, alloc, (DECODE, file, 5, NOTHING), line);
         same(rt, &(line, differs), &(line, Ok(None)));
     }
 }
@@ -104,28 +104,32 @@ fn a_file_that_ends_early_is_refused(rt: HostRuntime) {
 
 #[test]
 fn a_frame_is_refused_by_its_first_fault(rt: HostRuntime) {
-    const CODE_BIT: &str = "frame 0 refused: 9 FirstCodeBit at bit 45\n";
-    const STUFFING: &str = "frame 0 refused: 2 PlainStuffing at bit 2\n";
-    const EMPTY: &str = "frame 0 refused: 1 Truncated at bit 0\n";
-    const SHORT: &str = "frame 0 refused: 1 Truncated at bit 8\n";
     // The front of the frame and how much sound is behind it.
     const ROWS: [Row; 4] = [
         (
-            DECODE,
+            "decode in.dff out.dff\nframe 0 refused: 9 FirstCodeBit at bit 45\n",
             Frame(b"\xfc\0\0\x05\xff\xfc", 0x69, 0, b""),
             6,
             PlainFront,
-            CODE_BIT,
         ),
         (
-            DECODE,
+            "decode in.dff out.dff\nframe 0 refused: 2 PlainStuffing at bit 2\n",
             Frame(b"\x01", 0x69, 4704, b""),
             6,
             PlainFront,
-            STUFFING,
         ),
-        (DECODE, Frame(b"", 0x69, 0, b""), 6, PlainFront, EMPTY),
-        (DECODE, Frame(b"\0", 0x69, 4703, b""), 6, PlainFront, SHORT),
+        (
+            "decode in.dff out.dff\nframe 0 refused: 1 Truncated at bit 0\n",
+            Frame(b"", 0x69, 0, b""),
+            6,
+            PlainFront,
+        ),
+        (
+            "decode in.dff out.dff\nframe 0 refused: 1 Truncated at bit 8\n",
+            Frame(b"\0", 0x69, 4703, b""),
+            6,
+            PlainFront,
+        ),
     ];
     all_give(&rt, rt.alloc(), &ROWS);
 }
@@ -133,27 +137,32 @@ fn a_frame_is_refused_by_its_first_fault(rt: HostRuntime) {
 #[test]
 fn the_first_refused_frame_is_told_behind_the_earlier_sounds(rt: HostRuntime) {
     const CODE: &[u8; 6] = b"\xfc\0\0\x05\xff\xfc";
-    const FIRST: &str = "frame 0 refused: 2 PlainStuffing at bit 2\n";
-    const SECOND: &str = "frame 1 refused: 2 PlainStuffing at bit 2\n";
-    const CODE_BIT: &str = "frame 1 refused: 9 FirstCodeBit at bit 45\n";
     // The first bytes of each frame, how much is written, and the frame that is told with its fault.
     const ROWS: [Row; 4] = [
         (
-            DECODE,
+            "decode in.dff out.dff\nframe 0 refused: 2 PlainStuffing at bit 2\n",
             TwoChanged(b"\x01", b"\x01"),
             6,
             OddFront(126),
-            FIRST,
         ),
-        (DECODE, TwoChanged(b"\x01", CODE), 6, OddFront(126), FIRST),
         (
-            DECODE,
+            "decode in.dff out.dff\nframe 0 refused: 2 PlainStuffing at bit 2\n",
+            TwoChanged(b"\x01", CODE),
+            6,
+            OddFront(126),
+        ),
+        (
+            "decode in.dff out.dff\nframe 1 refused: 2 PlainStuffing at bit 2\n",
             TwoChanged(b"\0", b"\x03"),
             6,
             OddFront(4830),
-            SECOND,
         ),
-        (DECODE, TwoChanged(b"\0", CODE), 6, OddFront(4830), CODE_BIT),
+        (
+            "decode in.dff out.dff\nframe 1 refused: 9 FirstCodeBit at bit 45\n",
+            TwoChanged(b"\0", CODE),
+            6,
+            OddFront(4830),
+        ),
     ];
     all_give(&rt, rt.alloc(), &ROWS);
 }

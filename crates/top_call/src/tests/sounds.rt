@@ -12,54 +12,57 @@ use example_files::{NOTHING_KEPT, SILENT, THREE_KEPT};
 use std::alloc::{AllocError, Global};
 use std::thread::Threads;
 
-const ONE_FRAME: &str = "decoded 1 frames into 4704 bytes\n";
-
 // A frame in the plain form, and one that is coded, of bytes FF.
 const STORED: Made = Frame(b"\0", 0x69, 4704, b"");
 
 const ONES: Made = Frame(b"\xfc\0\0\x05\xff\xf8", 0, 0, b"");
 
 const SOUNDS: [Row; 7] = [
-    (DECODE, STORED, 0, Plain(0x69, 4704), ONE_FRAME),
-    (DECODE, ONES, 0, Plain(0xff, 4704), ONE_FRAME),
+    (
+        "decode in.dff out.dff\ndecoded 1 frames into 4704 bytes\n",
+        STORED,
+        0,
+        Plain(0x69, 4704),
+    ),
+    (
+        "decode in.dff out.dff\ndecoded 1 frames into 4704 bytes\n",
+        ONES,
+        0,
+        Plain(0xff, 4704),
+    ),
     // Bits past the sound, and the second bit, are not looked at.
     (
-        DECODE,
+        "decode in.dff out.dff\ndecoded 1 frames into 4704 bytes\n",
         Frame(b"\0", 0x69, 4704, &[1, 2, 3]),
         0,
         Plain(0x69, 4704),
-        ONE_FRAME,
     ),
     (
-        DECODE,
+        "decode in.dff out.dff\ndecoded 1 frames into 4704 bytes\n",
         Frame(b"\x40", 0x69, 4704, b""),
         0,
         Plain(0x69, 4704),
-        ONE_FRAME,
     ),
     // A sound of two frames comes back with its pad byte.
     (
-        DECODE,
+        "decode in.dff out.dff\ndecoded 2 frames into 4705 bytes\n",
         TwoFrames,
         0,
         OddPlain,
-        "decoded 2 frames into 4705 bytes\n",
     ),
     // Checksums are passed over.
     (
-        DECODE,
+        "decode in.dff out.dff\ndecoded 2 frames into 9408 bytes\n",
         Checksums,
         0,
         Plain(0x69, 9408),
-        "decoded 2 frames into 9408 bytes\n",
     ),
     // A double rate has frames of double size.
     (
-        DECODE,
+        "decode in.dff out.dff\ndecoded 1 frames into 9408 bytes\n",
         DoubleCoded,
         0,
         DoublePlain,
-        "decoded 1 frames into 9408 bytes\n",
     ),
 ];
 
@@ -75,24 +78,31 @@ const KEPT_BAD: Made = CodedSilent(b"\x02\0\0\0\0\0\0\0\0\x01\0\0\0\x03", &[1, 2
 
 #[test]
 fn what_a_plain_file_has_besides_its_sound_comes_back(rt: HostRuntime) {
-    const BACK: &str = "decoded 0 frames into 0 bytes\n";
     const ROWS: [Row; 4] = [
-        (DECODE, BY_VERSION_1, 0, Known(SILENT), BACK),
         (
-            DECODE,
+            "decode in.dff out.dff\ndecoded 0 frames into 0 bytes\n",
+            BY_VERSION_1,
+            0,
+            Known(SILENT),
+        ),
+        (
+            "decode in.dff out.dff\ndecoded 0 frames into 0 bytes\n",
             CodedSilent(NOTHING_KEPT, &[]),
             0,
             Known(SILENT),
-            BACK,
         ),
         (
-            DECODE,
+            "decode in.dff out.dff\ndecoded 0 frames into 0 bytes\n",
             CodedSilent(THREE_KEPT, &[1, 2, 3]),
             0,
             SilentAndTail,
-            BACK,
         ),
-        (DECODE, KEPT_BAD, 5, NOTHING, "file refused: 21 KeptBad\n"),
+        (
+            "decode in.dff out.dff\nfile refused: 21 KeptBad\n",
+            KEPT_BAD,
+            5,
+            NOTHING,
+        ),
     ];
     all_give(&rt, rt.alloc(), &ROWS);
 }
