@@ -15,126 +15,128 @@ use std::thread::Threads;
 // A file of one frame whose code begins with a bit 1.
 const FIRST_BIT_1: Made = Frame(b"\xfc\0\0\x05\xff\xfc", 0, 0, b"");
 
+const FRAMES: [Row; 11] = [
+    (
+        "frame a b 1\nframe 1, 4704 bytes\n",
+        TwoFrames,
+        0,
+        SecondFrame,
+    ),
+    (
+        "frame a b 1 --by-index\nframe 1, 4704 bytes\n",
+        TwoFrames,
+        0,
+        SecondFrame,
+    ),
+    (
+        "frame a b 0\nframe 0, 4704 bytes\n",
+        Known(EXAMPLE),
+        0,
+        Filled(0xff, 4704),
+    ),
+    (
+        "frame a b 3\nfile refused: 22 Range 3 3\n",
+        ThreeFrames,
+        5,
+        NOTHING,
+    ),
+    (
+        "frame a b 3 --by-index\nfile refused: 22 Range 3 3\n",
+        ThreeFrames,
+        5,
+        NOTHING,
+    ),
+    (
+        "frame a b 2 --by-index\nfile refused: 24 IndexBad 2\n",
+        ThreeMoved,
+        5,
+        NOTHING,
+    ),
+    (
+        "check a\nfile refused: 24 IndexBad 2\n",
+        ThreeMoved,
+        5,
+        NOTHING,
+    ),
+    (
+        "frame a b 0 --by-index\nfile refused: 23 IndexMissing\n",
+        Known(EXAMPLE),
+        5,
+        NOTHING,
+    ),
+    (
+        "frame a b 0\nfile refused: 27 NotCoded\n",
+        Known(SILENT),
+        5,
+        NOTHING,
+    ),
+    (
+        "frame a b 0 --by-index\nfile refused: 27 NotCoded\n",
+        Known(SILENT),
+        5,
+        NOTHING,
+    ),
+    (
+        "frame a b 2\nframe 2, 4704 bytes\n",
+        ThreeMoved,
+        0,
+        Filled(0x69, 4704),
+    ),
+];
+
 #[test]
 fn a_frame_is_written_by_the_walk_and_by_the_index(rt: HostRuntime) {
-    const ROWS: [Row; 11] = [
-        (
-            "frame a b 1\nframe 1, 4704 bytes\n",
-            TwoFrames,
-            0,
-            SecondFrame,
-        ),
-        (
-            "frame a b 1 --by-index\nframe 1, 4704 bytes\n",
-            TwoFrames,
-            0,
-            SecondFrame,
-        ),
-        (
-            "frame a b 0\nframe 0, 4704 bytes\n",
-            Known(EXAMPLE),
-            0,
-            Filled(0xff, 4704),
-        ),
-        (
-            "frame a b 3\nfile refused: 22 Range 3 3\n",
-            ThreeFrames,
-            5,
-            NOTHING,
-        ),
-        (
-            "frame a b 3 --by-index\nfile refused: 22 Range 3 3\n",
-            ThreeFrames,
-            5,
-            NOTHING,
-        ),
-        (
-            "frame a b 2 --by-index\nfile refused: 24 IndexBad 2\n",
-            ThreeMoved,
-            5,
-            NOTHING,
-        ),
-        (
-            "check a\nfile refused: 24 IndexBad 2\n",
-            ThreeMoved,
-            5,
-            NOTHING,
-        ),
-        (
-            "frame a b 0 --by-index\nfile refused: 23 IndexMissing\n",
-            Known(EXAMPLE),
-            5,
-            NOTHING,
-        ),
-        (
-            "frame a b 0\nfile refused: 27 NotCoded\n",
-            Known(SILENT),
-            5,
-            NOTHING,
-        ),
-        (
-            "frame a b 0 --by-index\nfile refused: 27 NotCoded\n",
-            Known(SILENT),
-            5,
-            NOTHING,
-        ),
-        (
-            "frame a b 2\nframe 2, 4704 bytes\n",
-            ThreeMoved,
-            0,
-            Filled(0x69, 4704),
-        ),
-    ];
-    all_give(&rt, rt.alloc(), &ROWS);
+    all_give(&rt, rt.alloc(), &FRAMES);
 }
+
+const CHECKED: [Row; 7] = [
+    (
+        "check a\nsound, 2 frames, 0 unread bytes\n",
+        TwoFrames,
+        0,
+        NOTHING,
+    ),
+    (
+        "check a --workers 2\nsound, 2 frames, 0 unread bytes\n",
+        TwoFrames,
+        0,
+        NOTHING,
+    ),
+    (
+        "check a\nsound, 2 frames, 0 unread bytes\n",
+        OddPlain,
+        0,
+        NOTHING,
+    ),
+    (
+        "check a\nframe 0 refused: 9 FirstCodeBit at bit 45\n",
+        FIRST_BIT_1,
+        6,
+        NOTHING,
+    ),
+    (
+        "frame a b 0\nframe 0 refused: 9 FirstCodeBit at bit 45\n",
+        FIRST_BIT_1,
+        6,
+        NOTHING,
+    ),
+    (
+        "check a\nfile refused: 16 CountDiffers 2 1\n",
+        Changed(EXAMPLE, 134, b"\0\0\0\x02"),
+        5,
+        NOTHING,
+    ),
+    (
+        "check a\nsound, 1 frames, 3 unread bytes\n",
+        LongerFrame,
+        0,
+        NOTHING,
+    ),
+];
 
 #[test]
 fn a_file_is_checked_whole(rt: HostRuntime) {
-    const ROWS: [Row; 7] = [
-        (
-            "check a\nsound, 2 frames, 0 unread bytes\n",
-            TwoFrames,
-            0,
-            NOTHING,
-        ),
-        (
-            "check a --workers 2\nsound, 2 frames, 0 unread bytes\n",
-            TwoFrames,
-            0,
-            NOTHING,
-        ),
-        (
-            "check a\nsound, 2 frames, 0 unread bytes\n",
-            OddPlain,
-            0,
-            NOTHING,
-        ),
-        (
-            "check a\nframe 0 refused: 9 FirstCodeBit at bit 45\n",
-            FIRST_BIT_1,
-            6,
-            NOTHING,
-        ),
-        (
-            "frame a b 0\nframe 0 refused: 9 FirstCodeBit at bit 45\n",
-            FIRST_BIT_1,
-            6,
-            NOTHING,
-        ),
-        (
-            "check a\nfile refused: 16 CountDiffers 2 1\n",
-            Changed(EXAMPLE, 134, b"\0\0\0\x02"),
-            5,
-            NOTHING,
-        ),
-        (
-            "check a\nsound, 1 frames, 3 unread bytes\n",
-            LongerFrame,
-            0,
-            NOTHING,
-        ),
-    ];
-    all_give(&rt, rt.alloc(), &ROWS);
+    all_give(&rt, rt.alloc(), &CHECKED);
 }
 
 const SHOWN: [Row; 12] = [
