@@ -1,6 +1,6 @@
 -- What checking a file comes to, by its rules and its frames.
-use Rattle.std.proofs.Common.{◌≡◌, ◌⊎◌, inl, inr, ℕ, suc, ◌<◌, List, [], ◌∷◌, ◌++◌, length, map, take, drop, get_or, None, Err, refl, ap, sym, subst, ◌∙◌}
-use Rattle.std.proofs.Common.{arith, take-append-drop}
+use Rattle.std.proofs.Common.{◌≡◌, ◌⊎◌, inl, inr, ℕ, suc, ◌<◌, List, [], ◌∷◌, ◌++◌, length, map, take, drop, get_or, None, refl, ap, sym, subst, ◌∙◌}
+use Rattle.std.proofs.Common.{Result, Ok, Err, arith, take-append-drop}
 use Rattle.std.specs.Prelude.{sum}
 use Rattle.std.specs.List.{AllZip, enumerate_from}
 use Rattle.std.proofs.lemmas.List.{take_all}
@@ -18,9 +18,14 @@ use Rattle.dsdiff_spec.specs.Outcome.{Answer, done, frame_refused, frames_if_cod
 use Rattle.dsdiff_spec.proofs.OneOutcome.{none_numbered, take-numbered}
 use Rattle.dst_commands.specs.Commands.{OutcomeOf}
 use Rattle.dsdiff_chunks.specs.declared.open.OpenFault.TheVariants.{Read, Memory, File}
+use Rattle.dst_read.specs.declared.faults.Checked.{Checked}
 use Rattle.dst_read.specs.declared.faults.CheckFault.{CheckFault}
 use Rattle.dst_read.specs.declared.faults.CheckFault.TheVariants.{Source, Frame}
 use Rattle.dst_read.specs.Checking.{AreHeard, IsRefusedAt, TailsEnd, CheckingEnds}
+
+-- ---- a file that is sound has no fault
+pub sound_not_fault : (s : Checked) (fault : CheckFault) → ◌≡◌ {A = Result Checked CheckFault} (Ok s) (Err fault) → ⊥
+sound_not_fault s fault e = cc
 
 -- ---- an outcome of an accepted file
 of_accepted : (file : List ℕ) (f : Form) (o : Answer) → accepted file ≡ f → refusal check file ≡ None → (IsStopped check file f o ⊎ IsDone check file f o) →

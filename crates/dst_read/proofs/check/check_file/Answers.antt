@@ -19,7 +19,7 @@ use Rattle.dst_read.specs.declared.faults.Checked.{Checked}
 use Rattle.dst_read.specs.declared.faults.CheckFault.{CheckFault}
 use Rattle.dst_read.specs.declared.faults.CheckFault.TheVariants.{Source, Frame}
 use Rattle.dst_read.specs.Checking.{CheckingEnds}
-use Rattle.dst_read.proofs.Checks.{plain_is_sound}
+use Rattle.dst_read.proofs.Checks.{plain_is_sound, sound_not_fault}
 use Rattle.dst_read.proofs.check.check_file.Goals as goal
 
 -- ---- of opening
@@ -69,9 +69,6 @@ returns-in-Plain-clause-sound g c file told =
 
 pub returns-in-Plain-clause-frames : goal.returns-in-Plain-clause-frames
 returns-in-Plain-clause-frames g c file told = ap (λ (f : Form). f.frames) (sym (subst (IsAny file) c.in-Plain.is (c.in-Ok.ensures.opened file told)))
-
-sound_not_fault : (s : Checked) (fault : CheckFault) → ◌≡◌ {A = Result Checked CheckFault} (Ok s) (Err fault) → ⊥
-sound_not_fault s fault e = cc
 
 pub returns-in-Plain-clause-bytes : goal.returns-in-Plain-clause-bytes
 returns-in-Plain-clause-bytes g c = c.open_file.ensures.bytes

@@ -1,5 +1,5 @@
 -- The frames, up to the first that is refused.
-use Rattle.std.proofs.Common.{◌≡◌, Result, Ok, Err, ap, sym, refl, subst, arith}
+use Rattle.std.proofs.Common.{◌≡◌, Result, Err, ap, sym, refl, subst, arith}
 use Rattle.std.proofs.Math.Nat.{le_refl}
 use Rattle.std.specs.declared.alloc.AllocError.{AllocError}
 use Rattle.dsdiff_spec.specs.Form.{Form}
@@ -10,7 +10,7 @@ use Rattle.dst_read.specs.declared.faults.CheckFault.{CheckFault}
 use Rattle.dst_read.specs.declared.faults.CheckFault.TheVariants.{Source}
 use Rattle.dst_read.specs.Checking.{HasSourceCause}
 use Rattle.dst_read.specs.Jobs.{AreJobsFor, AreTablesFor}
-use Rattle.dst_read.proofs.Checks.{coded_is_sound, stopped}
+use Rattle.dst_read.proofs.Checks.{coded_is_sound, stopped, sound_not_fault}
 use Rattle.dst_read.proofs.Once.{stored_in_sound, stored_at_most}
 use Rattle.dst_read.proofs.check.check_frames.Goals as goal
 
@@ -61,9 +61,6 @@ returns-in-Ok-sum_tails-clause-later g c = c.sum_tails.ensures.later
 
 pub returns-clause-later : goal.returns-clause-later
 returns-clause-later g c = c.sum_tails.ensures.later
-
-sound_not_fault : (s : Checked) (fault : CheckFault) → ◌≡◌ {A = Result Checked CheckFault} (Ok s) (Err fault) → ⊥
-sound_not_fault s fault e = cc
 
 pub returns-in-Ok-sum_tails-clause-read : goal.returns-in-Ok-sum_tails-clause-read
 returns-in-Ok-sum_tails-clause-read g c e = absurd (sound_not_fault _ _ e)

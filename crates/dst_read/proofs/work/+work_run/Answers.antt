@@ -1,8 +1,9 @@
 -- The first eight jobs of a run are decoded, then those behind them, and all keep their shape.
-use Rattle.std.proofs.Common.{◌≡◌, List, [], ◌∷◌, ◌++◌, sym, subst, arith}
+use Rattle.std.proofs.Common.{◌≡◌, ◌++◌, sym, subst, arith}
 use Rattle.std.specs.Prelude.{All}
 use Rattle.std.specs.List.{AllZip}
 use Rattle.std.proofs.lemmas.List.Elements.{All-append, All-take}
+use Rattle.frame_crew.proofs.Lists.{AllZip-append}
 use Rattle.dst_commands.specs.Rooms.{shape_number}
 use Rattle.dst_read.specs.Jobs.{shape_of_job, IsWorked}
 use Rattle.dst_read.specs.declared.jobs.Job.{Job}
@@ -43,16 +44,10 @@ work_eight-requires-2-clause-jobs t c =
     let P = λ (j : Job). shape_of_job j ≡ shape_number c.args.channels in
     subst (All P) (sym c.split_at_mut-first.ensures.front) (All-take P 8 c.args.run.now c.requires.jobs)
 
-all_zip-append : {A : Type 0} (R : A → A → Type 0) (xs ys zs ws : List A) → AllZip R xs ys → AllZip R zs ws → AllZip R (xs ++ zs) (ys ++ ws)
-all_zip-append R [] [] zs ws h k = k
-all_zip-append R [] (y ∷ ys) zs ws h k = absurd h
-all_zip-append R (x ∷ xs) [] zs ws h k = absurd h
-all_zip-append R (x ∷ xs) (y ∷ ys) zs ws h k = (h.0, all_zip-append R xs ys zs ws h.1 k)
-
 pub returns-clause-done : goal.returns-clause-done
 returns-clause-done t c =
     subst (λ jobs. AllZip (IsWorked c.args.channels) jobs (c.work_eight-2.new.run ++ c.work_run.new.run)) (sym c.split_at_mut-first.ensures.value)
-    (all_zip-append (IsWorked c.args.channels) _ _ _ _ c.work_eight-2.ensures.done c.work_run.ensures.done)
+    (AllZip-append (IsWorked c.args.channels) _ _ _ _ c.work_eight-2.ensures.done c.work_run.ensures.done)
 
 pub returns-clause-shapes : goal.returns-clause-shapes
 returns-clause-shapes t c =
