@@ -1,42 +1,61 @@
 // Codes written, codes that don't fit, a long run that is turned over, and a long code.
 ghost use Rattle.std.specs.Prelude.{◌≤◌, ◌^◌};
 
+use crate::compared::same;
 use arith_encoder::ArithEncoder;
 use bit_io::BitWriter;
 use dst_num::Prob;
-use std::alloc::Global;
+use std::alloc::{AllocError, Global};
 use std::test::Fail;
 
+// The last one carries through three ones.
+const SYMBOLS: [(bool, u32); 6] = [
+    (true, 128),
+    (false, 128),
+    (true, 1),
+    (false, 128),
+    (false, 128),
+    (false, 128),
+];
+
+// Which of them fit, and whether they are the code that is wanted, where there is room for a code.
+type Fitting = Option<([bool; 6], bool)>;
+
+// Tries the first so many of them in a room of so many bytes, beside this code.
+fn fitting(alloc: Global, room: usize, count: usize, code: &[u8]) -> Result<Fitting, AllocError>
+    requires { room ≤ 2 ^ 50 }
+{
+    let Ok(mut encoder) = ArithEncoder::new(BitWriter::new(alloc, room)?) else {
+        return Ok(None);
+    };
+    let mut fits = [false; 6];
+    for i in 0..count.min(6) {
+        let (symbol, p) = SYMBOLS[i];
+        let Some(p) = Prob::new(p) else {
+            return Ok(None);
+        };
+        fits[i] = encoder.encode(symbol, p);
+    }
+    Ok(Some((fits, encoder.finish().bytes() == code)))
+}
+
 #[test]
-fn symbols_are_written_as_far_as_they_fit(rt: HostRuntime) -> Result<(), Fail> {
-    // the last one carries through three ones
-    let symbols = [
-        (true, 128),
-        (false, 128),
-        (true, 1),
-        (false, 128),
-        (false, 128),
-        (false, 128),
-    ];
-    // room in bytes, how many symbols are tried, how many of them fit, the code
+fn symbols_are_written_as_far_as_they_fit(rt: HostRuntime) {
+    // Room in bytes, how many symbols are tried, how many of them fit, the code.
     const CASES: [(usize, usize, usize, &[u8]); 4] = [
         (4, 3, 3, &[0x23, 0xf8]),
         (4, 6, 6, &[0x40, 0x18, 0x00]),
         (2, 6, 4, &[0x34, 0xd8]),
         (2, 0, 0, &[0x00, 0x00]),
     ];
-    for &(room, count, fitting, code) in &CASES {
-        let writer = BitWriter::new(rt.alloc(), room)?;
-        let mut encoder = ArithEncoder::new(writer)
-            .ok()
-            .expect(&rt, "room for a code");
-        for (i, (symbol, p)) in symbols.iter().take(count).enumerate() {
-            let p = Prob::new(*p).expect(&rt, "a probability");
-            assert_eq!(rt; encoder.encode(*symbol, p), i < fitting);
-        }
-        assert_eq!(rt; encoder.finish().bytes(), code);
+    for &(room, count, fit, code) in &CASES {
+        let wanted = [0, 1, 2, 3, 4, 5].map(|i| i < fit);
+        same(
+            &rt,
+            &fitting(rt.alloc(), room, count, code),
+            &Ok(Some((wanted, true))),
+        );
     }
-    Ok(())
 }
 
 // An encoder over so many bytes, of which five bits are written, is given up: whether there was one, and the writer's length and room.
@@ -58,11 +77,9 @@ fn handed_back(alloc: Global, room: usize) -> Result<(bool, u64, u64), Fail>
 
 #[test]
 fn writers_are_handed_back(rt: HostRuntime) -> Result<(), Fail> {
-    // too few bits are left for a code
-    let refused = handed_back(rt.alloc(), 2)?;
-    assert_eq!(rt; refused, (false, 5, 11));
-    let abandoned = handed_back(rt.alloc(), 3)?;
-    assert_eq!(rt; abandoned, (true, 0, 24));
+    // With two bytes too few bits are left for a code.
+    let both = [handed_back(rt.alloc(), 2)?, handed_back(rt.alloc(), 3)?];
+    same(&rt, &both, &[(false, 5, 11), (true, 0, 24)]);
     Ok(())
 }
 
@@ -97,6 +114,22 @@ impl Reached {
             self.doublings = self.doublings.wrapping_add(1);
         }
     }
+
+    // Doubles the low end until three bits of a byte are behind whole ones.
+    fn fill_the_byte(&mut self) {
+        for _ in 0..8 {
+            if self.doublings % 8 != 3 {
+                scale_and_add(&mut self.low, 2, 0);
+                self.doublings = self.doublings.wrapping_add(1);
+            }
+        }
+    }
+
+    // The bytes of the low end.
+    fn low_end(&self) -> &[u8] {
+        let length = (self.doublings / 8).wrapping_add(2);
+        &self.low[64 - length.min(64)..]
+    }
 }
 
 fn scale_and_add(number: &mut [u8; 64], factor: u32, addend: u32) {
@@ -110,43 +143,42 @@ fn scale_and_add(number: &mut [u8; 64], factor: u32, addend: u32) {
     }
 }
 
-#[test]
-fn a_carry_turns_over_a_long_run(rt: HostRuntime) -> Result<(), Fail> {
-    let p = Prob::new(128).expect(&rt, "a probability");
+// Whether the code of a run below a half, which begins with 0 and ones until it has 200 of them, and of a symbol above it is the low end,
+// its first byte, and whether 25 bytes behind that are 0.
+fn turned_over(alloc: Global) -> Result<Option<(bool, u8, bool)>, AllocError> {
+    let Ok(mut encoder) = ArithEncoder::new(BitWriter::new(alloc, 64)?) else {
+        return Ok(None);
+    };
+    let Some(p) = Prob::new(128) else {
+        return Ok(None);
+    };
     let mut reached = Reached {
         low: [0; 64],
         range: 4095,
         doublings: 0,
         below: 2048,
     };
-    let writer = BitWriter::new(rt.alloc(), 64)?;
-    let mut encoder = ArithEncoder::new(writer)
-        .ok()
-        .expect(&rt, "room for a code");
-    // below a half, which begins with 0 and ones, until it has 200 of them; then above
     for _ in 0..500 {
         let is_1 = reached.below < reached.high();
         let passes = is_1 && reached.below > 0 && reached.doublings > 210;
-        assert!(rt; encoder.encode(is_1 && !passes, p));
+        if !encoder.encode(is_1 && !passes, p) {
+            return Ok(None);
+        }
         reached.take(is_1 && !passes);
         if passes {
             break;
         }
     }
-    for _ in 0..8 {
-        if reached.doublings % 8 != 3 {
-            scale_and_add(&mut reached.low, 2, 0);
-            reached.doublings = reached.doublings.wrapping_add(1);
-        }
-    }
-    let length = (reached.doublings / 8).wrapping_add(2);
-    assert!(rt; length > 26 && length <= 64);
-    let low = &reached.low[64 - length..];
-    assert_eq!(rt;
-        (encoder.finish().bytes(), low[0], &low[1..26]),
-        (low, 0x40, [0; 25].as_slice())
-    );
-    Ok(())
+    reached.fill_the_byte();
+    let low = reached.low_end();
+    let is_low_end = encoder.finish().bytes() == low;
+    let first = low.first().copied().unwrap_or(0);
+    Ok(Some((is_low_end, first, low.get(1..26) == Some(&[0; 25]))))
+}
+
+#[test]
+fn a_carry_turns_over_a_long_run(rt: HostRuntime) {
+    same(&rt, &turned_over(rt.alloc()), &Ok(Some((true, 0x40, true))));
 }
 
 // A symbol made by a linear congruence, and its probability from 1 to 128.
@@ -167,28 +199,30 @@ fn hash(bytes: &[u8]) -> u64 {
     hash
 }
 
-#[test]
-fn a_long_code_is_that_of_whole_numbers(rt: HostRuntime) -> Result<(), Fail> {
-    let writer = BitWriter::new(rt.alloc(), 20_000)?;
-    let mut encoder = ArithEncoder::new(writer)
-        .ok()
-        .expect(&rt, "room for a code");
+// The bytes of a code of 100,000 symbols: how many, whether they begin as they should, and their hash.
+fn told_of_a_long_code(alloc: Global) -> Result<Option<(usize, bool, u64)>, AllocError> {
+    let Ok(mut encoder) = ArithEncoder::new(BitWriter::new(alloc, 20_000)?) else {
+        return Ok(None);
+    };
     let mut state = 1;
     for _ in 0..100_000 {
         let (symbol, p) = made(&mut state);
-        let p = Prob::new(p).expect(&rt, "a probability");
-        assert!(rt; encoder.encode(symbol, p));
+        let Some(p) = Prob::new(p) else {
+            return Ok(None);
+        };
+        if !encoder.encode(symbol, p) {
+            return Ok(None);
+        }
     }
     let writer = encoder.finish();
     let bytes = writer.bytes();
-    // by another program, which keeps the low end as one whole number
-    assert_eq!(rt;
-        (bytes.len(), bytes.get(..8), hash(bytes)),
-        (
-            9_060,
-            Some([0x09, 0xb2, 0xfc, 0x8b, 0x3f, 0xfd, 0x10, 0xe9].as_slice()),
-            0x75ce_7ca4_2cf8_ccf8,
-        )
-    );
-    Ok(())
+    let begins = bytes.starts_with(&[0x09, 0xb2, 0xfc, 0x8b, 0x3f, 0xfd, 0x10, 0xe9]);
+    Ok(Some((bytes.len(), begins, hash(bytes))))
+}
+
+#[test]
+fn a_long_code_is_that_of_whole_numbers(rt: HostRuntime) {
+    // By another program, which keeps the low end as one whole number.
+    let wanted = (9_060, true, 0x75ce_7ca4_2cf8_ccf8);
+    same(&rt, &told_of_a_long_code(rt.alloc()), &Ok(Some(wanted)));
 }

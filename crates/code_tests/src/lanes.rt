@@ -1,23 +1,24 @@
 // Words, codes side by side, and codes refused.
 ghost use Rattle.std.specs.Prelude.{◌≡◌};
 
+use crate::compared::same;
 use arith_lanes::{ArithLanes, word};
 use bit_io::BitSlice;
 use dst_num::{FrameFault, Reason};
 
 #[test]
 fn words_have_a_probability_and_its_factor(rt: HostRuntime) {
-    // 128 is eight bits long, 1 by a factor of 128, 3 by one of 64, 100 by one of 2
-    let cases = [
-        (127u8, 0x017fu16),
+    // 128 is eight bits long, 1 by a factor of 128, 3 by one of 64, 100 by one of 2.
+    const CASES: [(u8, u16); 6] = [
+        (127, 0x017f),
         (0, 0x8000),
         (2, 0x4002),
         (99, 0x0263),
         (255, 0x01ff),
         (0x82, 0x4082),
     ];
-    for (entry, expected) in cases {
-        assert_eq!(rt; word(entry), expected, "{entry}");
+    for &(entry, expected) in &CASES {
+        same(&rt, &(entry, word(entry)), &(entry, expected));
     }
 }
 
@@ -29,35 +30,44 @@ fn code_from(bytes: &[u8], first: u64) -> BitSlice
     BitSlice { bytes, first }
 }
 
-#[test]
-fn codes_give_their_symbols_side_by_side(rt: HostRuntime) {
+// The symbols of lanes 2, 5 and 3 by a word of the first two and one of the third in each step. Lane 2 has the code of the carry, lane 5
+// the same behind five other bits, and lane 3 one of no bytes.
+fn side_by_side(words: &[(u16, u16); 6]) -> Option<[[u16; 3]; 6]> {
     let carry: [u8; 3] = [0x40, 0x18, 0x00];
     let behind: [u8; 4] = [0xfa, 0x00, 0xc0, 0x07];
     let mut lanes = ArithLanes::new();
-    assert_eq!(rt; lanes.begin(2, code_from(&carry, 0)), Ok(()));
-    // the same code behind five other bits
-    assert_eq!(rt; lanes.begin(5, code_from(&behind, 5)), Ok(()));
+    lanes.begin(2, code_from(&carry, 0)).ok()?;
+    lanes.begin(5, code_from(&behind, 5)).ok()?;
     lanes.refill(5, &behind);
-    assert!(rt; !lanes.are_short());
-    // Lane 3 has a code of no bytes, with the probabilities 1 and 128 in turn: each of its symbols is 1.
-    // Its words turn symbols round.
+    if lanes.are_short() {
+        return None;
+    }
     let half = word(255);
-    let least = word(128);
+    let mut found = [[0; 3]; 6];
+    for i in 0..6usize {
+        let (p, other) = words[i];
+        let symbols = lanes.decode(&[half, half, p, other, half, p, half, half]);
+        found[i] = [symbols[2], symbols[5], symbols[3]];
+    }
+    Some(found)
+}
+
+#[test]
+fn codes_give_their_symbols_side_by_side(rt: HostRuntime) {
+    // Lane 3 has the probabilities 1 and 128 in turn: each of its symbols is 1. Its words turn symbols round.
+    let half = word(255);
     let turned = word(127);
     let turned_least = word(0);
-    let steps = [
-        (half, turned_least, 1),
-        (half, turned, 0),
-        (least, turned_least, 1),
-        (half, turned, 0),
-        (half, turned_least, 0),
-        (half, turned, 0),
+    let words = [
+        (half, turned_least),
+        (half, turned),
+        (word(128), turned_least),
+        (half, turned),
+        (half, turned_least),
+        (half, turned),
     ];
-    for (p, other, symbol) in steps {
-        let symbols = lanes.decode(&[half, half, p, other, half, p, half, half]);
-        let three = [symbols[2], symbols[5], symbols[3]];
-        assert_eq!(rt; three, [symbol, symbol, 0]);
-    }
+    let wanted = [1, 0, 1, 0, 0, 0].map(|symbol| [symbol, symbol, 0]);
+    same(&rt, &side_by_side(&words), &Some(wanted));
 }
 
 #[test]
@@ -71,6 +81,6 @@ fn codes_with_a_fault_are_refused_at_its_bit(rt: HostRuntime) {
     for &(bytes, first, reason, bit) in &CASES {
         let mut lanes = ArithLanes::new();
         let refused = lanes.begin(7, BitSlice { bytes, first });
-        assert_eq!(rt; refused, Err(FrameFault { reason, bit }));
+        same(&rt, &refused, &Err(FrameFault { reason, bit }));
     }
 }
