@@ -1,6 +1,7 @@
 // A DSF file written by hand, of twelve samples of one channel.
 ghost use Rattle.std.specs.Prelude.{◌<◌, ◌≤◌};
 
+use crate::compared::same;
 use crate::no_pick::NoPick;
 use dsdiff_chunks::{FileFault, OpenFault};
 use dst_dsf::{decode_dsf, encode_dsf};
@@ -83,7 +84,7 @@ fn twelve_samples_are_coded_in_a_frame(rt: HostRuntime) {
         frames: 1,
         bytes: 4705,
     };
-    assert_eq!(rt; answer, Ok((Ok(done), true)));
+    same(&rt, &answer, &Ok((Ok(done), true)));
 }
 
 #[test]
@@ -96,7 +97,7 @@ fn a_size_of_blocks_that_is_too_small_is_refused(rt: HostRuntime) {
         size: 4107,
     };
     let refused = EncodeFault::Source(OpenFault::File(fault));
-    assert_eq!(rt; answer, Ok((Err(refused), true)));
+    same(&rt, &answer, &Ok((Err(refused), true)));
 }
 
 // What coding the file answers where this call of the source fails.
@@ -151,7 +152,7 @@ fn a_call_of_a_device_that_fails_is_told(rt: HostRuntime) {
     ];
     let told = last_told_of_coding(&rt, alloc).map(|told| told > 15 && told < 59);
     let unread = Ok(Err(EncodeFault::Source(OpenFault::Read)));
-    assert_eq!(rt; (reads, told), ([unread; 3], Ok(true)));
+    same(&rt, &(reads, told), &([unread; 3], Ok(true)));
 }
 
 // What decoding a file by so many workers answers, and whether these bytes are written.
@@ -177,7 +178,7 @@ fn the_coded_file_is_decoded_to_the_samples(rt: HostRuntime) {
         frames: 1,
         bytes: 2,
     };
-    assert_eq!(rt; answer, Ok((Ok(done), true)));
+    same(&rt, &answer, &Ok((Ok(done), true)));
 }
 
 #[test]
@@ -186,7 +187,7 @@ fn seventeen_samples_of_two_bytes_are_refused(rt: HostRuntime) {
     file[4960] = 17;
     let answer = decoded(&rt, rt.alloc(), &file, 1, &[]);
     let refused = DecodeFault::Source(OpenFault::File(FileFault::DsfKeptBad));
-    assert_eq!(rt; answer, Ok((Err(refused), true)));
+    same(&rt, &answer, &Ok((Err(refused), true)));
 }
 
 // What decoding the coded file answers where this call of the source fails.
@@ -240,5 +241,5 @@ fn last_told_of_decoding<R: Threads + Sync>(
 fn a_device_that_fails_in_decoding_is_told(rt: HostRuntime) {
     let last = last_told_of_decoding(&rt, rt.alloc());
     let are_late = last.map(|(read, write)| read > 10 && write > 10);
-    assert_eq!(rt; are_late, Ok(true));
+    same(&rt, &are_late, &Ok(true));
 }

@@ -4,6 +4,7 @@ ghost use Rattle.std.specs.Prelude.{◌<◌, ◌≤◌};
 mod crew;
 mod files;
 
+use crate::compared::same;
 use crate::no_pick::NoPick;
 use dsdiff_chunks::{FileFault, OpenFault};
 use dst_streams::{HonestSource, MemorySink};
@@ -50,7 +51,7 @@ fn a_file_without_sound_is_coded(rt: HostRuntime) {
         frames: 0,
         bytes: 0,
     };
-    assert_eq!(rt; answers, [Ok((Ok(done), true)); 2]);
+    same(&rt, &answers, &[Ok((Ok(done), true)); 2]);
 }
 
 // The same of two frames.
@@ -78,12 +79,12 @@ fn two_frames_are_coded_by_some_workers(rt: HostRuntime) {
         frames: 2,
         bytes: 9410,
     };
-    assert_eq!(rt; answers, [Ok((Ok(done), true)); 3]);
+    same(&rt, &answers, &[Ok((Ok(done), true)); 3]);
 }
 
 #[test]
 fn a_coded_file_is_refused(rt: HostRuntime) {
     let answer = encoded(&rt, rt.alloc(), CODED_SILENT, 300, 1, &[]);
     let refused = EncodeFault::Source(OpenFault::File(FileFault::NotPlain));
-    assert_eq!(rt; answer, Ok((Err(refused), true)));
+    same(&rt, &answer, &Ok((Err(refused), true)));
 }

@@ -1,6 +1,7 @@
 // Frames that several workers decode and check.
 ghost use Rattle.std.specs.Prelude.{◌<◌, ◌≤◌};
 
+use crate::compared::same;
 use crate::holding::Holding;
 use dsdiff_chunks::{FileFault, OpenFault};
 use dst_read::{CheckFault, Checked, DecodeFault, Decoded, check_file, decode_file};
@@ -75,7 +76,7 @@ fn all_worked(workers: u32) -> Result<Worked, AllocError>
 fn as_many_frames_as_workers_are_worked_at_once(rt: HostRuntime) {
     let alloc = rt.alloc();
     for workers in [2, 3, 4, 8, 16] {
-        assert_eq!(rt; all_work(&rt, alloc, workers), all_worked(workers));
+        same(&rt, &all_work(&rt, alloc, workers), &all_worked(workers));
     }
 }
 
@@ -99,7 +100,7 @@ fn two_frames_are_decoded_and_checked_at_once(rt: HostRuntime) {
         unread: 0,
     };
     let worked = (Ok(done), (2, 2), Ok(sound), (2, 2));
-    assert_eq!(rt; two_work(&rt, rt.alloc()), Ok((worked, true)));
+    same(&rt, &two_work(&rt, rt.alloc()), &Ok((worked, true)));
 }
 
 const STUFFING: FrameFault = FrameFault {
@@ -147,9 +148,10 @@ fn the_earlier_of_two_refused_frames_is_told(rt: HostRuntime) {
         let fault = STUFFING;
         let decoded = Err(DecodeFault::Frame { frame, fault });
         let checked = Err(CheckFault::Frame { frame, fault });
-        assert_eq!(rt;
-            refused(&rt, rt.alloc(), first, second),
-            Ok((decoded, checked, 4832, Some(written)))
+        same(
+            &rt,
+            &refused(&rt, rt.alloc(), first, second),
+            &Ok((decoded, checked, 4832, Some(written))),
         );
     }
 }
@@ -211,16 +213,17 @@ fn a_file_is_checked_by_its_index_and_its_frames(rt: HostRuntime) {
         check_made(&rt, alloc, indexed(alloc, right)),
         check_made(&rt, alloc, indexed(alloc, b"")),
     ];
-    assert_eq!(rt;
-        sounds,
-        [
+    same(
+        &rt,
+        &sounds,
+        &[
             Ok((0, 0)),
             Ok((1, 3)),
             Ok((2, 0)),
             bad(1),
             bad(0),
             Ok((1, 0)),
-            bad(1)
-        ]
+            bad(1),
+        ],
     );
 }

@@ -1,4 +1,5 @@
 // Devices that fail at each of their calls, or whose room ends at each byte.
+use crate::compared::same;
 use dsdiff_chunks::OpenFault;
 use dst_read::{DecodeFault, Decoded, decode_file};
 use dst_streams::{HonestSource, MemorySink, MemorySource, ShortFlowSink};
@@ -83,15 +84,16 @@ fn a_read_that_fails_leaves_the_front_of_the_output(rt: HostRuntime) {
         frames: 0,
         bytes: 0,
     };
-    assert_eq!(rt;
-        (
+    same(
+        &rt,
+        &(
             first_read_of_two(&rt, alloc),
-            first_read_of_none(&rt, alloc)
+            first_read_of_none(&rt, alloc),
         ),
-        (
+        &(
             Ok((true, Some((Ok(DONE), Some(4832))))),
-            Ok((true, Some((Ok(none), Some(126)))))
-        )
+            Ok((true, Some((Ok(none), Some(126))))),
+        ),
     );
 }
 
@@ -136,7 +138,7 @@ fn first_write<R: Threads + Sync>(
 #[test]
 fn a_write_that_fails_leaves_the_front_of_the_output(rt: HostRuntime) {
     let done = Some((Ok(DONE), Some(4832)));
-    assert_eq!(rt; first_write(&rt, rt.alloc()), Ok((true, 1, done)));
+    same(&rt, &first_write(&rt, rt.alloc()), &Ok((true, 1, done)));
 }
 
 // A run whose sink is full behind so many bytes.
@@ -182,5 +184,5 @@ fn both_unfilled<R: Threads + Sync>(rt: &R, alloc: Global) -> Result<Unfilled, A
 
 #[test]
 fn a_full_sink_holds_what_fits(rt: HostRuntime) {
-    assert_eq!(rt; both_unfilled(&rt, rt.alloc()), Ok((None, None)));
+    same(&rt, &both_unfilled(&rt, rt.alloc()), &Ok((None, None)));
 }

@@ -1,6 +1,7 @@
 // Frames that several workers store at once.
 ghost use Rattle.std.specs.Prelude.{◌<◌, ◌≤◌};
 
+use crate::compared::same;
 use crate::holding::Holding;
 use crate::no_pick::NoPick;
 use dst_streams::{HonestSource, MemorySink};
@@ -41,7 +42,7 @@ fn all_stored(workers: u32) -> Result<Stored, AllocError>
 fn as_many_frames_as_workers_are_stored_at_once(rt: HostRuntime) {
     let alloc = rt.alloc();
     for workers in [2, 3, 4, 8, 16] {
-        assert_eq!(rt; all_store(&rt, alloc, workers), all_stored(workers));
+        same(&rt, &all_store(&rt, alloc, workers), &all_stored(workers));
     }
 }
 
@@ -63,5 +64,5 @@ fn two_frames_are_stored_at_once(rt: HostRuntime) {
         bytes: 9410,
     };
     let stored = two_store(&rt, rt.alloc());
-    assert_eq!(rt; stored, Ok(((Ok(done), (2, 2)), true)));
+    same(&rt, &stored, &Ok(((Ok(done), (2, 2)), true)));
 }
