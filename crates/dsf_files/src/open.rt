@@ -150,18 +150,18 @@ fn channels_for(count: u32, rate: u32) -> Result<Channels, FileFault>
 }
 
 // Whether the samples of a form are too many, or their blocks pass what the file tells of their size, or the file.
-fn check_size(size: u64, told: u64, form: &DsfForm) -> Option<FileFault>
-    ensures fault { result ≡ size_fault size told (dsf_seen form.now) }
+fn check_size(size: u64, data_size: u64, form: &DsfForm) -> Option<FileFault>
+    ensures fault { result ≡ size_fault size data_size (dsf_seen form.now) }
     ensures blocks { result ≡ None → has_blocks (Some size) form.now ≡ true }
 {
     if frame_count(form) > 1_000_000 {
         return Some(FileFault::TooManyFrames);
     }
     let blocks = block_bytes(form);
-    if told < 12 + blocks {
+    if data_size < 12 + blocks {
         return Some(FileFault::DsfCount {
             samples: form.samples,
-            size: told,
+            size: data_size,
         });
     }
     if 92 + blocks > size {

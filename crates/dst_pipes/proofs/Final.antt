@@ -9,7 +9,7 @@ use Rattle.dsdiff_spec.specs.declared.faults.FileFault.{FileFault}
 use Rattle.dsdiff_spec.specs.Lines.{decoded_line}
 use Rattle.dsdiff_spec.specs.Outcome.{done, frame_refused}
 use Rattle.dsdiff_spec.specs.Streams.{Ending, ended, stopped, cut_off, Front, stream, piped, piped_before}
-use Rattle.stream_spec.specs.Outcome.{StreamOutcome, OfStream, IsEarly, stream_refused, at_ending, told_sound}
+use Rattle.stream_spec.specs.Outcome.{StreamOutcome, OfStream, IsEarly, stream_refused, at_ending, sound_size}
 use Rattle.push_decoder.specs.Events.{Answered, nothing_answered, begun, has_stopped, due}
 use Rattle.push_decoder.specs.Told.{EndsAs}
 use Rattle.push_decoder.specs.Laws.{AreOf}
@@ -29,7 +29,7 @@ at_taken p answered begins = subst (λ w. AreOf answered (stream w)) (append-nil
 
 -- ---- done
 pub ends_done : (p rest : List ℕ) (work : Option Work) (old new : Option (List ℕ)) (room left : Option ℕ) (h : HasCome p work old new room left) →
-    (out : List ℕ) × Writes (p ++ rest) (done out (decoded_line h.front.frames (told_sound h.front) ∷ [])) old new
+    (out : List ℕ) × Writes (p ++ rest) (done out (decoded_line h.front.frames (sound_size h.front) ∷ [])) old new
 ends_done p rest work old new room left h =
     let are = at_taken p (begun h.front h.frames) h.begins in
     let over = end_is (drop (length h.frames) (stream p).frames) (stream p).ending h.due in

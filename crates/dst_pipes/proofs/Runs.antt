@@ -8,7 +8,7 @@ use Rattle.dst_streams.specs.Causes.{Rose}
 use Rattle.dst_streams.specs.Told.{after_piece, and_then, IsCutShort}
 use Rattle.dsdiff_spec.specs.Lines.{decoded_line}
 use Rattle.dsdiff_spec.specs.Outcome.{Answer, done}
-use Rattle.stream_spec.specs.Outcome.{StreamOutcome, told_sound}
+use Rattle.stream_spec.specs.Outcome.{StreamOutcome, sound_size}
 use Rattle.stream_spec.proofs.Lawful.{streams_are_lawful}
 use Rattle.push_decoder.specs.Decoder.{StandsFor}
 use Rattle.push_decoder.specs.Events.{Answered}
@@ -69,24 +69,24 @@ piece_stops (Frame k fault) taken piece later old new room left bytes s =
 
 -- ---- the end
 pub told_most : (p : List ℕ) (work : Option Work) (old new : Option (List ℕ)) (room left : Option ℕ) (h : HasCome p work old new room left) →
-    (m : Work) × (work ≡ Some m) × (m.told ≤ 1000000)
+    (m : Work) × (work ≡ Some m) × (m.frame_count ≤ 1000000)
 told_most p work old new room left h =
     let few = ((streams_are_lawful (p ++ [])).front h.front (h.begins []).0).frames in
-    let told = h.works.2.told in
-    (h.works.0, h.works.1, omega (arith, few, told))
+    let most = h.works.2.frame_count in
+    (h.works.0, h.works.1, omega (arith, few, most))
 
 pub finished : (r : Result Piped PipeFault) (p rest : List ℕ) (work : Option Work) (old mid new : Option (List ℕ)) (room left : Option ℕ)
     (h : HasCome p work old mid room left) → AreBytes (p ++ rest) →
-    new ≡ mid → ((n : ℕ) → left ≡ Some n → IsOk r) → IfErr r (λ fault. fault ≡ Write) → ((m : Work) → work ≡ Some m → IfOk r (λ s. s.frames ≡ m.told)) →
-    ((m : Work) → work ≡ Some m → IfOk r (λ s. s.bytes ≡ m.told * sound_bytes m.channels)) → PipeEnds r (p ++ rest) old new room
+    new ≡ mid → ((n : ℕ) → left ≡ Some n → IsOk r) → IfErr r (λ fault. fault ≡ Write) → ((m : Work) → work ≡ Some m → IfOk r (λ s. s.frames ≡ m.frame_count)) →
+    ((m : Work) → work ≡ Some m → IfOk r (λ s. s.bytes ≡ m.frame_count * sound_bytes m.channels)) → PipeEnds r (p ++ rest) old new room
 finished (Err fault) p rest work old mid new room left h bytes same sure write frames size =
     subst (λ f. PipeEnds (Err f) (p ++ rest) old new room) (sym write) (ends_unsettled p rest work old mid new room left h bytes same sure)
 finished (Ok s) p rest work old mid new room left h bytes same sure write frames size =
     let m = h.works.0 in
     let works = h.works.2 in
     let front = h.front in
-    let count : s.frames ≡ front.frames = frames m h.works.1 ∙ works.told in
-    let long : s.bytes ≡ told_sound front = size m h.works.1 ∙ ap₂ (λ a b. a * b) works.told (ap sound_bytes works.channels) in
+    let count : s.frames ≡ front.frames = frames m h.works.1 ∙ works.frame_count in
+    let long : s.bytes ≡ sound_size front = size m h.works.1 ∙ ap₂ (λ a b. a * b) works.frame_count (ap sound_bytes works.channels) in
     let ends = ends_done p rest work old mid room left h in (
       ends.0,
       (

@@ -25,7 +25,7 @@ use Rattle.dst_commands.specs.Writing.{Adds, Stops}
 use Rattle.dst_commands.proofs.Writing.{adds_same, adds_then, stops_same, stops_then}
 use Rattle.dst_pipes.specs.Heads.{head_of}
 use Rattle.dst_pipes.specs.States.{IsReady, WorksFor, Works, AreSounds, HasWritten, Wrote, BeginsSo, events_left}
-use Rattle.dst_pipes.specs.Steps.{FrontCame, FrameCame, FrontIsTold, HasBegun, SoundEnds, StopsBy, GoesOn}
+use Rattle.dst_pipes.specs.Steps.{FrontCame, FrameCame, IsFrontOf, HasBegun, SoundEnds, StopsBy, GoesOn}
 use Rattle.dst_pipes.specs.declared.work.Work.{Work}
 use Rattle.dst_pipes.specs.declared.faults.PipeFault.{PipeFault}
 use Rattle.dst_pipes.specs.declared.faults.PipeFault.TheVariants.{Read, Write, Memory, File, Frame}
@@ -41,19 +41,19 @@ pub of_ready : {P : List ℕ → Answered → Type 0} {d : PushDecoder} {work : 
 of_ready r step = step r.taken r.answered r.stands r.works
 
 pub told_of : {taken : List ℕ} {answered : Answered} {channels multiple frames : ℕ} {d : PushDecoder} {work : Option Work}
-    (t : FrontCame taken answered channels multiple frames d work) → FrontIsTold t.front channels multiple frames d
-told_of {taken} t = record { taken = taken; stands = t.stands; shape = t.shape; told = t.told }
+    (t : FrontCame taken answered channels multiple frames d work) → IsFrontOf t.front channels multiple frames d
+told_of {taken} t = record { taken = taken; stands = t.stands; shape = t.shape; frame_count = t.frame_count }
 
-pub lawful_told : (front : Front) (channels multiple frames : ℕ) (d : PushDecoder) → FrontIsTold front channels multiple frames d → IsLawfulFront front
+pub lawful_told : (front : Front) (channels multiple frames : ℕ) (d : PushDecoder) → IsFrontOf front channels multiple frames d → IsLawfulFront front
 lawful_told front channels multiple frames d t = (streams_are_lawful (t.taken ++ [])).front front (events_law d t.taken (begun front []) t.stands []).0
 
 -- at most 1,000,000 frames are told
-pub few_told : (front : Front) (channels multiple frames : ℕ) (d : PushDecoder) → FrontIsTold front channels multiple frames d → frames ≤ 1000000
+pub few_told : (front : Front) (channels multiple frames : ℕ) (d : PushDecoder) → IsFrontOf front channels multiple frames d → frames ≤ 1000000
 few_told front channels multiple frames d t =
     let few = (lawful_told front channels multiple frames d t).frames in
-    omega (arith, few, t.told)
+    omega (arith, few, t.frame_count)
 
-pub shape_told : (front : Front) (channels multiple frames : ℕ) (d : PushDecoder) → FrontIsTold front channels multiple frames d →
+pub shape_told : (front : Front) (channels multiple frames : ℕ) (d : PushDecoder) → IsFrontOf front channels multiple frames d →
     IsShape (shape_of channels multiple)
 shape_told front channels multiple frames d t =
     subst IsShape (sym t.shape) (prop_has_a_shape 0 front.prop (lawful_told front channels multiple frames d t).rules)
@@ -142,7 +142,7 @@ sound_works (Ok tail) taken answered d work later t here new half left ends = (
     channels = t.works.channels;
     scratch = t.works.scratch;
     sound = t.works.sound;
-    told = t.works.told;
+    frame_count = t.works.frame_count;
     decoded = (let count = t.works.decoded in omega (arith, count, length-append t.frames (t.frame ∷ [])));
   },
 )
@@ -176,11 +176,11 @@ sound_left (Ok tail) taken answered d first work later t here new half left work
     let m = t.work_is in
     let before = subst (λ a. Works a first) t.behind works in
     let room = t.room in
-    let now : events_left later ≡ m.told - (m.decoded + 1) = ap events_left ends.0 in
-    let then : events_left first ≡ before.0.told - before.0.decoded = ap events_left before.1 in
-    let a = t.works.told in
+    let now : events_left later ≡ m.frame_count - (m.decoded + 1) = ap events_left ends.0 in
+    let then : events_left first ≡ before.0.frame_count - before.0.decoded = ap events_left before.1 in
+    let a = t.works.frame_count in
     let b = t.works.decoded in
-    let c = before.2.told in
+    let c = before.2.frame_count in
     let e = before.2.decoded in
     omega (arith, room, now, then, a, b, c, e)
 

@@ -13,7 +13,7 @@ use Rattle.dsdiff_spec.specs.Written.{chunk, form_of, prop_with, cmpr_plain}
 use Rattle.dsdiff_spec.specs.Streams.{Front, shape_in, piped, place_of_piped_sound}
 use Rattle.dsdiff_spec.proofs.Pieces.{AreWhole, length-sounds, zeros_are_whole}
 use Rattle.dsdiff_spec.proofs.MadeLengths.{sound_chunk}
-use Rattle.stream_spec.specs.Outcome.{told_sound}
+use Rattle.stream_spec.specs.Outcome.{sound_size}
 use Rattle.dst_pipes.specs.Heads.{version_bytes, opening_bytes, plain_size, head_of}
 
 -- ---- sizes
@@ -28,7 +28,7 @@ shared zero m n = omega arith
 shared (suc k) m n = (let later = shared k m n in omega (arith, later))
 
 pub length-body : (front : Front) (sounds : List (List ℕ)) → AreWhole (size_of front) sounds → length sounds ≤ front.frames →
-    length (concat sounds ++ zeros front (length sounds)) ≡ told_sound front
+    length (concat sounds ++ zeros front (length sounds)) ≡ sound_size front
 length-body front sounds whole le =
     let k = length sounds in
     let m = front.frames - k in
@@ -44,7 +44,7 @@ length-body front sounds whole le =
 even_parts : (a b c : ℕ) → a * (4704 * b * c) ≡ 2 * (a * (2352 * b * c))
 even_parts a b c = grind arith
 
-even : (front : Front) → told_sound front % 2 ≡ 0
+even : (front : Front) → sound_size front % 2 ≡ 0
 even front =
     ap (λ n. n % 2) (even_parts front.frames (multiple front.prop) (channel_count front.prop)) ∙ mul-mod_right 2 _
 
@@ -72,7 +72,7 @@ pub piped_is : (front : Front) (sounds : List (List ℕ)) → length front.versi
     piped front sounds ≡ head_of front ++ (concat sounds ++ zeros front (length sounds))
 piped_is front sounds four whole le =
     let body = concat sounds ++ zeros front (length sounds) in
-    let n = told_sound front in
+    let n = sound_size front in
     let v = version_bytes front.version in
     let p = prop_with front.prop cmpr_plain in
     let d = codes "DSD " ++ big_bytes 8 n ++ body in
@@ -91,7 +91,7 @@ pub length-head : (front : Front) → length front.version ≡ 4 → length (hea
 length-head front four =
     let v = version_bytes front.version in
     let p = prop_with front.prop cmpr_plain in
-    let n = told_sound front in
+    let n = sound_size front in
     let o = opening_bytes (plain_size front.prop n) in
     let d = codes "DSD " ++ big_bytes 8 n in
     omega (

@@ -3,7 +3,7 @@ use Rattle.std.specs.Prelude.{ℕ, ◌+◌, List, ◌++◌, length, codes}
 use Rattle.byteorder.specs.Endian.{big_bytes}
 use Rattle.dsdiff_spec.specs.Written.{prop_with, cmpr_plain}
 use Rattle.dsdiff_spec.specs.Streams.{Front}
-use Rattle.stream_spec.specs.Outcome.{told_sound}
+use Rattle.stream_spec.specs.Outcome.{sound_size}
 
 abbrev pub version_bytes : List ℕ → List ℕ
 version_bytes version = codes "FVER" ++ big_bytes 8 4 ++ version
@@ -20,4 +20,4 @@ head_with version prop sound =
     opening_bytes (plain_size prop sound) ++ version_bytes version ++ prop_with prop cmpr_plain ++ (codes "DSD " ++ big_bytes 8 sound)
 
 abbrev pub head_of : Front → List ℕ
-head_of front = head_with front.version front.prop (told_sound front)
+head_of front = head_with front.version front.prop (sound_size front)

@@ -19,7 +19,7 @@ pub record WorksFor (front : Front) (count : ℕ) (m : Work) : Type 0 where
   pub channels : m.channels ≡ shape_in front.prop
   pub scratch : m.scratch.channels ≡ shape_in front.prop
   pub sound : length m.sound.items ≡ sound_bytes (shape_in front.prop)
-  pub told : m.told ≡ front.frames
+  pub frame_count : m.frame_count ≡ front.frames
   pub decoded : m.decoded ≡ count
 
 abbrev pub Works : Answered → Option Work → Type 0
@@ -36,7 +36,7 @@ pub record IsReady (d : PushDecoder) (work : Option Work) : Type 0 where
 -- at most so many events are still to come
 abbrev pub events_left : Option Work → ℕ
 events_left None = 1000002
-events_left (Some m) = m.told - m.decoded
+events_left (Some m) = m.frame_count - m.decoded
 
 -- ---- what is written: nothing, or the head and the sounds of all frames that came, none of which offends
 pub record AreSounds (front : Front) (frames sounds : List (List ℕ)) : Type 0 where

@@ -33,7 +33,7 @@ pub record FrontCame (taken : List ℕ) (answered : Answered) (channels multiple
   pub front : Front
   pub nothing : answered ≡ nothing_answered
   pub shape : shape_of channels multiple ≡ shape_in front.prop
-  pub told : frames ≡ front.frames
+  pub frame_count : frames ≡ front.frames
   pub stands : StandsFor d taken (begun front [])
   pub none : work ≡ None
 
@@ -69,11 +69,11 @@ Took (Err fault) piece taken answered d work = (n : ℕ) × (due (taken ++ take 
 
 -- ---- what an event asks for
 -- the head of the stream, as the decoder tells it
-pub record FrontIsTold (front : Front) (channels multiple frames : ℕ) (d : PushDecoder) : Type 0 where
+pub record IsFrontOf (front : Front) (channels multiple frames : ℕ) (d : PushDecoder) : Type 0 where
   pub taken : List ℕ
   pub stands : StandsFor d taken (begun front [])
   pub shape : shape_of channels multiple ≡ shape_in front.prop
-  pub told : frames ≡ front.frames
+  pub frame_count : frames ≡ front.frames
 
 -- the head of the plain file is written
 abbrev pub HasBegun : Result Work PipeFault → Front → (old new : Option (List ℕ)) → (room left : Option ℕ) → Type 0

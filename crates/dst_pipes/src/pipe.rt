@@ -123,21 +123,21 @@ fn cut_fault(decoder: &mut PushDecoder) -> FileFault
 
 // Settles the plain file, of which all sound is written.
 fn finish<K: Sink>(work: &Option<Work>, sink: &mut K) -> Result<Piped, PipeFault>
-    requires whole { (m : Work) × (work.now ≡ Some m) × (m.told ≤ 1000000) }
+    requires whole { (m : Work) × (work.now ≡ Some m) × (m.frame_count ≤ 1000000) }
     ensures later { K.faults sink.old ≤ K.faults sink.new }
     ensures cause { IfErr result (λ fault. (fault ≡ PipeFault.Write) × Rose (K.faults sink.old) (K.faults sink.new)) }
     ensures settled { IfOk result (λ _. K.settled sink.new ≡ true) }
     ensures written { K.written sink.new ≡ K.written sink.old }
     ensures sure { (n : ℕ) → K.room sink.old ≡ Some n → IsOk result }
-    ensures frames { (m : Work) → work.now ≡ Some m → IfOk result (λ s. s.frames ≡ m.told) }
-    ensures bytes { (m : Work) → work.now ≡ Some m → IfOk result (λ s. s.bytes ≡ m.told * sound_bytes m.channels) }
+    ensures frames { (m : Work) → work.now ≡ Some m → IfOk result (λ s. s.frames ≡ m.frame_count) }
+    ensures bytes { (m : Work) → work.now ≡ Some m → IfOk result (λ s. s.bytes ≡ m.frame_count * sound_bytes m.channels) }
 {
     let Some(work) = work else { unreachable!() };
     let Ok(()) = sink.finish() else {
         return Err(PipeFault::Write);
     };
     Ok(Piped {
-        frames: work.told,
-        bytes: u64::from(work.told) * work.channels.sound_bytes() as u64,
+        frames: work.frame_count,
+        bytes: u64::from(work.frame_count) * work.channels.sound_bytes() as u64,
     })
 }

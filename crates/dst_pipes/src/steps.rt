@@ -6,7 +6,7 @@ ghost use Rattle.push_decoder.specs.Decoder.{StandsFor};
 ghost use Rattle.push_decoder.specs.Events.{Answered};
 ghost use Rattle.dst_pipes.specs.States.{IsReady, Works, Wrote, events_left};
 ghost use Rattle.dsdiff_spec.specs.Streams.{Front, stream};
-ghost use Rattle.dst_pipes.specs.Steps.{Took, StepEnds, FrontIsTold, HasBegun, SoundEnds};
+ghost use Rattle.dst_pipes.specs.Steps.{Took, StepEnds, IsFrontOf, HasBegun, SoundEnds};
 ghost use Rattle.dst_pipes.specs.declared.work.Work.{Work};
 ghost use Rattle.dst_pipes.specs.declared.steps.Next.{Next};
 ghost use Rattle.dst_pipes.specs.declared.faults.PipeFault.{PipeFault};
@@ -130,17 +130,17 @@ pub(crate) fn decode_step<K: Sink>(
 fn begin<K: Sink>(
     alloc: Global,
     decoder: &PushDecoder,
-    told: (u32, u32, u32),
+    head: (u32, u32, u32),
     sink: &mut K,
 ) -> Result<Work, PipeFault>
-    requires head { (front : Front) × FrontIsTold front told.0 told.1 told.2 decoder.now }
+    requires head { (front : Front) × IsFrontOf front head.0 head.1 head.2 decoder.now }
     ensures later { K.faults sink.old ≤ K.faults sink.new }
     ensures write { result ≡ Err PipeFault.Write → Rose (K.faults sink.old) (K.faults sink.new) }
     ensures memory { (refused : AllocError) → result ≡ Err (PipeFault.Memory refused) → sink.new ≡ sink.old }
-    ensures fewer { IfOk result (λ m. m.told - m.decoded < 1000002) }
-    ensures begun { (front : Front) → FrontIsTold front told.0 told.1 told.2 decoder.now → HasBegun result front (K.written sink.old) (K.written sink.new) (K.room sink.old) (K.room sink.new) }
+    ensures fewer { IfOk result (λ m. m.frame_count - m.decoded < 1000002) }
+    ensures begun { (front : Front) → IsFrontOf front head.0 head.1 head.2 decoder.now → HasBegun result front (K.written sink.old) (K.written sink.new) (K.room sink.old) (K.room sink.new) }
 {
-    let (channels, multiple, frames) = told;
+    let (channels, multiple, frames) = head;
     let Some(channels) = Channels::at(channels, multiple) else {
         unreachable!()
     };

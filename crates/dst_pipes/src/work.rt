@@ -10,7 +10,7 @@ use std::alloc::{AllocError, Global};
 #[derive(Drop)]
 pub(crate) struct Work {
     pub(crate) channels: Channels,
-    pub(crate) told: u32,
+    pub(crate) frame_count: u32,
     pub(crate) decoded: u32,
     pub(crate) scratch: Scratch,
     pub(crate) sound: Vec<u8>,
@@ -18,16 +18,20 @@ pub(crate) struct Work {
 
 impl Work {
     /// Takes all memory that decoding the frames needs.
-    pub(crate) fn new(alloc: Global, channels: Channels, told: u32) -> Result<Work, AllocError>
+    pub(crate) fn new(
+        alloc: Global,
+        channels: Channels,
+        frame_count: u32,
+    ) -> Result<Work, AllocError>
         ensures channels { IfOk result (λ m. m.channels ≡ channels) }
-        ensures told { IfOk result (λ m. m.told ≡ told) }
+        ensures frame_count { IfOk result (λ m. m.frame_count ≡ frame_count) }
         ensures decoded { IfOk result (λ m. m.decoded ≡ 0) }
         ensures scratch { IfOk result (λ m. m.scratch.channels ≡ channels) }
         ensures sound { IfOk result (λ m. length m.sound.items ≡ sound_bytes channels) }
     {
         Ok(Work {
             channels,
-            told,
+            frame_count,
             decoded: 0,
             scratch: Scratch::new(alloc, channels)?,
             sound: vec![in alloc; 0; channels.sound_bytes()]?,

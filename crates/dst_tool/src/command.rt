@@ -170,7 +170,7 @@ fn tell<R: Sink>(report: &mut R, command: Command, answer: Result<Numbers, Fault
     match answer {
         Ok(done) => report_line(report, 0, done_line(command, done)),
         Err(fault) => {
-            let (status, line) = told(fault);
+            let (status, line) = status_and_line(fault);
             report_line(report, status, line)
         }
     }
@@ -197,7 +197,7 @@ fn tell_fault<R: Sink>(report: &mut R, answer: Result<Numbers, Fault>) -> u8
         Ok(_) => 0,
         Err(Fault::Report) => 7,
         Err(fault) => {
-            let (status, line) = told(fault);
+            let (status, line) = status_and_line(fault);
             report_line(report, status, line)
         }
     }
@@ -227,7 +227,7 @@ fn done_line(command: Command, done: Numbers) -> lines::Line
 }
 
 // The status and the line of a fault.
-fn told(fault: Fault) -> (u8, lines::Line)
+fn status_and_line(fault: Fault) -> (u8, lines::Line)
     requires { fault ≡ Fault.Report → ⊥ }
     ensures status { result.0 ≡ status_of (Err fault) }
     ensures below { result.0 < 7 }

@@ -85,12 +85,12 @@ pub fn dst_pipe<F: Flow, K: Sink, R: Sink>(
         return report_line(report, 1, lines::words_not_understood());
     }
     let answer = decode_pipe(alloc, flow, sink);
-    let (status, line) = told(answer);
+    let (status, line) = status_and_line(answer);
     report_line(report, status, line)
 }
 
 // The status and the line of an answer.
-fn told(answer: Result<Piped, PipeFault>) -> (u8, lines::Line)
+fn status_and_line(answer: Result<Piped, PipeFault>) -> (u8, lines::Line)
     ensures status { result.0 ≡ status_of answer }
     ensures line { result.1.bytes ≡ reports.report (line_of answer ∷ []) }
 {

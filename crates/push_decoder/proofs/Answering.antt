@@ -40,7 +40,7 @@ whole taken s goes = ap stream (sym (append-nil taken)) ∙ goes [] ∙ ap s (ap
 
 -- ---- the front
 abbrev pub front_with : SoundSoFar → List ℕ → List ℕ → Front
-front_with sound version prop = record { version = version; prop = prop; frames = sound.told }
+front_with sound version prop = record { version = version; prop = prop; frames = sound.frame_count }
 
 opened_goes : (sound : SoundSoFar) (place n : ℕ) (part frame prop : Gathered) (version taken : List ℕ) (answered : Answered) →
     HasRead (reading (Opened sound place) n part frame version prop) taken answered → (more : List ℕ) →

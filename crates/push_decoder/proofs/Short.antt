@@ -43,9 +43,9 @@ still_short (FrameCount form head) version prop w lawful lacking lt = falls_shor
 still_short (Opened sound place) version prop w lawful lacking lt = absurd cc
 still_short (SoundHead sound place) version prop w lawful lacking lt =
     let more : 4000000 - sound.chunks ≡ suc (3999999 - sound.chunks) = omega (arith, lawful.1) in
-    ap (λ n. frames_from w sound.channels sound.told sound.end n sound.found place) more
-    ∙ sound_ends_at_head w sound.channels sound.told sound.end (3999999 - sound.chunks) sound.found place (cut_off (Overrun place)) (omega (arith, lawful.2))
-    (head_is_cut w sound.end place (frame_head_fault sound.channels sound.told sound.end sound.found (head_at w place)) lawful.2 lt)
+    ap (λ n. frames_from w sound.channels sound.frame_count sound.end n sound.found place) more
+    ∙ sound_ends_at_head w sound.channels sound.frame_count sound.end (3999999 - sound.chunks) sound.found place (cut_off (Overrun place)) (omega (arith, lawful.2))
+    (head_is_cut w sound.end place (frame_head_fault sound.channels sound.frame_count sound.end sound.found (head_at w place)) lawful.2 lt)
 still_short (FrameBody sound head) version prop w lawful lacking lt = falls_short w head.place (head.place + 12 + head.size) _ lt
 still_short (SoundRest sound place end) version prop w lawful lacking lt = falls_short w place end _ lt
 still_short (FrameWhole sound head) version prop w lawful lacking lt = absurd cc

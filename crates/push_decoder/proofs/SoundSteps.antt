@@ -21,68 +21,68 @@ use Rattle.push_decoder.specs.Stages.{sound_from, sound_chunk_from}
 use Rattle.push_decoder.proofs.FormSteps.{past}
 
 pub counted_at : (w : List ℕ) (sound : SoundSoFar) (place : ℕ) → sound.end ≤ place →
-    sound_from sound place w ≡ nothing_but (counted sound.told sound.found)
-counted_at w sound place le = sound_ends w sound.channels sound.told sound.end (4000000 - sound.chunks) sound.found place le
+    sound_from sound place w ≡ nothing_but (counted sound.frame_count sound.found)
+counted_at w sound place le = sound_ends w sound.channels sound.frame_count sound.end (4000000 - sound.chunks) sound.found place le
 
 pub too_many_at : (w : List ℕ) (sound : SoundSoFar) (place : ℕ) → place < sound.end → sound.chunks ≡ 4000000 →
     sound_from sound place w ≡ nothing_but (stopped TooManyChunks)
 too_many_at w sound place lt e =
     let none : 4000000 - sound.chunks ≡ zero = omega (arith, e) in
-    ap (λ n. frames_from w sound.channels sound.told sound.end n sound.found place) none
-    ∙ sound_has_no_more w sound.channels sound.told sound.end sound.found place lt
+    ap (λ n. frames_from w sound.channels sound.frame_count sound.end n sound.found place) none
+    ∙ sound_has_no_more w sound.channels sound.frame_count sound.end sound.found place lt
 
 -- one chunk is asked for
 opened : (w : List ℕ) (sound : SoundSoFar) (place : ℕ) → sound.chunks < 4000000 →
-    sound_from sound place w ≡ frames_from w sound.channels sound.told sound.end (suc (3999999 - sound.chunks)) sound.found place
+    sound_from sound place w ≡ frames_from w sound.channels sound.frame_count sound.end (suc (3999999 - sound.chunks)) sound.found place
 opened w sound place few =
     let more : 4000000 - sound.chunks ≡ suc (3999999 - sound.chunks) = omega (arith, few) in
-    ap (λ n. frames_from w sound.channels sound.told sound.end n sound.found place) more
+    ap (λ n. frames_from w sound.channels sound.frame_count sound.end n sound.found place) more
 
 pub overruns_at : (w : List ℕ) (sound : SoundSoFar) (place : ℕ) → place < sound.end → sound.end < place + 12 → sound.chunks < 4000000 →
     sound_from sound place w ≡ nothing_but (stopped (Overrun place))
 overruns_at w sound place lt short few =
     opened w sound place few
-    ∙ sound_ends_at_head w sound.channels sound.told sound.end (3999999 - sound.chunks) sound.found place (stopped (Overrun place)) lt
+    ∙ sound_ends_at_head w sound.channels sound.frame_count sound.end (3999999 - sound.chunks) sound.found place (stopped (Overrun place)) lt
     (head_passes w sound.end place _ short)
 
 -- ---- behind a chunk's head
 rules_on : SoundSoFar → Head → Option FileFault
-rules_on sound h = frame_head_fault sound.channels sound.told sound.end sound.found h
+rules_on sound h = frame_head_fault sound.channels sound.frame_count sound.end sound.found h
 
 head_asked : (w : List ℕ) (sound : SoundSoFar) (place : ℕ) (h : Head) (fault : Option FileFault) → head_at w place ≡ h → place + 12 ≤ sound.end →
-    place + 12 ≤ length w → frame_head_fault sound.channels sound.told sound.end sound.found h ≡ fault →
-    ending_at_head w sound.end place (frame_head_fault sound.channels sound.told sound.end sound.found (head_at w place)) ≡ option_map stopped fault
+    place + 12 ≤ length w → frame_head_fault sound.channels sound.frame_count sound.end sound.found h ≡ fault →
+    ending_at_head w sound.end place (frame_head_fault sound.channels sound.frame_count sound.end sound.found (head_at w place)) ≡ option_map stopped fault
 unfolding rules_on
 head_asked w sound place h fault e le there is_fault =
     head_is_whole w sound.end place (rules_on sound (head_at w place)) le there
     ∙ ap (option_map stopped) (ap (rules_on sound) e ∙ is_fault)
 
 pub refused_at : (w : List ℕ) (sound : SoundSoFar) (place : ℕ) (h : Head) (fault : FileFault) → sound.chunks < 4000000 → head_at w place ≡ h →
-    place + 12 ≤ sound.end → place + 12 ≤ length w → frame_head_fault sound.channels sound.told sound.end sound.found h ≡ Some fault →
+    place + 12 ≤ sound.end → place + 12 ≤ length w → frame_head_fault sound.channels sound.frame_count sound.end sound.found h ≡ Some fault →
     sound_from sound place w ≡ nothing_but (stopped fault)
 refused_at w sound place h fault few e le there is_fault =
     opened w sound place few
-    ∙ sound_ends_at_head w sound.channels sound.told sound.end (3999999 - sound.chunks) sound.found place (stopped fault) (omega (arith, le))
+    ∙ sound_ends_at_head w sound.channels sound.frame_count sound.end (3999999 - sound.chunks) sound.found place (stopped fault) (omega (arith, le))
     (head_asked w sound place h (Some fault) e le there is_fault)
 
 pub chunk_is_at : (w : List ℕ) (sound : SoundSoFar) (place : ℕ) (h : Head) → sound.chunks < 4000000 → head_at w place ≡ h →
-    place + 12 ≤ sound.end → place + 12 ≤ length w → frame_head_fault sound.channels sound.told sound.end sound.found h ≡ None →
+    place + 12 ≤ sound.end → place + 12 ≤ length w → frame_head_fault sound.channels sound.frame_count sound.end sound.found h ≡ None →
     sound_from sound place w ≡ sound_chunk_from sound h w
 chunk_is_at w sound place h few e le there no_fault =
     opened w sound place few
-    ∙ sound_has_chunk w sound.channels sound.told sound.end (3999999 - sound.chunks) sound.found place (omega (arith, le))
+    ∙ sound_has_chunk w sound.channels sound.frame_count sound.end (3999999 - sound.chunks) sound.found place (omega (arith, le))
     (head_asked w sound place h None e le there no_fault)
     ∙ ap (λ i. sound_chunk_from sound i w) e
 
 -- ---- behind its body
-next_is : (w : List ℕ) (f : Shape) (told end most found place : ℕ) →
-    frames_from w f told end most found place ≡ frames_from w f told end most found (min place end)
-next_is w f told end most found place = elim (cases_order place end) [
-  | inl same ↦ (let e : place ≡ min place end = omega (arith, same) in ap (frames_from w f told end most found) e)
-  | inr (inl lt) ↦ (let e : place ≡ min place end = omega (arith, lt) in ap (frames_from w f told end most found) e)
+next_is : (w : List ℕ) (f : Shape) (count end most found place : ℕ) →
+    frames_from w f count end most found place ≡ frames_from w f count end most found (min place end)
+next_is w f count end most found place = elim (cases_order place end) [
+  | inl same ↦ (let e : place ≡ min place end = omega (arith, same) in ap (frames_from w f count end most found) e)
+  | inr (inl lt) ↦ (let e : place ≡ min place end = omega (arith, lt) in ap (frames_from w f count end most found) e)
   | inr (inr lt) ↦ (
       let e : end ≤ min place end = omega (arith, lt) in
-      sound_ends w f told end most found place (omega (arith, lt)) ∙ sym (sound_ends w f told end most found (min place end) e)
+      sound_ends w f count end most found place (omega (arith, lt)) ∙ sym (sound_ends w f count end most found (min place end) e)
       )
 ]
 
@@ -94,15 +94,15 @@ behind sound found h w = up_to w h.place (whole_end sound.end h) (sound_from (on
 
 from_behind : (w : List ℕ) (sound : SoundSoFar) (found : ℕ) (h : Head) → sound.chunks < 4000000 → found_with h sound.found ≡ found →
     up_to w h.place (whole_end sound.end h)
-    (frames_from w sound.channels sound.told sound.end (3999999 - sound.chunks) (found_with h sound.found) (next_place h))
+    (frames_from w sound.channels sound.frame_count sound.end (3999999 - sound.chunks) (found_with h sound.found) (next_place h))
     ≡ behind sound found h w
 from_behind w sound found h few e =
     let most : 3999999 - sound.chunks ≡ 4000000 - (sound.chunks + 1) = omega (arith, few) in
     ap (λ n. up_to w h.place (whole_end sound.end h)
-    (frames_from w sound.channels sound.told sound.end (3999999 - sound.chunks) n (next_place h))) e
-    ∙ ap (λ n. up_to w h.place (whole_end sound.end h) (frames_from w sound.channels sound.told sound.end n found (next_place h))) most
+    (frames_from w sound.channels sound.frame_count sound.end (3999999 - sound.chunks) n (next_place h))) e
+    ∙ ap (λ n. up_to w h.place (whole_end sound.end h) (frames_from w sound.channels sound.frame_count sound.end n found (next_place h))) most
     ∙ ap (up_to w h.place (whole_end sound.end h))
-    (next_is w sound.channels sound.told sound.end (4000000 - (sound.chunks + 1)) found (next_place h))
+    (next_is w sound.channels sound.frame_count sound.end (4000000 - (sound.chunks + 1)) found (next_place h))
 
 framed : (b : Bool) → b ≡ true → (frame : List ℕ) (later : Stream) → (if b then with_frame frame later else later) ≡ with_frame frame later
 framed b e frame later = ap (λ c. if c then with_frame frame later else later) e
@@ -122,9 +122,9 @@ frame_is_taken w sound h few d there =
     ∙ ap (with_frame (body_of w h)) (from_behind w sound (sound.found + 1) h few (ap (λ b. if b then (sound.found + 1) else sound.found) d))
 
 -- ---- `FRTE`
-by_size : (short a b : Bool) (told : ℕ) → short ≡ false →
-    (FrameRate when short || a || b otherwise TooManyFrames when told above 1000000) ≡ (FrameRate when a || b otherwise TooManyFrames when told above 1000000)
-by_size short a b told e = rw e refl
+by_size : (short a b : Bool) (count : ℕ) → short ≡ false →
+    (FrameRate when short || a || b otherwise TooManyFrames when count above 1000000) ≡ (FrameRate when a || b otherwise TooManyFrames when count above 1000000)
+by_size short a b count e = rw e refl
 
 same_rules : (w frte : List ℕ) (h : Head) → 18 ≤ h.size → frte ≡ bytes_at w (body_place h) 18 → frte_fault_at w (body_place h) ≡ frte_fault frte
 same_rules w frte h le at =
@@ -133,11 +133,11 @@ same_rules w frte h le at =
     ∙ frte_in_part w frte h le at
 
 front_with : Option (List ℕ) → Option (List ℕ) → ℕ → Front
-front_with version prop told = record { version = unwrap_or version []; prop = unwrap_or prop []; frames = told }
+front_with version prop count = record { version = unwrap_or version []; prop = unwrap_or prop []; frames = count }
 
 opened_with : List ℕ → ℕ → ℕ → Option (List ℕ) → Option (List ℕ) → ℕ → Stream
-opened_with w end place version prop told =
-    with_front (front_with version prop told) (frames_from w (shape_in (unwrap_or prop [])) told end 4000000 0 place)
+opened_with w end place version prop count =
+    with_front (front_with version prop count) (frames_from w (shape_in (unwrap_or prop [])) count end 4000000 0 place)
 
 pub frte_is_refused : (w frte : List ℕ) (came : Came) (h : Head) (fault : FileFault) → 18 ≤ h.size → bytes_at w (body_place h) 18 ≡ frte →
     body_place h + 18 ≤ length w → frte_fault frte ≡ Some fault → in_sound w came h ≡ nothing_but (stopped fault)
@@ -147,18 +147,18 @@ frte_is_refused w frte came h fault le at there is_fault =
     ∙ ap (λ x. kept x (opened_with w (body_end h) (body_place h + 18) came.version came.prop (number_at w (body_place h + 12) 4)))
     (same_rules w frte h le (sym at) ∙ is_fault)
 
-pub frte_is_taken : (w frte : List ℕ) (came : Came) (version prop : List ℕ) (h : Head) (told : ℕ) (f : Shape) → 18 ≤ h.size →
+pub frte_is_taken : (w frte : List ℕ) (came : Came) (version prop : List ℕ) (h : Head) (count : ℕ) (f : Shape) → 18 ≤ h.size →
     bytes_at w (body_place h) 18 ≡ frte →
-    body_place h + 18 ≤ length w → frte_fault frte ≡ None → told ≡ number_at frte 12 4 → came.version ≡ Some version → came.prop ≡ Some prop →
+    body_place h + 18 ≤ length w → frte_fault frte ≡ None → count ≡ number_at frte 12 4 → came.version ≡ Some version → came.prop ≡ Some prop →
     f ≡ shape_in prop →
     in_sound w came h
-    ≡ with_front (record { version = version; prop = prop; frames = told }) (frames_from w f told (body_end h) 4000000 0 (body_place h + 18))
+    ≡ with_front (record { version = version; prop = prop; frames = count }) (frames_from w f count (body_end h) 4000000 0 (body_place h + 18))
 unfolding opened_with front_with
-frte_is_taken w frte came version prop h told f le at there no_fault is_told v p is_shape =
+frte_is_taken w frte came version prop h count f le at there no_fault is_told v p is_shape =
     reaches w (body_place h) (body_place h + 18) _ there
     ∙ ap (λ x. kept x (opened_with w (body_end h) (body_place h + 18) came.version came.prop (number_at w (body_place h + 12) 4)))
     (same_rules w frte h le (sym at) ∙ no_fault)
     ∙ ap (opened_with w (body_end h) (body_place h + 18) came.version came.prop) (sym (is_told ∙ told_in_part w frte (body_place h) (sym at)))
-    ∙ ap (λ x. opened_with w (body_end h) (body_place h + 18) x came.prop told) v
-    ∙ ap (λ x. opened_with w (body_end h) (body_place h + 18) (Some version) x told) p
-    ∙ ap (λ x. with_front (front_with (Some version) (Some prop) told) (frames_from w x told (body_end h) 4000000 0 (body_place h + 18))) (sym is_shape)
+    ∙ ap (λ x. opened_with w (body_end h) (body_place h + 18) x came.prop count) v
+    ∙ ap (λ x. opened_with w (body_end h) (body_place h + 18) (Some version) x count) p
+    ∙ ap (λ x. with_front (front_with (Some version) (Some prop) count) (frames_from w x count (body_end h) 4000000 0 (body_place h + 18))) (sym is_shape)

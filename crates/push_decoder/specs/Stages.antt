@@ -36,7 +36,7 @@ abbrev pub form_from : List ℕ → List ℕ → FormSoFar → ℕ → List ℕ 
 form_from version prop form place w = in_form w form.end (1024 - form.chunks) (came_of form version prop) place
 
 abbrev pub sound_from : SoundSoFar → ℕ → List ℕ → Stream
-sound_from sound place w = frames_from w sound.channels sound.told sound.end (4000000 - sound.chunks) sound.found place
+sound_from sound place w = frames_from w sound.channels sound.frame_count sound.end (4000000 - sound.chunks) sound.found place
 
 -- from a chunk's body on
 abbrev pub form_chunk_from : List ℕ → List ℕ → FormSoFar → Head → List ℕ → Stream
@@ -47,7 +47,7 @@ form_chunk_from version prop form h w =
 abbrev pub sound_chunk_from : SoundSoFar → Head → List ℕ → Stream
 sound_chunk_from sound h w =
     in_sound_chunk w sound.end h
-    (frames_from w sound.channels sound.told sound.end (3999999 - sound.chunks) (found_with h sound.found) (next_place h))
+    (frames_from w sound.channels sound.frame_count sound.end (3999999 - sound.chunks) (found_with h sound.found) (next_place h))
 
 -- The part of a stream that a stage and what follows it make, where these are the bodies of `FVER` and `PROP` that came.
 abbrev pub still_to_come : List ℕ → List ℕ → Stage → List ℕ → Stream
@@ -57,7 +57,7 @@ still_to_come version prop (FormBody form head) w = form_chunk_from version prop
 still_to_come version prop (FormRest form place end) w = up_to w place end (form_from version prop form end w)
 still_to_come version prop (FrameCount form head) w = in_sound w (came_of form version prop) (head_seen head)
 still_to_come version prop (Opened sound place) w =
-    with_front (record { version = version; prop = prop; frames = sound.told }) (sound_from sound place w)
+    with_front (record { version = version; prop = prop; frames = sound.frame_count }) (sound_from sound place w)
 still_to_come version prop (SoundHead sound place) w = sound_from sound place w
 still_to_come version prop (FrameBody sound head) w = sound_chunk_from sound (head_seen head) w
 still_to_come version prop (SoundRest sound place end) w = up_to w place end (sound_from sound end w)
@@ -67,10 +67,10 @@ still_to_come version prop (Refused fault) w = nothing_but (stopped fault)
 
 -- the rules on the head of a frame behind so many others, beside its end
 abbrev pub frame_rules : Shape → ℕ → ℕ → Head → Option FileFault
-frame_rules f told found h =
+frame_rules f count found h =
     FrameTooLong found h.size when h.size above 2 * (sound_bytes f + 1)
     otherwise TooManyFrames when found above 999999
-    otherwise CountDiffers told (told + 1) when found == told
+    otherwise CountDiffers count (count + 1) when found == count
 
 -- ---- from where and up to where a stage reads, where it reads anything
 abbrev pub part_start : Stage → ℕ
@@ -158,8 +158,8 @@ pub record IsInForm (form : FormSoFar) : Type 0 where
 pub record IsInSound (sound : SoundSoFar) : Type 0 where
   pub near : sound.end ≤ 2 ^ 50 + 12
   pub few : sound.chunks ≤ 4000000
-  pub some : sound.found ≤ sound.told
-  pub most : sound.told ≤ 1000000
+  pub some : sound.found ≤ sound.frame_count
+  pub most : sound.frame_count ≤ 1000000
 
 abbrev pub IsLawful : Stage → Type 0
 IsLawful Start = Unit {0}
@@ -174,11 +174,11 @@ IsLawful (Opened sound place) = IsInSound sound × (place ≤ sound.end)
 IsLawful (SoundHead sound place) = IsInSound sound × (sound.chunks < 4000000) × (place + 12 ≤ sound.end)
 IsLawful (FrameBody sound head) =
     IsInSound sound × (sound.chunks < 4000000) × (head.place + 12 + head.size ≤ sound.end) × (head.size ≤ 225794)
-    × (sound.found < sound.told) × ((head_seen head).id is "DSTF" ≡ true)
+    × (sound.found < sound.frame_count) × ((head_seen head).id is "DSTF" ≡ true)
 IsLawful (SoundRest sound place end) = IsInSound sound × (place ≤ end) × (end ≤ sound.end)
 IsLawful (FrameWhole sound head) =
     IsInSound sound × (sound.chunks < 4000000) × (head.place + 12 + head.size ≤ sound.end) × (head.size ≤ 225794)
-    × (sound.found < sound.told) × ((head_seen head).id is "DSTF" ≡ true)
+    × (sound.found < sound.frame_count) × ((head_seen head).id is "DSTF" ≡ true)
 IsLawful Ended = Unit {0}
 IsLawful (Refused fault) = Unit {0}
 

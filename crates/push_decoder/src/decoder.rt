@@ -33,7 +33,7 @@ impl PushDecoder {
     ///
     /// A fault is the first that the bytes decide, by the rules of a stream: of the head of the form once its sixteen bytes came, of a chunk
     /// once its twelve bytes of head or its body came, at the end of a part at once. `Overrun` tells the place of a chunk that passes the end
-    /// of what it stands in. What a fault means is told at `FileFault`.
+    /// of what it stands in. What a fault means stands at `FileFault`.
     pub fn take<'a>(&'a mut self, piece: &'a [u8]) -> Result<(usize, Step<'a>), FileFault>
         ensures* after { sem 𝓛 (Ends self.entry (λ d. (taken : List ℕ) (answered : Answered) → StandsFor self.old taken answered → ReadAfter result piece.now taken answered d.reader)) }
         ensures within { IfOk result (λ r. r.0 ≤ length piece.now) }
@@ -43,7 +43,7 @@ impl PushDecoder {
             Ok(taken) => taken,
             Err(fault) => return Err(fault),
         };
-        Ok((count, told(answer, count, piece, self.reader.frame())))
+        Ok((count, step_of(answer, count, piece, self.reader.frame())))
     }
 
     /// The body of `PROP`, behind `Head`.
@@ -80,7 +80,7 @@ impl PushDecoder {
 }
 
 // The step that an answer tells, of a piece of which so many bytes were taken, and of the frame that was gathered last.
-fn told<'a>(answer: Answer, count: usize, piece: &'a [u8], frame: &'a [u8]) -> Step<'a>
+fn step_of<'a>(answer: Answer, count: usize, piece: &'a [u8], frame: &'a [u8]) -> Step<'a>
     requires inside { Lies answer count (length piece.now) }
     ensures { (answered : Answered) (event : Option Event) → TellsEvent answer piece.now count frame.now answered event → StepTells result piece.now count answered event }
 {

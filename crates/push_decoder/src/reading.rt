@@ -176,7 +176,7 @@ impl Reader {
             Stage::Opened { sound, place } => {
                 let answer = Answer::Head {
                     channels: sound.channels,
-                    frames: sound.told,
+                    frames: sound.frame_count,
                 };
                 self.stage = sound_at(sound, place);
                 Some(answer)

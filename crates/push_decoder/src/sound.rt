@@ -44,7 +44,7 @@ pub fn sound_at(sound: SoundSoFar, place: u64) -> Stage
 
 // The end of `DST `.
 fn ending(sound: &SoundSoFar) -> Stage
-    ensures goes_on { (w version prop : List ℕ) → streams.nothing_but (streams.counted sound.now.told sound.now.found) ≡ still_to_come version prop result w }
+    ensures goes_on { (w version prop : List ℕ) → streams.nothing_but (streams.counted sound.now.frame_count sound.now.found) ≡ still_to_come version prop result w }
     ensures stands { (place : ℕ) → place ≤ 2 ^ 50 + 12 → Stands result place }
     ensures no_frame { is_frame result ≡ false }
     ensures undue { is_due result ≡ false }
@@ -52,11 +52,11 @@ fn ending(sound: &SoundSoFar) -> Stage
     ensures answered { (answered : Answered) → AnsweredAt result answered }
     ensures tells { (prop : List ℕ) → StageTells result prop }
 {
-    if sound.found == sound.told {
+    if sound.found == sound.frame_count {
         return Stage::Ended;
     }
     Stage::Refused(FileFault::CountDiffers {
-        count: sound.told,
+        count: sound.frame_count,
         found: sound.found,
     })
 }
@@ -83,11 +83,11 @@ pub fn sound_past(sound: SoundSoFar, place: u64, at: u64, end: u64) -> Stage
 
 // The fault of the head of a frame.
 fn frame_fault(sound: &SoundSoFar, head: ChunkHead) -> Option<FileFault>
-    requires most { sound.now.told ≤ 1000000 }
-    requires some { sound.now.found ≤ sound.now.told }
-    ensures fault { result ≡ frame_rules sound.now.channels sound.now.told sound.now.found (head_seen head) }
+    requires most { sound.now.frame_count ≤ 1000000 }
+    requires some { sound.now.found ≤ sound.now.frame_count }
+    ensures fault { result ≡ frame_rules sound.now.channels sound.now.frame_count sound.now.found (head_seen head) }
     ensures size { IfNone result (head.size ≤ 225794) }
-    ensures more { IfNone result (sound.now.found < sound.now.told) }
+    ensures more { IfNone result (sound.now.found < sound.now.frame_count) }
 {
     if head.size > 2 * (sound.channels.sound_bytes() as u64 + 1) {
         return Some(FileFault::FrameTooLong {
@@ -98,10 +98,10 @@ fn frame_fault(sound: &SoundSoFar, head: ChunkHead) -> Option<FileFault>
     if sound.found == MOST_FRAMES {
         return Some(FileFault::TooManyFrames);
     }
-    if sound.found == sound.told {
+    if sound.found == sound.frame_count {
         return Some(FileFault::CountDiffers {
-            count: sound.told,
-            found: sound.told + 1,
+            count: sound.frame_count,
+            found: sound.frame_count + 1,
         });
     }
     None
@@ -111,10 +111,10 @@ fn frame_fault(sound: &SoundSoFar, head: ChunkHead) -> Option<FileFault>
 fn head_fault(sound: &SoundSoFar, head: ChunkHead) -> Option<FileFault>
     requires sound { IsInSound sound.now }
     requires within { head.place + 12 ≤ sound.now.end }
-    ensures fault { result ≡ streams.frame_head_fault sound.now.channels sound.now.told sound.now.end sound.now.found (head_seen head) }
+    ensures fault { result ≡ streams.frame_head_fault sound.now.channels sound.now.frame_count sound.now.end sound.now.found (head_seen head) }
     ensures within { IfNone result (head.place + 12 + head.size ≤ sound.now.end) }
     ensures size { IfNone result ((head_seen head).id is "DSTF" ≡ true → head.size ≤ 225794) }
-    ensures more { IfNone result ((head_seen head).id is "DSTF" ≡ true → sound.now.found < sound.now.told) }
+    ensures more { IfNone result ((head_seen head).id is "DSTF" ≡ true → sound.now.found < sound.now.frame_count) }
 {
     if head.size > sound.end - head.place - 12 {
         return Some(FileFault::Overrun { place: head.place });
@@ -152,7 +152,7 @@ pub fn sound_head(sound: SoundSoFar, head: ChunkHead) -> Stage
 fn behind_chunk(sound: SoundSoFar, head: ChunkHead, found: u32, at: u64) -> Stage
     requires sound { IsInSound sound }
     requires few { sound.chunks < 4000000 }
-    requires some { found ≤ sound.told }
+    requires some { found ≤ sound.frame_count }
     requires within { head.place + 12 + head.size ≤ sound.end }
     requires behind { head.place ≤ at }
     requires before { at ≤ head.place + 12 + head.size }
@@ -167,7 +167,7 @@ fn behind_chunk(sound: SoundSoFar, head: ChunkHead, found: u32, at: u64) -> Stag
     let end = chunk_end(sound.end, head);
     let sound = SoundSoFar {
         channels: sound.channels,
-        told: sound.told,
+        frame_count: sound.frame_count,
         end: sound.end,
         chunks: sound.chunks + 1,
         found,
@@ -179,7 +179,7 @@ fn behind_chunk(sound: SoundSoFar, head: ChunkHead, found: u32, at: u64) -> Stag
 pub fn frame_past(sound: SoundSoFar, head: ChunkHead) -> Stage
     requires sound { IsInSound sound }
     requires few { sound.chunks < 4000000 }
-    requires more { sound.found < sound.told }
+    requires more { sound.found < sound.frame_count }
     requires within { head.place + 12 + head.size ≤ sound.end }
     requires frame { (head_seen head).id is "DSTF" ≡ true }
     ensures goes_on { (w version prop : List ℕ) → body_end (head_seen head) ≤ length w → sound_chunk_from sound (head_seen head) w ≡ streams.with_frame (body_of w (head_seen head)) (still_to_come version prop result w) }
@@ -213,10 +213,10 @@ pub fn frame_count(form: FormSoFar, head: ChunkHead, frte: &[u8]) -> Stage
     let mut bytes = [0; 18];
     bytes.copy_from_slice(frte);
     match frame_count_in(&bytes) {
-        Ok(told) => Stage::Opened {
+        Ok(frame_count) => Stage::Opened {
             sound: SoundSoFar {
                 channels: fields.channels,
-                told,
+                frame_count,
                 end: head.place + 12 + head.size,
                 chunks: 0,
                 found: 0,

@@ -19,7 +19,7 @@ pub struct FormSoFar {
 pub struct SoundSoFar {
     pub channels: Channels,
     /// The frame count in `FRTE`.
-    pub told: u32,
+    pub frame_count: u32,
     /// The place behind the body of `DST `.
     pub end: u64,
     /// How many chunks came behind `FRTE`, and how many of them are frames.

@@ -5,7 +5,7 @@
 pub enum Step<'a> {
     /// All bytes were taken, and nothing is due.
     More,
-    /// `FRTE` is whole: how many channels there are, their rate in multiples of 64 times 44.1 kHz, and how many frames are told.
+    /// `FRTE` is whole: how many channels there are, their rate in multiples of 64 times 44.1 kHz, and the frame count.
     /// `Channels::at` makes the channels of the two.
     Head {
         channels: u32,

@@ -15,13 +15,13 @@ use Rattle.dsdiff_spec.specs.Streams.{Ending, ended, stopped, cut_off, Front, St
 abbrev pub stream_refused : FileFault → List ℕ → Answer
 stream_refused fault out = record { status = 5; out = out; lines = file_line fault ∷ [] }
 
--- the bytes of all the sound that is told
-abbrev pub told_sound : Front → ℕ
-told_sound front = front.frames * sound_bytes (shape_in front.prop)
+-- the bytes of all the sound that the frame count says
+abbrev pub sound_size : Front → ℕ
+sound_size front = front.frames * sound_bytes (shape_in front.prop)
 
 -- behind the last frame that came
 abbrev pub at_ending : Ending → Front → ℕ → List ℕ → Answer
-at_ending ended front k out = done out (decoded_line front.frames (told_sound front) ∷ [])
+at_ending ended front k out = done out (decoded_line front.frames (sound_size front) ∷ [])
 at_ending (stopped fault) front k out = stream_refused fault (piped_before front out k)
 at_ending (cut_off fault) front k out = stream_refused fault (piped_before front out k)
 

@@ -42,18 +42,18 @@ write_front-requires-clause-most g c =
 
 pub returns-in-Ok-write_front-clause-fewer : goal.returns-in-Ok-write_front-clause-fewer
 returns-in-Ok-write_front-clause-fewer g c =
-    omega (arith, few_told _ _ _ _ _ c.requires.head.1, c.in-Ok.ensures.told)
+    omega (arith, few_told _ _ _ _ _ c.requires.head.1, c.in-Ok.ensures.frame_count)
 
 pub returns-in-Ok-write_front-clause-begun : goal.returns-in-Ok-write_front-clause-begun
 returns-in-Ok-write_front-clause-begun g c front told =
     let shape = c.in-Some.ensures.value ∙ told.shape in
     let head = head_told front _ _ (c.version.ensures told.taken front [] told.stands) (c.prop.ensures told.taken front [] told.stands) shape
-    (c.from.ensures ∙ told.told) c.sound_bytes.ensures.bytes in (
+    (c.from.ensures ∙ told.frame_count) c.sound_bytes.ensures.bytes in (
       record {
         channels = c.in-Ok.ensures.channels ∙ shape;
         scratch = c.in-Ok.ensures.scratch ∙ shape;
         sound = c.in-Ok.ensures.sound ∙ ap sound_bytes shape;
-        told = c.in-Ok.ensures.told ∙ told.told;
+        frame_count = c.in-Ok.ensures.frame_count ∙ told.frame_count;
         decoded = c.in-Ok.ensures.decoded;
       },
       adds_same _ _ _ _ _ _ head c.in-Ok-write_front.ensures.written,
@@ -63,5 +63,5 @@ pub returns-in-Err-write_front-clause-begun : goal.returns-in-Err-write_front-cl
 returns-in-Err-write_front-clause-begun g c front told =
     let shape = c.in-Some.ensures.value ∙ told.shape in
     let head = head_told front _ _ (c.version.ensures told.taken front [] told.stands) (c.prop.ensures told.taken front [] told.stands) shape
-    (c.from.ensures ∙ told.told) c.sound_bytes.ensures.bytes in
+    (c.from.ensures ∙ told.frame_count) c.sound_bytes.ensures.bytes in
     stops_same (Unit {0}) _ _ _ _ _ head c.in-Err-write_front.ensures.written

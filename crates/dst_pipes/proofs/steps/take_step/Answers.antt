@@ -36,7 +36,7 @@ returns-in-Head-clause-took c taken answered has works =
       front = told.1.0;
       nothing = first;
       shape = told.1.2;
-      told = told.1.3;
+      frame_count = told.1.3;
       stands = subst (λ a. HasRead c.take.follows.lender-at-none.reader p (answered_with (Some (front_came told.1.0)) a)) first after;
       none = subst (λ a. Works a c.args.work.now) first works;
     }
@@ -90,7 +90,7 @@ returns-in-Some-clause-took c taken answered has works =
         channels = channels;
         scratch = c.decode_frame-answer.ensures.channels ∙ room.works.scratch;
         sound = ap length kept ∙ long ∙ room.works.sound;
-        told = room.works.told;
+        frame_count = room.works.frame_count;
         decoded = room.works.decoded;
       };
       room = room.fits.room;

@@ -60,20 +60,20 @@ returns-clause-headline g c w told flow sink report_quiet =
     let a = c.decode_pipe-answer in
     let same = not_seven _ c.report_line-2.result _ _ c.report_line-2.ensures.reported c.report_line-2.ensures.cause report_quiet in
     headline_of _ a.result w c.report_line-2.result _ _ (g.R.Sink.written c.args.report.now) _ _ (asks g c) (ends g c w told) (λ e. flow (a.ensures.read e))
-    (λ e. sink (a.ensures.write e)) (same ∙ c.told-status.ensures.status)
-    (c.report_line-2.ensures.whole same ∙ ap (and_then (g.R.Sink.written c.args.report.now)) c.told-status.ensures.line)
+    (λ e. sink (a.ensures.write e)) (same ∙ c.status_and_line-status.ensures.status)
+    (c.report_line-2.ensures.whole same ∙ ap (and_then (g.R.Sink.written c.args.report.now)) c.status_and_line-status.ensures.line)
 
 pub returns-clause-complete : goal.returns-clause-complete
 returns-clause-complete g c w told none flow sink report_quiet =
     let a = c.decode_pipe-answer in
     complete_of _ a.result w c.report_line-2.result _ _ (g.R.Sink.written c.args.report.now) (g.R.Sink.written c.args.report.now) _ none (ends g c w told)
     (λ e. flow (a.ensures.read e)) (λ e. sink (a.ensures.write e))
-    (not_seven _ _ _ _ c.report_line-2.ensures.reported c.report_line-2.ensures.cause report_quiet ∙ c.told-status.ensures.status)
+    (not_seven _ _ _ _ c.report_line-2.ensures.reported c.report_line-2.ensures.cause report_quiet ∙ c.status_and_line-status.ensures.status)
 
 pub returns-clause-ends : goal.returns-clause-ends
 returns-clause-ends g c w told =
     let a = c.decode_pipe-answer in
-    let status = c.told-status.ensures.status in (
+    let status = c.status_and_line-status.ensures.status in (
       status_of a.result,
       line_of a.result ∷ [],
       with_words _ w _ _ _ _ (asks g c) (ends_by a.result w _ _ _ (ends g c w told)),
@@ -82,7 +82,7 @@ returns-clause-ends g c w told =
       reports_of _ c.report_line-2.result (line_of a.result) _ _ _ _ _
           (subst (λ s. (c.report_line-2.result ≡ s) ⊎ (c.report_line-2.result ≡ 7)) status c.report_line-2.ensures.reported)
           (λ e. c.report_line-2.ensures.whole (e ∙ sym status)) c.report_line-2.ensures.cut_short
-          (λ e. c.report_line-2.ensures.added (e ∙ sym status)) c.report_line-2.ensures.stopped c.told-status.ensures.line,
+          (λ e. c.report_line-2.ensures.added (e ∙ sym status)) c.report_line-2.ensures.stopped c.status_and_line-status.ensures.line,
     )
 
 pub returns-clause-sure_report : goal.returns-clause-sure_report
@@ -90,36 +90,36 @@ returns-clause-sure_report g c w told o outcome flow sink n room least fits seve
     let a = c.decode_pipe-answer in
     let own = subst (λ x. OfWords x w o) (asks g c) outcome in
     c.report_line-2.ensures.sure seven n room
-    (subst (λ line. length line ≤ n) (sym c.told-status.ensures.line)
+    (subst (λ line. length line ≤ n) (sym c.status_and_line-status.ensures.line)
     (line_fits a.result w _ _ _ o n (g.met.F.Flow.told_are_bytes c.args.flow.now w told) (ends g c w told) own (λ e. flow (a.ensures.read e))
     (λ e. sink (a.ensures.write e)) least fits))
 
 pub returns-clause-memory_line : goal.returns-clause-memory_line
 returns-clause-memory_line g c four =
     let same = by_status _ c.report_line-2.result 4 c.report_line-2.ensures.reported four (omega arith) in
-    let refused = memory_of c.decode_pipe-answer.result (sym c.told-status.ensures.status ∙ sym same ∙ four) in
+    let refused = memory_of c.decode_pipe-answer.result (sym c.status_and_line-status.ensures.status ∙ sym same ∙ four) in
     c.report_line-2.ensures.whole same ∙ ap (and_then (g.R.Sink.written c.args.report.now))
-    (c.told-status.ensures.line ∙ ap (λ r. report (line_of r ∷ [])) refused.1)
+    (c.status_and_line-status.ensures.line ∙ ap (λ r. report (line_of r ∷ [])) refused.1)
 
 pub returns-clause-refused : goal.returns-clause-refused
 returns-clause-refused g c five w told =
     let a = c.decode_pipe-answer in
     let same = by_status _ c.report_line-2.result 5 c.report_line-2.ensures.reported five (omega arith) in
-    let is_file = file_of a.result (sym c.told-status.ensures.status ∙ sym same ∙ five) in
+    let is_file = file_of a.result (sym c.status_and_line-status.ensures.status ∙ sym same ∙ five) in
     let out = a.ensures.file is_file.0 is_file.1 w told in (
       is_file.0,
       out.0,
       subst (λ x. OfWords x w (stream_refused is_file.0 out.0)) (sym (asks g c)) out.1,
       out.2,
       c.report_line-2.ensures.whole same ∙ ap (and_then (g.R.Sink.written c.args.report.now))
-          (c.told-status.ensures.line ∙ ap (λ r. report (line_of r ∷ [])) is_file.1),
+          (c.status_and_line-status.ensures.line ∙ ap (λ r. report (line_of r ∷ [])) is_file.1),
     )
 
 pub returns-clause-frame : goal.returns-clause-frame
 returns-clause-frame g c six w told =
     let a = c.decode_pipe-answer in
     let same = by_status _ c.report_line-2.result 6 c.report_line-2.ensures.reported six (omega arith) in
-    let is_frame = frame_of a.result (sym c.told-status.ensures.status ∙ sym same ∙ six) in
+    let is_frame = frame_of a.result (sym c.status_and_line-status.ensures.status ∙ sym same ∙ six) in
     let out = a.ensures.frame is_frame.0 is_frame.1 is_frame.2 w told in (
       is_frame.0,
       is_frame.1,
@@ -127,5 +127,5 @@ returns-clause-frame g c six w told =
       subst (λ x. OfWords x w (frame_refused is_frame.0 is_frame.1 out.0)) (sym (asks g c)) out.1,
       out.2,
       c.report_line-2.ensures.whole same ∙ ap (and_then (g.R.Sink.written c.args.report.now))
-          (c.told-status.ensures.line ∙ ap (λ r. report (line_of r ∷ [])) is_frame.2),
+          (c.status_and_line-status.ensures.line ∙ ap (λ r. report (line_of r ∷ [])) is_frame.2),
     )

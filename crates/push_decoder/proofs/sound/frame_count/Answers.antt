@@ -9,7 +9,7 @@ use Rattle.push_decoder.proofs.sound.frame_count.Goals as goal
 
 pub returns-in-Ok-clause-goes_on : goal.returns-in-Ok-clause-goes_on
 returns-in-Ok-clause-goes_on c w version prop tells at there =
-    frte_is_taken w c.copy_from_slice.new.self (came_of c.args.form version prop) version prop (head_seen c.args.head) c.in-Ok.told _ c.requires.size
+    frte_is_taken w c.copy_from_slice.new.self (came_of c.args.form version prop) version prop (head_seen c.args.head) c.in-Ok.frame_count _ c.requires.size
     (at ∙ sym c.copy_from_slice.ensures.after) there c.in-Ok.ensures.accepted c.in-Ok.ensures.count
     (ap (λ came. came.version) (came_later c.args.form version prop c.requires.later))
     (ap (option_map (λ fields. prop)) c.in-Some.is)

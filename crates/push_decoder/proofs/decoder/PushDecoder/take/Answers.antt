@@ -10,6 +10,6 @@ returns c = (
     within = c.in-Ok.ensures.within;
     answer = λ taken answered has.
         let told = c.in-Ok.ensures.answer taken answered has in
-        (told.0, c.told.ensures answered _ (rw c.frame.ensures told.1));
+        (told.0, c.step_of.ensures answered _ (rw c.frame.ensures told.1));
   },
 )

@@ -6,7 +6,7 @@ use Rattle.push_decoder.specs.Told.{TellsEvent}
 use Rattle.push_decoder.specs.declared.reading.Answer.TheVariants.{Within, Head}
 use Rattle.dst_spec.specs.Sample.{Shape}
 use Rattle.dsdiff_spec.specs.Form.{shape_of}
-use Rattle.push_decoder.proofs.decoder.told.Goals as goal
+use Rattle.push_decoder.proofs.decoder.step_of.Goals as goal
 
 pub returns-in-Within : goal.returns-in-Within
 returns-in-Within c answered event tells =
