@@ -1,30 +1,30 @@
--- The table of words.
+-- The table of chances.
 use Rattle.std.proofs.Common.{◌≡◌, ℕ, ◌+◌, ◌*◌, ◌/◌, ◌%◌, ◌^◌, ◌<◌, ◌≤◌, ap, ◌∙◌, arith, List, map, get_or}
 use Rattle.std.specs.List.{range_with_len}
 use Rattle.std.proofs.lemmas.List.FromFn.{get_or-map-range_with_len}
 use Rattle.arith_core.proofs.Shifts.{shift_of, is_shift}
-use Rattle.arith_lanes.specs.Words.{IsWord}
+use Rattle.arith_lanes.specs.Chances.{IsChance}
 
--- the word of an entry: the entry, and behind it the power of 2 with which its probability has eight bits
-abbrev word_at : ℕ → ℕ
-word_at i = i % 128 + 128 * (i / 128) + 256 * 2 ^ shift_of (i % 128 + 1)
+-- the chance of an entry: the entry, and behind it the power of 2 with which its probability has eight bits
+abbrev chance_at : ℕ → ℕ
+chance_at i = i % 128 + 128 * (i / 128) + 256 * 2 ^ shift_of (i % 128 + 1)
 
-abbrev pub all_words : List ℕ
-all_words = map (λ i. word_at i) (range_with_len 0 256)
+abbrev pub all_chances : List ℕ
+all_chances = map (λ i. chance_at i) (range_with_len 0 256)
 
-word_is : (entry : ℕ) (table : List ℕ) → entry < 256 → table ≡ all_words → get_or table entry 0 ≡ word_at entry
-word_is entry table h is =
-    ap (λ xs. get_or xs entry 0) is ∙ get_or-map-range_with_len (λ i. word_at i) 0 256 entry entry 0 (omega arith) (omega arith)
+chance_is : (entry : ℕ) (table : List ℕ) → entry < 256 → table ≡ all_chances → get_or table entry 0 ≡ chance_at entry
+chance_is entry table h is =
+    ap (λ xs. get_or xs entry 0) is ∙ get_or-map-range_with_len (λ i. chance_at i) 0 256 entry entry 0 (omega arith) (omega arith)
 
-pub is_word : (entry : ℕ) (table : List ℕ) → entry < 256 → table ≡ all_words → IsWord (entry % 128 + 1) (get_or table entry 0)
-is_word entry table h is =
+pub is_chance : (entry : ℕ) (table : List ℕ) → entry < 256 → table ≡ all_chances → IsChance (entry % 128 + 1) (get_or table entry 0)
+is_chance entry table h is =
     let p = entry % 128 + 1 in
     let least : 1 ≤ p = omega arith in
     let most : p ≤ 128 = omega arith in
     let power = 2 ^ shift_of p in
-    let low : word_at entry % 128 + 1 ≡ p = low_is (entry % 128) (entry / 128) power (omega arith) in
-    let high : word_at entry / 256 ≡ power = high_is (entry % 128) (entry / 128) power (omega arith) (omega arith) in
-    rw (word_is entry table h is) (record {
+    let low : chance_at entry % 128 + 1 ≡ p = low_is (entry % 128) (entry / 128) power (omega arith) in
+    let high : chance_at entry / 256 ≡ power = high_is (entry % 128) (entry / 128) power (omega arith) (omega arith) in
+    rw (chance_is entry table h is) (record {
       least = least;
       most = most;
       prob = low;
@@ -37,9 +37,9 @@ is_word entry table h is =
     high_is : (low mark power : ℕ) → low < 128 → mark < 2 → (low + 128 * mark + 256 * power) / 256 ≡ power
     high_is low mark power a b = omega arith
 
-pub mark_is : (entry : ℕ) (table : List ℕ) → entry < 256 → table ≡ all_words → get_or table entry 0 / 128 % 2 ≡ entry / 128
+pub mark_is : (entry : ℕ) (table : List ℕ) → entry < 256 → table ≡ all_chances → get_or table entry 0 / 128 % 2 ≡ entry / 128
 mark_is entry table h is =
-    ap (λ w. w / 128 % 2) (word_is entry table h is)
+    ap (λ w. w / 128 % 2) (chance_is entry table h is)
     ∙ middle (entry % 128) (entry / 128) (2 ^ shift_of (entry % 128 + 1)) (omega arith) (omega arith)
   where
     middle : (low mark power : ℕ) → low < 128 → mark < 2 → (low + 128 * mark + 256 * power) / 128 % 2 ≡ mark

@@ -5,7 +5,7 @@ use Rattle.arith_decoder.specs.Registers.{IsFactor}
 
 -- the value of four numbers
 abbrev pub four : ℕ → ℕ → ℕ → ℕ → ℕ
-four kept high middle low = kept * 2 ^ 52 + high * 2 ^ 36 + middle * 2 ^ 20 + low * 2 ^ 4
+four offset high middle low = offset * 2 ^ 52 + high * 2 ^ 36 + middle * 2 ^ 20 + low * 2 ^ 4
 
 -- a power of 2 leaves room for a carry
 room : (x by g : ℕ) → by * g ≡ 65536 → x * by % 65536 + by ≤ 65536
@@ -30,17 +30,17 @@ carried y by h some =
     let most : (y + 1) * by ≤ 65536 * by = mul-le (y + 1) by 65536 by (omega arith) (omega arith) in
     omega arith
 
-pub times_four : (kept high middle low by g : ℕ) → by * g ≡ 65536 → 0 < by → high < 65536 → middle < 65536 → low < 65536 →
-    four kept high middle low * by < 4096 * 2 ^ 52 →
-    four ((kept * by + high * by / 65536) % 65536) ((high * by + middle * by / 65536) % 65536) ((middle * by + low * by / 65536) % 65536) (low * by % 65536)
-    ≡ four kept high middle low * by
-times_four kept high middle low by g e some h m l below =
+pub times_four : (offset high middle low by g : ℕ) → by * g ≡ 65536 → 0 < by → high < 65536 → middle < 65536 → low < 65536 →
+    four offset high middle low * by < 4096 * 2 ^ 52 →
+    four ((offset * by + high * by / 65536) % 65536) ((high * by + middle * by / 65536) % 65536) ((middle * by + low * by / 65536) % 65536) (low * by % 65536)
+    ≡ four offset high middle low * by
+times_four offset high middle low by g e some h m l below =
     let h_room = room high by g e in
     let m_room = room middle by g e in
     let m_few = carried middle by m some in
     let l_few = carried low by l some in
-    let spread : four kept high middle low * by ≡ kept * by * 2 ^ 52 + high * by * 2 ^ 36 + middle * by * 2 ^ 20 + low * by * 2 ^ 4 = omega arith in
-    all (kept * by) (high * by) (middle * by) (low * by) by h_room m_room m_few l_few (omega (arith, spread, below)) ∙ sym spread
+    let spread : four offset high middle low * by ≡ offset * by * 2 ^ 52 + high * by * 2 ^ 36 + middle * by * 2 ^ 20 + low * by * 2 ^ 4 = omega arith in
+    all (offset * by) (high * by) (middle * by) (low * by) by h_room m_room m_few l_few (omega (arith, spread, below)) ∙ sym spread
   where
     all : (k h m l by : ℕ) → h % 65536 + by ≤ 65536 → m % 65536 + by ≤ 65536 → m / 65536 < by → l / 65536 < by →
         k * 2 ^ 52 + h * 2 ^ 36 + m * 2 ^ 20 + l * 2 ^ 4 < 4096 * 2 ^ 52 →

@@ -4,28 +4,28 @@ use Rattle.std.specs.Int.{trailing_zeros, w64}
 use Rattle.arith_core.specs.Range.{IsRange}
 use Rattle.arith_decoder.specs.Decoding.{Decoding, StandsFor}
 use Rattle.arith_decoder.specs.Registers.{IsStep, AreRegisters}
-use Rattle.arith_lanes.specs.Words.{IsWord}
+use Rattle.arith_lanes.specs.Chances.{IsChance}
 use Rattle.arith_lanes.specs.declared.lane.Registers.{Registers}
 use Rattle.arith_lanes.specs.declared.lanes.ArithLanes.{ArithLanes}
 
--- the value of a lane, in the places that the register of a single decoder has: the kept number above 52 bits, of which the lowest four are 0
+-- the value of a lane, in the places that the register of a single decoder has: the offset number above 52 bits, of which the lowest four are 0
 abbrev pub value_of : Registers → ℕ
-value_of r = r.kept * 2 ^ 52 + r.high * 2 ^ 36 + r.middle * 2 ^ 20 + r.low * 2 ^ 4
+value_of r = r.offset * 2 ^ 52 + r.high * 2 ^ 36 + r.middle * 2 ^ 20 + r.low * 2 ^ 4
 
--- what a step gives for a symbol: that itself where bit 7 of the word is 1, else the other
+-- what a step gives for a symbol: that itself where bit 7 of the chance is 1, else the other
 abbrev pub given_of : ℕ → Bool → ℕ
-given_of word symbol = if symbol then (word / 128 % 2) else (1 - word / 128 % 2)
+given_of chance symbol = if symbol then (chance / 128 % 2) else (1 - chance / 128 % 2)
 
--- A symbol of the word's probability makes these registers of those, as in a single decoder, and this is given for it.
+-- A symbol of the chance's probability makes these registers of those, as in a single decoder, and this is given for it.
 abbrev pub StepsBy : Registers → ℕ → Registers → ℕ → Type 0
-StepsBy before word after given = (p : ℕ) → IsWord p word → IsRange before.range → value_of before < before.range * 2 ^ 52 →
-    (symbol : Bool) × (given ≡ given_of word symbol) × IsStep p (value_of before) before.range symbol (value_of after) after.range
+StepsBy before chance after given = (p : ℕ) → IsChance p chance → IsRange before.range → value_of before < before.range * 2 ^ 52 →
+    (symbol : Bool) × (given ≡ given_of chance symbol) × IsStep p (value_of before) before.range symbol (value_of after) after.range
 
 -- the registers of a lane
 abbrev pub registers_at : ArithLanes → ℕ → Registers
 registers_at s n = record {
   range = get_or s.range n 0;
-  kept = get_or s.kept n 0;
+  offset = get_or s.offset n 0;
   high = get_or s.high n 0;
   middle = get_or s.middle n 0;
   low = get_or s.low n 0;
@@ -57,7 +57,7 @@ pub record IsLane (s : ArithLanes) (n : ℕ) (bytes : List ℕ) : Type 0 where
   pub registers : AreRegisters bytes (first_at s n) (used_at s n) (get_or s.place n 0) (value_of (registers_at s n)) (range_at s n)
 
 -- a lane is what it was, with as many bits ahead
-pub record IsKept (old new : ArithLanes) (n : ℕ) : Type 0 where
+pub record IsUnchanged (old new : ArithLanes) (n : ℕ) : Type 0 where
   pub lane : (bytes : List ℕ) → IsLane old n bytes → IsLane new n bytes
   pub same : (bytes : List ℕ) → decoding_at new n bytes ≡ decoding_at old n bytes
   pub ahead : ahead_at new n ≡ ahead_at old n

@@ -8,7 +8,7 @@ ghost use Rattle.arith_lanes.specs.Lanes.{StepsBy};
 pub(crate) struct Registers {
     pub(crate) range: u16,
     // how far the code's number lies above the low end of the range
-    pub(crate) kept: u16,
+    pub(crate) offset: u16,
     // the next bits of the code, behind them a bit 1, and zeros
     pub(crate) high: u16,
     pub(crate) middle: u16,
@@ -48,28 +48,28 @@ fn times(upper: u16, lower: u16, factor: u16) -> u16
     upper.wrapping_mul(factor).wrapping_add(carried as u16)
 }
 
-/// The registers after a symbol whose probability is in a word, and the symbol, turned round where bit 7 of the word is 0. All
+/// The registers after a symbol whose probability is in a chance, and the symbol, turned round where bit 7 of the chance is 0. All
 /// doublings are one multiplication.
 #[inline(always)]
-pub(crate) fn lane(r: Registers, word: u16) -> (Registers, u16)
-    ensures { StepsBy r word result.0 result.1 }
+pub(crate) fn lane(r: Registers, chance: u16) -> (Registers, u16)
+    ensures { StepsBy r chance result.0 result.1 }
 {
-    let factor = word >> 8;
-    let part = scale(r.range).wrapping_mul(word % 128 + 1);
+    let factor = chance >> 8;
+    let part = scale(r.range).wrapping_mul(chance % 128 + 1);
     let end = r.range.wrapping_sub(part);
-    let one = less(r.kept, end);
+    let one = less(r.offset, end);
     let range = chosen(one, end, part.wrapping_mul(factor));
     let due = less(range, 2048);
     let by = chosen(one, 1, factor);
     let by = chosen(due, by.wrapping_mul(2), by);
-    let kept = r.kept.wrapping_sub(chosen(one, 0, end));
+    let offset = r.offset.wrapping_sub(chosen(one, 0, end));
     let after = Registers {
         range: chosen(due, range.wrapping_mul(2), range),
-        kept: times(kept, r.high, by),
+        offset: times(offset, r.high, by),
         high: times(r.high, r.middle, by),
         middle: times(r.middle, r.low, by),
         low: r.low.wrapping_mul(by),
     };
-    let mark = word / 128 % 2;
+    let mark = chance / 128 % 2;
     (after, chosen(one, mark, 1 - mark))
 }

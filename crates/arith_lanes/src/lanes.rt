@@ -2,8 +2,8 @@
 ghost use Rattle.std.specs.Prelude.{◌≡◌, ◌≢◌, ℕ, ◌+◌, ◌/◌, ◌<◌, ◌≤◌, ◌^◌, Bool, false, true, List, [], length, get_or, IfOk, IfErr};
 ghost use Rattle.dst_spec.specs.Bits.{bits, number_from};
 ghost use Rattle.arith_decoder.specs.Decoding.{IsCodeFault};
-ghost use Rattle.arith_lanes.specs.Words.{IsWord};
-ghost use Rattle.arith_lanes.specs.Lanes.{IsLane, IsKept, Begins, Refills, TakesSymbol, given_of, registers_at, value_of, first_at, used_at, ahead_at};
+ghost use Rattle.arith_lanes.specs.Chances.{IsChance};
+ghost use Rattle.arith_lanes.specs.Lanes.{IsLane, IsUnchanged, Begins, Refills, TakesSymbol, given_of, registers_at, value_of, first_at, used_at, ahead_at};
 
 use crate::lane::{Registers, lane};
 use arith_decoder::ArithDecoder;
@@ -17,7 +17,7 @@ pub struct ArithLanes {
     // the place of the first bit that isn't in a lane's registers yet
     place: [u64; 8],
     range: [u16; 8],
-    kept: [u16; 8],
+    offset: [u16; 8],
     high: [u16; 8],
     middle: [u16; 8],
     low: [u16; 8],
@@ -32,7 +32,7 @@ impl ArithLanes {
             first: [0; 8],
             place: [45; 8],
             range: [4095; 8],
-            kept: [0; 8],
+            offset: [0; 8],
             high: [0; 8],
             middle: [0; 8],
             low: [0x8000; 8],
@@ -50,7 +50,7 @@ impl ArithLanes {
         ensures first_bit { IfOk result (λ _. get_or (bits code.entry.bytes.now) code.entry.first 0 ≡ 0) }
         ensures in_range { IfOk result (λ _. number_from (bits code.entry.bytes.now) (code.entry.first + 1) 12 ≢ 4095) }
         ensures begun { IfOk result (λ _. Begins self.new n code.entry.bytes.now code.entry.first) }
-        ensures others { (m : ℕ) → m ≢ n → IsKept self.old self.new m }
+        ensures others { (m : ℕ) → m ≢ n → IsUnchanged self.old self.new m }
     {
         match ArithDecoder::new(code) {
             Ok(_) => {}
@@ -65,7 +65,7 @@ impl ArithLanes {
         self.first[n] = code.first;
         self.place[n] = code.first + 45;
         self.range[n] = 4095;
-        self.kept[n] = offset as u16;
+        self.offset[n] = offset as u16;
         self.high[n] = (next >> 16) as u16;
         self.middle[n] = (next % 65536) as u16;
         self.low[n] = 0x8000;
@@ -91,7 +91,7 @@ impl ArithLanes {
         requires code { IsLane self.old n bytes.now }
         requires early { used_at self.old n ≤ 2 ^ 40 }
         ensures filled { Refills self.old self.new n bytes.now }
-        ensures others { (m : ℕ) → m ≢ n → IsKept self.old self.new m }
+        ensures others { (m : ℕ) → m ≢ n → IsUnchanged self.old self.new m }
     {
         let behind = u64::from(self.value(n).trailing_zeros());
         let start = self.place[n] + behind - 51;
@@ -107,18 +107,18 @@ impl ArithLanes {
         self.low[n] = (2 * lower + 1) as u16;
     }
 
-    // The kept number and the bits ahead in one number.
+    // The offset number and the bits ahead in one number.
     fn value(&self, n: usize) -> u64
         requires lane { n < 8 }
         requires fits { value_of (registers_at self.now n) < 2 ^ 64 }
         ensures value { result ≡ value_of (registers_at self.now n) }
-        ensures offset { result / 2 ^ 52 ≡ get_or self.now.kept n 0 }
+        ensures offset { result / 2 ^ 52 ≡ get_or self.now.offset n 0 }
     {
-        let kept = u64::from(self.kept[n]) << 52;
+        let offset = u64::from(self.offset[n]) << 52;
         let high = u64::from(self.high[n]) << 36;
         let middle = u64::from(self.middle[n]) << 20;
         let low = u64::from(self.low[n]) << 4;
-        kept + high + middle + low
+        offset + high + middle + low
     }
 
     /// The place in its bytes of the first bit that lane `n` hasn't used: behind the first code bit, twelve, and one for each doubling.
@@ -131,27 +131,27 @@ impl ArithLanes {
         self.place[n] + behind - 51
     }
 
-    /// The next symbol of each lane, 0 or 1, turned round where bit 7 of the lane's word is 0. Its probability is in the word too. At
+    /// The next symbol of each lane, 0 or 1, turned round where bit 7 of the lane's chance is 0. Its probability is in the chance too. At
     /// least eight bits ahead have to be there, and at most `2^40` of the code may be used before.
     #[inline(always)]
-    pub fn decode(&mut self, words: &[u16; 8]) -> [u16; 8]
-        ensures { (n p : ℕ) (bytes : List ℕ) → n < 8 → IsLane self.old n bytes → IsWord p (get_or words.now n 0)
+    pub fn decode(&mut self, chances: &[u16; 8]) -> [u16; 8]
+        ensures { (n p : ℕ) (bytes : List ℕ) → n < 8 → IsLane self.old n bytes → IsChance p (get_or chances.now n 0)
             → 8 ≤ ahead_at self.old n → used_at self.old n ≤ 2 ^ 40
-            → (symbol : Bool) × (get_or result n 0 ≡ given_of (get_or words.now n 0) symbol)
+            → (symbol : Bool) × (get_or result n 0 ≡ given_of (get_or chances.now n 0) symbol)
             × TakesSymbol self.old self.new n bytes p symbol }
     {
         let mut symbols = [0; 8];
         for n in 0..8usize {
             let before = Registers {
                 range: self.range[n],
-                kept: self.kept[n],
+                offset: self.offset[n],
                 high: self.high[n],
                 middle: self.middle[n],
                 low: self.low[n],
             };
-            let (after, symbol) = lane(before, words[n]);
+            let (after, symbol) = lane(before, chances[n]);
             self.range[n] = after.range;
-            self.kept[n] = after.kept;
+            self.offset[n] = after.offset;
             self.high[n] = after.high;
             self.middle[n] = after.middle;
             self.low[n] = after.low;

@@ -8,16 +8,16 @@
 //! if lanes.are_short() {
 //!     lanes.refill(3, bytes);                  // and so each lane: 47 bits ahead again
 //! }
-//! let symbols = lanes.decode(&words);          // a word has a lane's probability: `word` gives that of an entry
+//! let symbols = lanes.decode(&chances);          // a chance has a lane's probability: `chance` gives that of an entry
 //! lanes.end(3);                                // the place behind the bits of its code that are used so far
 //! ```
 //!
 //! A step takes at most eight bits of a lane, and lanes that aren't short hold sixteen: two steps can follow one test.
 #![tactic(auto)]
 
+mod chances;
 mod lane;
 mod lanes;
-mod words;
 
+pub use chances::chance;
 pub use lanes::ArithLanes;
-pub use words::word;

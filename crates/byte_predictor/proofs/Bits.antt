@@ -48,11 +48,11 @@ rising_bits-at (suc n) x (suc k) h =
 pub carry-through : (others carry number : ℕ) → carry < 2 → number / 2 ^ others < 2 →
     carry ∷ rising_bits (suc others) number ≡ rising_bits (suc others) (number % 2 ^ others * 2 + carry) ++ (number / 2 ^ others) ∷ []
 carry-through others carry number h k =
-    let kept = number % 2 ^ others in
-    let step = rising_bits-step others (kept * 2 + carry) in
+    let rest_of = number % 2 ^ others in
+    let step = rising_bits-step others (rest_of * 2 + carry) in
     let last = rising_bits-last others number in
-    let low : (kept * 2 + carry) % 2 ≡ carry = omega arith in
-    let rest : (kept * 2 + carry) / 2 ≡ kept = omega arith in
+    let low : (rest_of * 2 + carry) % 2 ≡ carry = omega arith in
+    let rest : (rest_of * 2 + carry) / 2 ≡ rest_of = omega arith in
     let top : number / 2 ^ others % 2 ≡ number / 2 ^ others = omega arith in
     rw (last, step, low, rest, top) refl
 

@@ -44,8 +44,8 @@ pub fn compression_of(body: &[u8]) -> Option<[u8; 4]>
 pub fn frames_of(body: &[u8]) -> Option<(u32, u16)>
     ensures short { IfNone result (length body.now < 6) }
     ensures long { IfSome result (λ _. 6 ≤ length body.now) }
-    ensures frames { IfSome result (λ told. told.0 ≡ big_number 4 body.now) }
-    ensures rate { IfSome result (λ told. told.1 ≡ big_number 2 (drop 4 body.now)) }
+    ensures frames { IfSome result (λ fields. fields.0 ≡ big_number 4 body.now) }
+    ensures rate { IfSome result (λ fields. fields.1 ≡ big_number 2 (drop 4 body.now)) }
 {
     if body.len() < 6 {
         return None;

@@ -90,7 +90,7 @@ fn long_code() -> [u8; 20_000] {
 }
 
 // The bits that are used behind 100,000 symbols of that code, how many are 1, and their hash by Fowler, Noll and Vo, FNV-1a of 64 bits.
-fn told_of_the_long_code() -> Option<(u64, u32, u64)> {
+fn of_the_long_code() -> Option<(u64, u32, u64)> {
     let bytes = long_code();
     let code = BitSlice {
         bytes: &bytes,
@@ -117,5 +117,5 @@ fn told_of_the_long_code() -> Option<(u64, u32, u64)> {
 fn a_long_code_gives_the_symbols_of_whole_numbers(rt: HostRuntime) {
     // By another program, which takes the code's number bit by bit.
     let wanted = (72_076, 75_041, 0x0932_d52a_ffc8_0c86);
-    same(&rt, &told_of_the_long_code(), &Some(wanted));
+    same(&rt, &of_the_long_code(), &Some(wanted));
 }

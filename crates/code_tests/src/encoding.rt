@@ -200,7 +200,7 @@ fn hash(bytes: &[u8]) -> u64 {
 }
 
 // The bytes of a code of 100,000 symbols: how many, whether they begin as they should, and their hash.
-fn told_of_a_long_code(alloc: Global) -> Result<Option<(usize, bool, u64)>, AllocError> {
+fn of_a_long_code(alloc: Global) -> Result<Option<(usize, bool, u64)>, AllocError> {
     let Ok(mut encoder) = ArithEncoder::new(BitWriter::new(alloc, 20_000)?) else {
         return Ok(None);
     };
@@ -224,5 +224,5 @@ fn told_of_a_long_code(alloc: Global) -> Result<Option<(usize, bool, u64)>, Allo
 fn a_long_code_is_that_of_whole_numbers(rt: HostRuntime) {
     // By another program, which keeps the low end as one whole number.
     let wanted = (9_060, true, 0x75ce_7ca4_2cf8_ccf8);
-    same(&rt, &told_of_a_long_code(rt.alloc()), &Ok(Some(wanted)));
+    same(&rt, &of_a_long_code(rt.alloc()), &Ok(Some(wanted)));
 }

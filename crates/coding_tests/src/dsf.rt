@@ -12,7 +12,7 @@ use frame_crew::OpenGate;
 use std::alloc::{AllocError, Global};
 use std::thread::Threads;
 
-// The head of a file of twelve samples, with 1 bit per sample.
+// The header of a file of twelve samples, with 1 bit per sample.
 const HEAD: &[u8; 92] = b"DSD \x1c\0\0\0\0\0\0\0\x5c\x10\0\0\0\0\0\0\0\0\0\0\0\0\0\0\
 fmt \x34\0\0\0\0\0\0\0\x01\0\0\0\0\0\0\0\x01\0\0\0\x01\0\0\0\0\x11\x2b\0\x01\0\0\0\
 \x0c\0\0\0\0\0\0\0\0\x10\0\0\0\0\0\0data\x0c\x10\0\0\0\0\0\0";
@@ -33,10 +33,10 @@ KEPT\0\0\0\0\0\0\0\x2e\x02\0\0\0\0\0\0\0\x02\0\0\0\0\0\
 CMPR\0\0\0\0\0\0\0\x13DSD \x0enot compressed\0\
 DSFK\0\0\0\0\0\0\0\x0e\x01\0\0\0\0\0\0\0\x0c\0\0\0\x01\x01";
 
-// A file with this head, and a block that begins with a byte.
-fn file_of(head: &[u8; 92], first: u8) -> [u8; 4188] {
+// A file with this header, and a block that begins with a byte.
+fn file_of(header: &[u8; 92], first: u8) -> [u8; 4188] {
     let mut file = [0; 4188];
-    file[..92].copy_from_slice(head);
+    file[..92].copy_from_slice(header);
     file[92] = first;
     file
 }
@@ -126,33 +126,33 @@ fn encode_unwritten<R: Threads + Sync>(
     Ok(encode_dsf(rt, alloc, &mut source, &mut sink, &NoPick, 1, &OpenGate))
 }
 
-// The last of sixty calls of the sink whose failing is told; or the first that is told as another fault, and that fault.
-fn last_told_of_coding<R: Threads + Sync>(
+// The last of sixty calls of the sink whose failing is answered; or the first that is answered as another fault, and that fault.
+fn last_answered_of_coding<R: Threads + Sync>(
     rt: &R,
     alloc: Global,
 ) -> Result<u64, (u64, Result<EncodeAnswer, AllocError>)> {
-    let mut told = 0u64;
+    let mut last = 0u64;
     for turn in 0..60u64 {
         match encode_unwritten(rt, alloc, turn) {
             Ok(Ok(_)) => {}
-            Ok(Err(EncodeFault::Write)) => told = turn,
+            Ok(Err(EncodeFault::Write)) => last = turn,
             other => return Err((turn, other)),
         }
     }
-    Ok(told)
+    Ok(last)
 }
 
 #[test]
-fn a_call_of_a_device_that_fails_is_told(rt: HostRuntime) {
+fn a_call_of_a_device_that_fails_is_answered(rt: HostRuntime) {
     let alloc = rt.alloc();
     let reads = [
         encode_unread(&rt, alloc, 0),
         encode_unread(&rt, alloc, 1),
         encode_unread(&rt, alloc, 2),
     ];
-    let told = last_told_of_coding(&rt, alloc).map(|told| told > 15 && told < 59);
+    let last = last_answered_of_coding(&rt, alloc).map(|last| last > 15 && last < 59);
     let unread = Ok(Err(EncodeFault::Source(OpenFault::Read)));
-    same(&rt, &(reads, told), &([unread; 3], Ok(true)));
+    same(&rt, &(reads, last), &([unread; 3], Ok(true)));
 }
 
 // What decoding a file by so many workers answers, and whether these bytes are written.
@@ -216,8 +216,8 @@ fn decode_unwritten<R: Threads + Sync>(
     Ok(decode_dsf(rt, alloc, &mut source, &mut sink, 1, &OpenGate))
 }
 
-// The last of sixty calls of the source and of the sink whose failing is told; or the first that is told as another fault, and that fault.
-fn last_told_of_decoding<R: Threads + Sync>(
+// The last of sixty calls of the source and of the sink whose failing is answered; or the first that is answered as another fault, and that fault.
+fn last_answered_of_decoding<R: Threads + Sync>(
     rt: &R,
     alloc: Global,
 ) -> Result<(u64, u64), (u64, Result<DecodeAnswer, AllocError>)> {
@@ -238,8 +238,8 @@ fn last_told_of_decoding<R: Threads + Sync>(
 }
 
 #[test]
-fn a_device_that_fails_in_decoding_is_told(rt: HostRuntime) {
-    let last = last_told_of_decoding(&rt, rt.alloc());
+fn a_device_that_fails_in_decoding_is_answered(rt: HostRuntime) {
+    let last = last_answered_of_decoding(&rt, rt.alloc());
     let are_late = last.map(|(read, write)| read > 10 && write > 10);
     same(&rt, &are_late, &Ok(true));
 }

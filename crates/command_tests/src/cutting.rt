@@ -117,7 +117,7 @@ fn made(alloc: Global, file: Known) -> Result<Vec<u8>, AllocError> {
 }
 
 // What cutting frames out of a file answers, and whether these bytes are written.
-type Told = (Result<Cut, CutFault>, bool);
+type Seen = (Result<Cut, CutFault>, bool);
 
 fn cut_bytes(
     alloc: Global,
@@ -125,7 +125,7 @@ fn cut_bytes(
     first: u32,
     last: u32,
     wanted: &[u8],
-) -> Result<Told, AllocError>
+) -> Result<Seen, AllocError>
     requires { first ≤ last }
 {
     let mut source = HonestSource::new(file);
@@ -141,7 +141,7 @@ fn cut(
     first: u32,
     count: u32,
     wanted: Known,
-) -> Result<Told, AllocError> {
+) -> Result<Seen, AllocError> {
     let file = made(alloc, file)?;
     let wanted = made(alloc, wanted)?;
     let last = first.saturating_add(count.saturating_sub(1));
@@ -162,19 +162,19 @@ const CUTS: [(Known, u32, u32, Known); 7] = [
 #[test]
 fn frames_are_cut_out(rt: HostRuntime) {
     for &(file, first, count, wanted) in &CUTS {
-        let told = cut(rt.alloc(), file, first, count, wanted);
+        let seen = cut(rt.alloc(), file, first, count, wanted);
         let done = (Ok(Cut { frames: count }), true);
-        assert_eq!(rt; told, Ok(done), "{count} frames from {first}");
+        assert_eq!(rt; seen, Ok(done), "{count} frames from {first}");
     }
 }
 
 // Frames 1 and 2 of a file of two frames.
-fn cut_past(alloc: Global) -> Result<Told, AllocError> {
+fn cut_past(alloc: Global) -> Result<Seen, AllocError> {
     let file = both(alloc)?;
     cut_bytes(alloc, &file, 1, 2, &[])
 }
 
-fn refused(fault: FileFault) -> Result<Told, AllocError> {
+fn refused(fault: FileFault) -> Result<Seen, AllocError> {
     Ok((Err(CutFault::Source(OpenFault::File(fault))), true))
 }
 
@@ -184,11 +184,11 @@ fn a_frame_past_the_last_is_refused(rt: HostRuntime) {
         asked: 2,
         frames: 2,
     };
-    let told = [
+    let seen = [
         cut_past(rt.alloc()),
         cut_bytes(rt.alloc(), SILENT, 1, 2, &[]),
     ];
-    assert_eq!(rt; told, [refused(past), refused(FileFault::NotCoded)]);
+    assert_eq!(rt; seen, [refused(past), refused(FileFault::NotCoded)]);
 }
 
 // More than the calls on a device in any of these runs.
@@ -211,7 +211,7 @@ fn cut_over(
     Ok((answer, whole.starts_with(written), written == whole))
 }
 
-// A call that fails, a read or a write, is told by this fault and leaves a front of the whole file. Of the first call where that isn't so: whether
+// A call that fails, a read or a write, is answered by this fault and leaves a front of the whole file. Of the first call where that isn't so: whether
 // more than eight calls are before it, and its run.
 fn first_other(alloc: Global, is_read: bool, fault: CutFault) -> Result<(bool, Run), AllocError> {
     let file = both(alloc)?;

@@ -1,4 +1,4 @@
-// Files of made sound against heads written by hand and another program's frames, and sinks that fail.
+// Files of made sound against fronts written by hand and another program's frames, and sinks that fail.
 use dst_make::{Made, MakeFault, make_file};
 use dst_num::Channels;
 use dst_streams::{MemorySink, ShortFlowSink};
@@ -27,7 +27,7 @@ fn stand_at(file: &[u8], place: usize, bytes: &[u8]) -> bool {
     place <= file.len() && file[place..].starts_with(bytes)
 }
 
-// What making three frames answers, how many bytes are written, and whether those of the head and the first ones of two frames are right.
+// What making three frames answers, how many bytes are written, and whether those of the front and the first ones of two frames are right.
 type Three = (Result<Made, MakeFault>, usize, [bool; 3]);
 
 fn three_frames(alloc: Global, channels: Channels) -> Result<Three, AllocError> {
@@ -86,7 +86,7 @@ fn fails(
     Ok((answer, written.len(), whole.starts_with(written)))
 }
 
-// A call that fails is told, and leaves a front of the whole file. Of the first call where that isn't so: whether more than three calls are before
+// A call that fails is answered, and leaves a front of the whole file. Of the first call where that isn't so: whether more than three calls are before
 // it, what is answered, and whether a front is written.
 type First = (bool, Result<Made, MakeFault>, bool);
 
@@ -135,7 +135,7 @@ fn runs(alloc: Global) -> Result<Option<Runs>, AllocError> {
     }
 }
 
-// At least one call for the head, one for each frame and one that has the file settled.
+// At least one call for the front, one for each frame and one that has the file settled.
 #[test]
 fn each_call_on_the_sink_fails_in_its_turn(rt: HostRuntime) {
     let done = Ok(Made { frames: 2 });

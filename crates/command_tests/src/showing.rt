@@ -42,13 +42,13 @@ const SUMMARY: &[u8; 94] =
 #[test]
 fn a_file_is_shown_and_listed(rt: HostRuntime) {
     let alloc = rt.alloc();
-    let told = (
+    let seen = (
         shown(alloc, None, &[], &[], SUMMARY),
         shown(alloc, Some(0), &[], &[], b"frame 0 plain length 4705\n"),
         listed(alloc, &[], b"0 152 4705\n1 4870 4705\n"),
     );
     let done = Ok((Ok(REPORTED), true));
-    assert_eq!(rt; told, (done, done, Ok((Ok(REPORTED), true))));
+    assert_eq!(rt; seen, (done, done, Ok((Ok(REPORTED), true))));
 }
 
 // What giving the sound of frame 1 answers, and whether that sound is written.
@@ -87,7 +87,7 @@ fn sound_held(alloc: Global, writes: &[u64]) -> Result<Held, AllocError> {
 
 // What listing the file answers where the first, the second or the third call on the report fails.
 #[test]
-fn a_report_that_fails_is_told_by_the_list(rt: HostRuntime) {
+fn a_report_that_fails_is_answered_by_the_list(rt: HostRuntime) {
     let alloc = rt.alloc();
     let listed = [
         listed(alloc, &[0], b"0 152"),
@@ -110,9 +110,9 @@ fn show_fails(
 }
 
 #[test]
-fn devices_that_fail_are_told(rt: HostRuntime) {
+fn devices_that_fail_are_answered(rt: HostRuntime) {
     let alloc = rt.alloc();
-    let told = (
+    let seen = (
         show_fails(alloc, None, &[], &[0]),
         show_fails(alloc, Some(0), &[0], &[]),
         sound_held(alloc, &[0]),
@@ -124,5 +124,5 @@ fn devices_that_fail_are_told(rt: HostRuntime) {
         Ok((Err(DecodeFault::Write), 2_352)),
         Ok((Err(DecodeFault::Write), 4_704)),
     );
-    assert_eq!(rt; told, wanted);
+    assert_eq!(rt; seen, wanted);
 }

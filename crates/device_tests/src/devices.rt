@@ -84,8 +84,8 @@ fn a_source_in_memory_gives_its_pieces_and_fails_as_planned(rt: HostRuntime) {
 #[test]
 fn an_honest_source_gives_all_that_is_asked(rt: HostRuntime) {
     let mut source = HonestSource::new(&[1, 2, 3, 4, 5]);
-    let told = (source.size(), read_from(&mut source, 1));
-    same(&rt, &told, &(Ok(5), (Ok(4), [2, 3, 4, 5])));
+    let seen = (source.size(), read_from(&mut source, 1));
+    same(&rt, &seen, &(Ok(5), (Ok(4), [2, 3, 4, 5])));
 }
 
 // A piece is appended: the answer, and whether these bytes are written then.
@@ -306,9 +306,9 @@ fn a_file_that_the_disk_refuses_is_a_failure(rt: HostRuntime) {
 }
 
 // The size of a file, what reading answers from byte 2 on and behind its end, and the bytes from byte 2 on.
-type Told = (u64, Result<usize, Failed>, Result<usize, Failed>, [u8; 6]);
+type Seen = (u64, Result<usize, Failed>, Result<usize, Failed>, [u8; 6]);
 
-fn read_file<D: Files>(disk: &D) -> Result<Told, Failed> {
+fn read_file<D: Files>(disk: &D) -> Result<Seen, Failed> {
     let mut source = FileSource::new(disk, "read.bin");
     let size = source.size()?;
     let mut out = [0u8; 6];
@@ -327,7 +327,7 @@ fn size_or_reason<D: Files>(disk: &D) -> (Result<u64, Failed>, Option<ErrorKind>
 // Whether a file of seven bytes is made and removed, what reading it tells, and its size when it is gone.
 type ReadAndGone = (
     [bool; 2],
-    Result<Told, Failed>,
+    Result<Seen, Failed>,
     (Result<u64, Failed>, Option<ErrorKind>),
 );
 
@@ -340,9 +340,9 @@ fn read_and_gone<D: Files>(disk: &D) -> ReadAndGone {
 
 #[test]
 fn a_file_is_read_as_it_is(rt: HostRuntime) {
-    let told = (7, Ok(5), Ok(0), *b"ven b\0");
+    let seen = (7, Ok(5), Ok(0), *b"ven b\0");
     let absent = (Err(Failed), Some(ErrorKind::NotFound));
-    same(&rt, &read_and_gone(&rt), &([true; 2], Ok(told), absent));
+    same(&rt, &read_and_gone(&rt), &([true; 2], Ok(seen), absent));
 }
 
 // The size of a file that ends below it when it is read, whether it was made to, the answer behind that end, and why.
@@ -356,7 +356,7 @@ fn read_shrunk<D: Files>(disk: &D) -> Result<Shrunk, Failed> {
     Ok((size, is_cut, behind, kind_of(source.reason())))
 }
 
-// What reading a folder answers, whose size is told.
+// What reading a folder answers, whose size is answered.
 fn read_folder<D: Files>(disk: &D) -> Result<Result<usize, Failed>, Failed> {
     let mut folder = FileSource::new(disk, ".");
     folder.size()?;

@@ -45,20 +45,20 @@ pieces_at f xs i d h =
 cut_behind : (old mid new : Option (List ℕ)) (done piece rest all : List ℕ) → all ≡ done ++ (piece ++ rest) →
     mid ≡ and_then old done → IsCutShort mid piece new → IsCutShort old all new
 cut_behind old mid new done piece rest all e is cut =
-    let within : cut.kept ≤ length piece = cut.within in
+    let within : cut.taken ≤ length piece = cut.within in
     let long : length all ≡ length done + (length piece + length rest) =
     ap length e ∙ omega (arith, length-append done (piece ++ rest), length-append piece rest) in
-    let front : take (length done + cut.kept) all ≡ done ++ take cut.kept piece =
-    ap (take (length done + cut.kept)) e
-    ∙ take-add (length done) cut.kept (done ++ (piece ++ rest))
-    ∙ rw (take_at done (piece ++ rest) (length done) refl, drop_at done (piece ++ rest) (length done) refl, take-append-le cut.kept piece rest within) refl in
+    let front : take (length done + cut.taken) all ≡ done ++ take cut.taken piece =
+    ap (take (length done + cut.taken)) e
+    ∙ take-add (length done) cut.taken (done ++ (piece ++ rest))
+    ∙ rw (take_at done (piece ++ rest) (length done) refl, drop_at done (piece ++ rest) (length done) refl, take-append-le cut.taken piece rest within) refl in
     record {
-      kept = length done + cut.kept;
+      taken = length done + cut.taken;
       within = omega arith;
       written =
           cut.written
-          ∙ ap (λ o. and_then o (take cut.kept piece)) is
-          ∙ and_then-twice old done (take cut.kept piece)
+          ∙ ap (λ o. and_then o (take cut.taken piece)) is
+          ∙ and_then-twice old done (take cut.taken piece)
           ∙ ap (and_then old) (sym front);
     }
 

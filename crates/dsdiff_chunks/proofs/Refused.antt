@@ -66,7 +66,7 @@ at_version v body =
     }
 
 abbrev pub kept_by : List ℕ → ℕ → List ℕ → List ℕ → Origin
-kept_by body sound cmpr tail = record { sound = sound; pad = get_or body 9 0; cmpr = cmpr; kept = tail }
+kept_by body sound cmpr behind = record { sound = sound; pad = get_or body 9 0; cmpr = cmpr; kept = behind }
 
 abbrev second : List ℕ → Origin
 second body = record {
@@ -100,8 +100,8 @@ bad_length body e bad = bad_second_is body e ∙ or_left _ _ (or_left _ _ (or_le
     at len (inl short) = or_left (len below 30) (len above 131086) (lt-ltb len 30 short)
     at len (inr long) = or_right (len below 30) (len above 131086) (lt-ltb 131086 len long.1)
 
-pub long_tail : (body : List ℕ) → origin_version body ≡ 2 → 65536 < kept_length body → bad_version_2 body ≡ true
-long_tail body e lt =
+pub many_behind : (body : List ℕ) → origin_version body ≡ 2 → 65536 < kept_length body → bad_version_2 body ≡ true
+many_behind body e lt =
     bad_second_is body e
     ∙ or_left _ _ (or_left _ _ (or_right (outside 30 131086 (length body)) (kept_length body above 65536) (lt-ltb 65536 (kept_length body) lt)))
 
@@ -121,10 +121,10 @@ needless_pad body e even ne =
 pub lawful_second : (body : List ℕ) → origin_version body ≡ 2 → 30 ≤ length body → length body ≤ 131086 → kept_length body ≤ 65536 →
     length body ≤ 65550 + kept_length body → ((number_at body 1 8 % 2 ≡ 0) × (get_or body 9 0 ≡ 0)) ⊎ (number_at body 1 8 % 2 ≡ 0 → ⊥) →
     bad_version_2 body ≡ false
-lawful_second body e least most tail cmpr padded =
+lawful_second body e least most behind cmpr padded =
     bad_second_is body e
     ∙ or_from _ _ (or_from _ _ (or_from _ _ (or_from _ _ (le-ltb (length body) 30 least) (le-ltb 131086 (length body) most))
-    (le-ltb 65536 (kept_length body) tail)) (le-ltb (65550 + kept_length body) (length body) cmpr))
+    (le-ltb 65536 (kept_length body) behind)) (le-ltb (65550 + kept_length body) (length body) cmpr))
     (no_needless_pad (number_at body 1 8) (get_or body 9 0) padded)
 
 -- `CMPR` of a body that is too short for one is empty
@@ -141,9 +141,9 @@ pub pad_of_even : (sound pad : ℕ) → ((sound % 2 ≡ 0) × (pad ≡ 0)) ⊎ (
 pad_of_even sound pad (inl both) even = both.1
 pad_of_even sound pad (inr odd) even = absurd (odd even)
 
-same_second : (body : List ℕ) (sound s : ℕ) (cmpr w tail t : List ℕ) → sound ≡ s → cmpr ≡ w → tail ≡ t →
-    kept_by body sound cmpr tail ≡ kept_by body s w t
-same_second body sound s cmpr w tail t p q r = rw (p, q, r) refl
+same_second : (body : List ℕ) (sound s : ℕ) (cmpr w behind t : List ℕ) → sound ≡ s → cmpr ≡ w → behind ≡ t →
+    kept_by body sound cmpr behind ≡ kept_by body s w t
+same_second body sound s cmpr w behind t p q r = rw (p, q, r) refl
 
 pub parts_are : (body : List ℕ) (sound kept end low : ℕ) → origin_version body ≡ 2 → sound ≡ number_at body 1 8 → kept ≡ kept_length body →
     end ≡ length body - kept → low ≡ min end 14 →

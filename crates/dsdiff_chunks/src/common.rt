@@ -22,7 +22,7 @@ use dsdiff_spec::FileFault;
 use dst_streams::Source;
 use std::alloc::Global;
 
-/// The body of `PROP`, and what it tells.
+/// The body of `PROP`, and what it says.
 #[derive(Drop)]
 pub struct Prop {
     pub body: Vec<u8>,

@@ -1,4 +1,4 @@
-// The body of `PROP`: its chunks, and what they tell.
+// The body of `PROP`: its chunks, and what they say.
 ghost use Rattle.std.specs.Prelude.{◌≡◌, ◌∷◌, [], ◌+◌, ◌^◌, ◌≤◌, true, false, length, take, filter, bytes_eq, IfOk, IfErr, OnOk, IfNone, IfSome, Some, None};
 ghost use Rattle.byteorder.specs.Endian.{big_number};
 ghost use Rattle.chunk_view.specs.Placed.{head_behind};
@@ -14,7 +14,7 @@ use chunk_view::{ChunkView, Chunks, channels_of, compression_of, rate_of, split_
 use dsdiff_spec::FileFault;
 use dst_num::Channels;
 
-/// What a body of `PROP` tells of the sound.
+/// What a body of `PROP` says of the sound.
 #[derive(Clone, Copy, Debug, PartialEq, Eq)]
 pub struct PropFields {
     pub channels: Channels,
@@ -55,7 +55,7 @@ fn check_chunks(start: u64, body: &[u8]) -> Result<(), FileFault>
     }
 }
 
-// What the chunks tell, by the rules on each of them.
+// What the chunks say, by the rules on each of them.
 fn read_fields(body: &[u8]) -> Result<PropFields, FileFault>
     requires short { length body.now ≤ 65536 }
     requires of_type { type_fault body.now ≡ None }

@@ -99,8 +99,8 @@ module _ (file : List ℕ) (picks : Picks) (e : IsEncoded file picks)
     pub coded_form : accepted g ≡ form_of_kind coded g
     coded_form = ap (λ k. form_of_kind k g) (kind_is file e.p (accepted file) stored e.frames e.exact g e.made)
 
-    pub rules_kept : form_fault g ≡ None
-    rules_kept = form_rules file e.p (accepted file) stored e.frames e.exact g e.made
+    pub rules_hold : form_fault g ≡ None
+    rules_hold = form_rules file e.p (accepted file) stored e.frames e.exact g e.made
 
     sound_is : (accepted g).sound ≡ head_behind (coded_pre e.p) (dst_chunk stored)
     sound_is = sound_head_is file e.p (accepted file) stored e.frames e.exact g e.made
@@ -189,7 +189,7 @@ module _ (file : List ℕ) (picks : Picks) (e : IsEncoded file picks)
 
     pub is_answered : IsAnswered g
     is_answered = record {
-      rules = rules_kept;
+      rules = rules_hold;
       is_coded = kind_is file e.p (accepted file) stored e.frames e.exact g e.made;
       walked = walk_of_coded.none;
       found = walk_of_coded.heads;

@@ -27,9 +27,9 @@ use Rattle.dsdiff_laws.proofs.CutOrigin.{size_left, pad_left}
 use Rattle.dsdiff_laws.proofs.CutRules.{CutParts, KeptOf}
 use Rattle.dsdiff_laws.proofs.Passed.{passed, all_passed, passed_are, before_passed, behind_passed}
 
-abbrev pub kept_chunks : Bool → ℕ → ℕ → ℕ → Option Origin → List Chunk
-kept_chunks final n first last None = []
-kept_chunks final n first last (Some o) = origin_piece (size_left final n o first last) (pad_left final o) o.cmpr [] ∷ []
+abbrev pub origin_chunks : Bool → ℕ → ℕ → ℕ → Option Origin → List Chunk
+origin_chunks final n first last None = []
+origin_chunks final n first last (Some o) = origin_piece (size_left final n o first last) (pad_left final o) o.cmpr [] ∷ []
 
 module _ (file : List ℕ) (first last : ℕ) (le : first ≤ last) (c : CutParts file first last)
   where
@@ -95,11 +95,11 @@ module _ (file : List ℕ) (first last : ℕ) (le : first ≤ last) (c : CutPart
     abbrev pub es : List Entry
     es = entries_among first_at m.mid
 
-    abbrev pub kept : List Chunk
-    kept = kept_chunks (is_last (accepted file) last) (sound_bytes_of (accepted file)) first last (accepted file).origin
+    abbrev pub origin_added : List Chunk
+    origin_added = origin_chunks (is_last (accepted file) last) (sound_bytes_of (accepted file)) first last (accepted file).origin
 
     abbrev pub behind : List Chunk
-    behind = dsti_chunk es ∷ kept ++ passed c.p.last
+    behind = dsti_chunk es ∷ origin_added ++ passed c.p.last
 
     before_copied : copied file form (before_sound form) ≡ map bytes_of_chunk pre
     before_copied = before_passed file c.p
@@ -119,7 +119,7 @@ module _ (file : List ℕ) (first last : ℕ) (le : first ≤ last) (c : CutPart
         no_more : (n : ℕ) → n ≡ n + 0
         no_more n = omega arith
 
-    origin_is : (o : Option Origin) → cut_origin form first last o ≡ map bytes_of_chunk (kept_chunks (is_last form last) (sound_bytes_of form) first last o)
+    origin_is : (o : Option Origin) → cut_origin form first last o ≡ map bytes_of_chunk (origin_chunks (is_last form last) (sound_bytes_of form) first last o)
     origin_is None = refl
     origin_is (Some o) = by_last (is_last form last)
       where
@@ -134,14 +134,14 @@ module _ (file : List ℕ) (first last : ℕ) (le : first ≤ last) (c : CutPart
     unfolding cut_chunks
     chunks_are =
         let d : List ℕ → List ℕ = λ w. chunk "DST " (frte (last + 1 - first) ++ w) in
-        let three : List (List ℕ) = bytes_of_chunk dst ∷ bytes_of_chunk (dsti_chunk es) ∷ map bytes_of_chunk kept in
+        let three : List (List ℕ) = bytes_of_chunk dst ∷ bytes_of_chunk (dsti_chunk es) ∷ map bytes_of_chunk origin_added in
         let behind_copied : copied file form (behind_sound form) ≡ map bytes_of_chunk (passed c.p.last) = behind_passed file c.p in
         ap₂ (λ (w : List ℕ) (i : List ℕ). copied file form (before_sound form) ++ d w ∷ i ∷ cut_origin form first last form.origin
         ++ copied file form (behind_sound form)) frames_bytes (ap dsti entries_moved)
         ∙ ap (λ ks. copied file form (before_sound form) ++ bytes_of_chunk dst ∷ bytes_of_chunk (dsti_chunk es) ∷ ks ++ copied file form (behind_sound form))
         (origin_is form.origin)
         ∙ ap₂ (λ (a b : List (List ℕ)). a ++ three ++ b) before_copied behind_copied
-        ∙ joined pre kept (passed c.p.last)
+        ∙ joined pre origin_added (passed c.p.last)
       where
         joined : (a k l : List Chunk) → map bytes_of_chunk a ++ (bytes_of_chunk dst ∷ bytes_of_chunk (dsti_chunk es) ∷ map bytes_of_chunk k)
             ++ map bytes_of_chunk l ≡ map bytes_of_chunk (a ++ dst ∷ dsti_chunk es ∷ (k ++ l))
@@ -175,13 +175,13 @@ module _ (file : List ℕ) (first last : ℕ) (le : first ≤ last) (c : CutPart
           arith,
           length-body pre (dst ∷ behind),
           length-cons dst behind,
-          length-cons (dsti_chunk es) (kept ++ passed c.p.last),
+          length-cons (dsti_chunk es) (origin_added ++ passed c.p.last),
           length-parts dst,
           length-parts (dsti_chunk es),
         )
 
     kept_whole : (o : Option Origin) → ((k : Origin) → o ≡ Some k → length k.cmpr ≤ 65536) →
-        AllByRecursion IsChunk (kept_chunks (is_last form last) (sound_bytes_of form) first last o)
+        AllByRecursion IsChunk (origin_chunks (is_last form last) (sound_bytes_of form) first last o)
     kept_whole None short = tt
     kept_whole (Some k) short =
         let size = size_left (is_last form last) (sound_bytes_of form) k first last in
@@ -201,12 +201,12 @@ module _ (file : List ℕ) (first last : ℕ) (le : first ≤ last) (c : CutPart
 
     new_are : AreChunks may_lack (pre ++ dst ∷ behind)
     new_are =
-        let three : AllByRecursion IsChunk (dst ∷ dsti_chunk es ∷ kept) = (
+        let three : AllByRecursion IsChunk (dst ∷ dsti_chunk es ∷ origin_added) = (
           is_whole "DST " dst.body 0 refl (omega (arith, fits, inside)),
           (is_whole "DSTI" (dsti_chunk es).body 0 refl (omega (arith, fits, inside)), kept_whole form.origin (short_cmpr c.kept)),
         ) in
         are_joined may_lack pre (dst ∷ behind) pre_whole
-        (are_joined may_lack (dst ∷ dsti_chunk es ∷ kept) (passed c.p.last) three
+        (are_joined may_lack (dst ∷ dsti_chunk es ∷ origin_added) (passed c.p.last) three
         (passed_are may_lack c.p.last (others_are may_lack c.p.sound c.p.last old_whole.1)))
 
     pub made : IsFile (cut_file file first last) (pre ++ dst ∷ behind) []

@@ -28,7 +28,7 @@ use Rattle.dsdiff_laws.proofs.OriginRead.{IsOrigin, origin_is_read, origin_is_la
 use Rattle.dsdiff_laws.proofs.CutOrigin.{IsOriginOf, size_left, pad_left, origin_of_cut}
 use Rattle.dsdiff_laws.proofs.CutRules.{CutParts}
 use Rattle.dsdiff_laws.proofs.Passed.{passed, all_passed, passed_lack}
-use Rattle.dsdiff_laws.proofs.CutChunks.{kept_chunks, m, dst, es, kept, behind, made}
+use Rattle.dsdiff_laws.proofs.CutChunks.{origin_chunks, m, dst, es, origin_added, behind, made}
 
 -- what `KEPT` says of the sound that is left
 abbrev pub left : Bool → ℕ → ℕ → ℕ → Option Origin → Option Origin
@@ -36,7 +36,7 @@ left final n first last None = None
 left final n first last (Some o) =
     Some (record { sound = size_left final n o first last; pad = pad_left final o; cmpr = o.cmpr; kept = [] })
 
-kept_lacks : (f : List ℕ → Bool) (final : Bool) (n first last : ℕ) (o : Option Origin) → f (codes "KEPT") ≡ false → Lacks f (kept_chunks final n first last o)
+kept_lacks : (f : List ℕ → Bool) (final : Bool) (n first last : ℕ) (o : Option Origin) → f (codes "KEPT") ≡ false → Lacks f (origin_chunks final n first last o)
 kept_lacks f final n first last None e = tt
 kept_lacks f final n first last (Some o) e = (e, tt)
 
@@ -66,7 +66,7 @@ module _ (file : List ℕ) (first last : ℕ) (le : first ≤ last) (c : CutPart
     -- ids that they lack
     behind_lacks : (f : List ℕ → Bool) → f (codes "DSTI") ≡ false → f (codes "KEPT") ≡ false → Lacks f (passed c.p.last) → Lacks f (behind file first last le c)
     behind_lacks f a b l =
-        all_append (λ (d : Chunk). f d.id ≡ false) (dsti_chunk (es file first last le c) ∷ kept file first last le c) (passed c.p.last)
+        all_append (λ (d : Chunk). f d.id ≡ false) (dsti_chunk (es file first last le c) ∷ origin_added file first last le c) (passed c.p.last)
         (a, kept_lacks f final (sound_bytes_of form) first last form.origin b) l
 
     last_apart : AreApart (passed c.p.last)
@@ -149,7 +149,7 @@ module _ (file : List ℕ) (first last : ℕ) (le : first ≤ last) (c : CutPart
     nothing_kept none =
         let whole : pre' ++ dst file first last le c ∷ behind file first last le c ≡ before_kept ++ passed c.p.last =
         ap (λ o. pre' ++ dst file first last le c ∷ (dsti_chunk (es file first last le c)
-        ∷ kept_chunks final (sound_bytes_of form) first last o ++ passed c.p.last)) none ∙ regrouped (passed c.p.last) in
+        ∷ origin_chunks final (sound_bytes_of form) first last o ++ passed c.p.last)) none ∙ regrouped (passed c.p.last) in
         ap (named "KEPT") (coded_form.chunks_are g as_form ∙ ap (heads_from 16) whole)
         ∙ none_named (λ id. id is "KEPT") 16 (before_kept ++ passed c.p.last)
         (all_append (λ (d : Chunk). (d.id is "KEPT") ≡ false) before_kept (passed c.p.last) before_lacks (no_added (passed c.p.last) (passed_lack c.p.last)).1)
@@ -162,7 +162,7 @@ module _ (file : List ℕ) (first last : ℕ) (le : first ≤ last) (c : CutPart
         pre' ++ dst file first last le c ∷ behind file first last le c ≡ before_kept ++ new_kept o ∷ passed c.p.last
     with_kept o says =
         ap (λ k. pre' ++ dst file first last le c ∷ (dsti_chunk (es file first last le c)
-        ∷ kept_chunks final (sound_bytes_of form) first last k ++ passed c.p.last)) says
+        ∷ origin_chunks final (sound_bytes_of form) first last k ++ passed c.p.last)) says
         ∙ regrouped (new_kept o ∷ passed c.p.last)
 
     one_kept : (o : Origin) → form.origin ≡ Some o → all "KEPT" g ≡ head_behind before_kept (new_kept o) ∷ []
@@ -223,8 +223,8 @@ module _ (file : List ℕ) (first last : ℕ) (le : first ≤ last) (c : CutPart
         ((c.p.version ∷ passed c.p.front ++ c.p.prop ∷ passed c.p.middle) ++ dst file first last le c ∷ behind file first last le c)
     heads_are = coded_form.chunks_are g as_form
 
-    pub rules_kept : form_fault (cut_file file first last) ≡ None
-    rules_kept = all_rules g as_form good_kept
+    pub rules_hold : form_fault (cut_file file first last) ≡ None
+    rules_hold = all_rules g as_form good_kept
 
     pub is_coded : kind (cut_file file first last) ≡ coded
     is_coded = kind_read g as_form

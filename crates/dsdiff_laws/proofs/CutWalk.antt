@@ -31,8 +31,8 @@ use Rattle.dsdiff_laws.proofs.MiddleFrames.{length-entries_among, frames_in_midd
 use Rattle.dsdiff_laws.proofs.CutOrigin.{size_left, pad_left}
 use Rattle.dsdiff_laws.proofs.CutRules.{CutParts, KeptOf}
 use Rattle.dsdiff_laws.proofs.Passed.{passed, passed_lack, passed_bytes}
-use Rattle.dsdiff_laws.proofs.CutChunks.{kept_chunks, m, dst, es, kept, behind, fits, frames_bytes, made}
-use Rattle.dsdiff_laws.proofs.CutForm.{same_shape, frames_is, sound_is, heads_are, rules_kept, is_coded}
+use Rattle.dsdiff_laws.proofs.CutChunks.{origin_chunks, m, dst, es, origin_added, behind, fits, frames_bytes, made}
+use Rattle.dsdiff_laws.proofs.CutForm.{same_shape, frames_is, sound_is, heads_are, rules_hold, is_coded}
 use Rattle.dsdiff_laws.proofs.Answered.{IsAnswered}
 use Rattle.dsdiff_laws.proofs.Accepting.{all_parts, written_bytes, body_parts, body_joined, index_bytes, four, frte_bytes, origin_bytes}
 use Rattle.dsdiff_laws.proofs.Accepting.{form_is_bytes, form_body_bytes}
@@ -115,7 +115,7 @@ module _ (file : List ℕ) (first last : ℕ) (le : first ≤ last) (c : CutPart
     index = dsti_chunk (es file first last le c)
 
     abbrev rest : List Chunk
-    rest = kept file first last le c ++ passed c.p.last
+    rest = origin_added file first last le c ++ passed c.p.last
 
     no_index : (cs : List Chunk) → Lacks added_id cs → Lacks (λ id. id is "DSTI") cs
     no_index cs l = (either_lacks (λ id. id is "DSTI") (λ id. id is "KEPT") cs l).0
@@ -130,10 +130,10 @@ module _ (file : List ℕ) (first last : ℕ) (le : first ≤ last) (c : CutPart
 
     rest_lacks : Lacks (λ id. id is "DSTI") rest
     rest_lacks =
-        all_append (λ (d : Chunk). (d.id is "DSTI") ≡ false) (kept file first last le c) (passed c.p.last) (by_origin form.origin)
+        all_append (λ (d : Chunk). (d.id is "DSTI") ≡ false) (origin_added file first last le c) (passed c.p.last) (by_origin form.origin)
         (no_index (passed c.p.last) (passed_lack c.p.last))
       where
-        by_origin : (o : Option Origin) → Lacks (λ id. id is "DSTI") (kept_chunks (is_last form last) (sound_bytes_of form) first last o)
+        by_origin : (o : Option Origin) → Lacks (λ id. id is "DSTI") (origin_chunks (is_last form last) (sound_bytes_of form) first last o)
         by_origin None = tt
         by_origin (Some o) = (refl, tt)
 
@@ -167,7 +167,7 @@ module _ (file : List ℕ) (first last : ℕ) (le : first ≤ last) (c : CutPart
 
     pub is_answered : IsAnswered (cut_file file first last)
     is_answered = record {
-      rules = rules_kept file first last le c;
+      rules = rules_hold file first last le c;
       is_coded = is_coded file first last le c;
       walked = walk.none;
       found = walk.heads;
@@ -178,7 +178,7 @@ module _ (file : List ℕ) (first last : ℕ) (le : first ≤ last) (c : CutPart
 
     -- ---- it is bytes
     kept_bytes : (o : Option Origin) → ((k : Origin) → o ≡ Some k → AreBytes k.cmpr × (k.pad < 256)) →
-        AreBytes (body_bytes (kept_chunks (is_last form last) (sound_bytes_of form) first last o))
+        AreBytes (body_bytes (origin_chunks (is_last form last) (sound_bytes_of form) first last o))
     kept_bytes None are = tt
     kept_bytes (Some k) are =
         let size = size_left (is_last form last) (sound_bytes_of form) k first last in
@@ -218,7 +218,8 @@ module _ (file : List ℕ) (first last : ℕ) (le : first ≤ last) (c : CutPart
         (bytes_joined (frte (last + 1 - first)) (body_bytes mid) (frte_bytes (last + 1 - first)) mid_bytes) (omega arith) in
         let entries = written_bytes "DSTI" index.body 0 (four 68 83 84 73 (omega arith) (omega arith) (omega arith) (omega arith))
         (index_bytes (es file first last le c)) (omega arith) in
-        let others = body_joined (kept file first last le c) (passed c.p.last) (kept_bytes form.origin (said_bytes c.kept)) (passed_bytes c.p.last last_ones) in
+        let others = body_joined (origin_added file first last le c) (passed c.p.last) (kept_bytes form.origin (said_bytes c.kept))
+        (passed_bytes c.p.last last_ones) in
         let all = body_joined pre (dst file first last le c ∷ behind file first last le c) before
         (bytes_joined (bytes_of_chunk (dst file first last le c)) (body_bytes (behind file first last le c)) sound
         (bytes_joined (bytes_of_chunk index) (body_bytes rest) entries others)) in

@@ -82,14 +82,14 @@ rules_of file none is_plain =
     let n3 = later_gives_none (prop_fault file) r3 n2 in
     let n4 : kind_fault plain file ≡ None = subst (λ k. kind_fault k file ≡ None) is_plain (later_gives_none (sound_fault file) r4 n3) in
     let room = room_fault (length (top_level file).heads) (prop_head file).size (form_size file) in
-    let tail = TailTooLong (length (behind_form file)) when length (behind_form file) above 65536 in
-    let p3 = room otherwise tail in
+    let long = TailTooLong (length (behind_form file)) when length (behind_form file) above 65536 in
+    let p3 = room otherwise long in
     let p2 = CodedChunk (the_first (coded_chunks file)).place when not (length (coded_chunks file) == 0) otherwise p3 in
     let p1 = TooManyFrames when frames_needed file above 1000000 otherwise p2 in
     let q1 = later_gives_none (SoundUneven when not ((sound_head file).size % channel_count (prop file) == 0)) p1 n4 in
     let q2 = later_gives_none (TooManyFrames when frames_needed file above 1000000) p2 q1 in
     let q3 = later_gives_none (CodedChunk (the_first (coded_chunks file)).place when not (length (coded_chunks file) == 0)) p3 q2 in
-    let rooms = first_gives_none room tail q3 in
+    let rooms = first_gives_none room long q3 in
     let t2 = FormTooLarge when form_size file above 2 ^ 49 in
     let t1 = PropTooLong when (prop_head file).size above 65520 otherwise t2 in
     let u1 = later_gives_none (TooManyChunks when length (top_level file).heads above 1022) t1 rooms in
@@ -100,7 +100,7 @@ rules_of file none is_plain =
       few = ltb-false 1022 _ (when_not TooManyChunks _ (first_gives_none _ t1 rooms));
       prop_most = ltb-false 65520 _ (when_not PropTooLong _ (first_gives_none _ t2 u1));
       size_most = ltb-false (2 ^ 49) _ (when_not FormTooLarge _ (later_gives_none (PropTooLong when (prop_head file).size above 65520) t2 u1));
-      behind_most = ltb-false 65536 _ (when_not (TailTooLong (length (behind_form file))) _ (later_gives_none room tail q3));
+      behind_most = ltb-false 65536 _ (when_not (TailTooLong (length (behind_form file))) _ (later_gives_none room long q3));
     }
 
 -- ---- the parts

@@ -13,7 +13,7 @@ unfoldable dsf_faults_open : ⊤
 unfolding dsf_fault refusal
 dsf_faults_open = tt
 
--- a head of 92 bytes by its channel type, channels, rate, bits per sample, samples and the size of its blocks; file size, place of
+-- a header of 92 bytes by its channel type, channels, rate, bits per sample, samples and the size of its blocks; file size, place of
 -- metadata and the reserved field are 7, 8 and 9
 abbrev headed : List ℕ → List ℕ → List ℕ → List ℕ → List ℕ → List ℕ → List ℕ
 headed type channels rate order samples size =
@@ -43,17 +43,17 @@ is_refused_so fault faults = faults ≡ map (λ _. Some fault) faults
 abbrev are_accepted : List (Option FileFault) → Type 0
 are_accepted faults = faults ≡ map (λ _. None) faults
 
-pub head_alone_is_a_file : dsf_fault silent ≡ None
+pub header_alone_is_a_file : dsf_fault silent ≡ None
 unfolding dsf_faults_open
-head_alone_is_a_file = refl
+header_alone_is_a_file = refl
 
 pub a_dsf_file_is_accepted : refusal (encode_dsf 0) dsf ≡ None
 unfolding dsf_faults_open
 a_dsf_file_is_accepted = refl
 
-pub shorter_than_its_head : dsf_fault (take 91 silent) ∷ dsf_fault [] ∷ [] ≡ Some DsfForm ∷ Some DsfForm ∷ []
+pub shorter_than_its_header : dsf_fault (take 91 silent) ∷ dsf_fault [] ∷ [] ≡ Some DsfForm ∷ Some DsfForm ∷ []
 unfolding dsf_faults_open
-shorter_than_its_head = refl
+shorter_than_its_header = refl
 
 -- ids and sizes, each at its first and last byte
 pub another_id_or_size :

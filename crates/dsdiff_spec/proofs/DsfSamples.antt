@@ -22,9 +22,9 @@ unfoldable dsf_samples_open : ⊤
 unfolding forms_open plain_form sound_of number_from digits
 dsf_samples_open = tt
 
--- ---- what a head says
-pub what_the_head_says : dsf_of dsf ≡ record { channels = 1; multiple = 1; samples = 12; type = 1; bits = 1 }
-what_the_head_says = refl
+-- ---- what a header says
+pub what_the_header_says : dsf_of dsf ≡ record { channels = 1; multiple = 1; samples = 12; type = 1; bits = 1 }
+what_the_header_says = refl
 
 -- each number by all of its bytes, the least first; 202,050,057 samples a second are more than 71 multiples and less than 72
 pub numbers_of_the_head :
@@ -160,14 +160,14 @@ pub dsfk_of_another_size_or_twice :
     ≡ Some DsfKeptBad ∷ Some DsfKeptBad ∷ Some DsfKeptBad ∷ []
 dsfk_of_another_size_or_twice = refl
 
--- ---- what is written: a head, and a block of each channel in turn
-pub head_of_a_dsf_file :
+-- ---- what is written: a header, and a block of each channel in turn
+pub header_of_a_dsf_file :
     dsf_header (record { channels = 5; multiple = 4; samples = 32769; type = 200; bits = 8 }) ≡
     codes "DSD " ++ (28 ∷ 0 ∷ 0 ∷ 0 ∷ 0 ∷ 0 ∷ 0 ∷ 0 ∷ 92 ∷ 160 ∷ 0 ∷ 0 ∷ 0 ∷ 0 ∷ 0 ∷ 0 ∷ 0 ∷ 0 ∷ 0 ∷ 0 ∷ 0 ∷ 0 ∷ 0 ∷ 0 ∷ [])
     ++ codes "fmt " ++ (52 ∷ 0 ∷ 0 ∷ 0 ∷ 0 ∷ 0 ∷ 0 ∷ 0 ∷ 1 ∷ 0 ∷ 0 ∷ 0 ∷ 0 ∷ 0 ∷ 0 ∷ 0 ∷ 200 ∷ 0 ∷ 0 ∷ 0 ∷ 5 ∷ 0 ∷ 0 ∷ 0 ∷ 0 ∷ 68 ∷ 172 ∷ 0 ∷ [])
     ++ (8 ∷ 0 ∷ 0 ∷ 0 ∷ 1 ∷ 128 ∷ 0 ∷ 0 ∷ 0 ∷ 0 ∷ 0 ∷ 0 ∷ 0 ∷ 16 ∷ 0 ∷ 0 ∷ 0 ∷ 0 ∷ 0 ∷ 0 ∷ [])
     ++ codes "data" ++ (12 ∷ 160 ∷ 0 ∷ 0 ∷ 0 ∷ 0 ∷ 0 ∷ 0 ∷ [])
-head_of_a_dsf_file = refl
+header_of_a_dsf_file = refl
 
 -- 172 is 10101100, and turned round 00110101
 pub bytes_of_samples :

@@ -40,8 +40,8 @@ begins_with_chunks_before file j bytes none o p =
 abbrev pub with_sound : List ℕ → List (List ℕ) → List ℕ
 with_sound file sounds = head_of file ++ take (sound_size file) (concat sounds) ++ sound_pad (sound_size file) (accepted file)
 
-regroup : (a b pad behind tail : List ℕ) → a ++ b ++ (pad ++ behind ++ tail) ≡ a ++ b ++ pad ++ behind ++ tail
-regroup a b pad behind tail = simp append_assoc refl
+regroup : (a b pad behind last : List ℕ) → a ++ b ++ (pad ++ behind ++ last) ≡ a ++ b ++ pad ++ behind ++ last
+regroup a b pad behind last = simp append_assoc refl
 
 pub whole_in_order : (file : List ℕ) (sounds : List (List ℕ)) →
     head_of file ++ take (sound_size file) (concat sounds) ++ end_of file

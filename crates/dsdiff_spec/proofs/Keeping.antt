@@ -5,7 +5,7 @@ use Rattle.byteorder.specs.Endian.{big_bytes}
 use Rattle.dsdiff_spec.specs.Origin.{origin_of, is_bad_origin}
 use Rattle.dsdiff_spec.specs.Rules.{form}
 use Rattle.dsdiff_spec.specs.Written.{cmpr_plain}
-use Rattle.dsdiff_spec.proofs.Files.{tailed_coded}
+use Rattle.dsdiff_spec.proofs.Files.{three_behind_coded}
 use Rattle.dsdiff_spec.proofs.OddFiles.{kept_one}
 use Rattle.dsdiff_spec.proofs.Forms.{forms_open, but}
 use Rattle.dsdiff_spec.proofs.Built.{piece, file_of, version, cmpr, prop, dst, mono_coded}
@@ -15,26 +15,26 @@ use Rattle.dsdiff_spec.specs.declared.faults.FileFault.TheVariants.{KeptBad}
 pub version_1_is_read : origin_of (take 41 (drop 164 kept_one)) ≡ record { sound = 0; pad = 0; cmpr = cmpr_plain; kept = [] }
 version_1_is_read = refl
 
-pub version_2_is_read : origin_of (take 49 (drop 164 tailed_coded)) ≡ record { sound = 0; pad = 0; cmpr = cmpr_plain; kept = 1 ∷ 2 ∷ 3 ∷ [] }
+pub version_2_is_read : origin_of (take 49 (drop 164 three_behind_coded)) ≡ record { sound = 0; pad = 0; cmpr = cmpr_plain; kept = 1 ∷ 2 ∷ 3 ∷ [] }
 version_2_is_read = refl
 
-pub even_sound_has_no_pad_byte : form (but 173 1 tailed_coded) ≡ Err KeptBad
+pub even_sound_has_no_pad_byte : form (but 173 1 three_behind_coded) ≡ Err KeptBad
 unfolding forms_open
 even_sound_has_no_pad_byte = refl
 
-pub version_3_is_refused : form (but 164 3 tailed_coded) ≡ Err KeptBad
+pub version_3_is_refused : form (but 164 3 three_behind_coded) ≡ Err KeptBad
 unfolding forms_open
 version_3_is_refused = refl
 
-pub four_kept_bytes_are_not_there : form (but 177 4 tailed_coded) ≡ Err KeptBad
+pub four_kept_bytes_are_not_there : form (but 177 4 three_behind_coded) ≡ Err KeptBad
 unfolding forms_open
 four_kept_bytes_are_not_there = refl
 
-pub sound_of_one_byte_needs_a_frame : form (but 172 1 tailed_coded) ≡ Err KeptBad
+pub sound_of_one_byte_needs_a_frame : form (but 172 1 three_behind_coded) ≡ Err KeptBad
 unfolding forms_open
 sound_of_one_byte_needs_a_frame = refl
 
-pub kept_compression_is_of_plain_sound : form (but 192 84 tailed_coded) ≡ Err KeptBad
+pub kept_compression_is_of_plain_sound : form (but 192 84 three_behind_coded) ≡ Err KeptBad
 unfolding forms_open
 kept_compression_is_of_plain_sound = refl
 

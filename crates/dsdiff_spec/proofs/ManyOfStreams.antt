@@ -12,7 +12,7 @@ use Rattle.dsdiff_spec.specs.Chunks.{Chunk, bytes_of_chunk, IsChunk, Head, head_
 use Rattle.dsdiff_spec.specs.Parts.{form_end}
 use Rattle.dsdiff_spec.specs.declared.faults.FileFault.{FileFault}
 use Rattle.dsdiff_spec.specs.declared.faults.FileFault.TheVariants.{NotForm, Overrun, Version, PropMissing, TooManyChunks}
-use Rattle.dsdiff_spec.specs.Streams.{Stream, nothing_but, stopped, cut_off, up_to, kept, whole_end, frame_head_fault, with_frame, counted}
+use Rattle.dsdiff_spec.specs.Streams.{Stream, nothing_but, stopped, cut_off, up_to, unless, whole_end, frame_head_fault, with_frame, counted}
 use Rattle.dsdiff_spec.specs.Streams.{frames_from, Came, nothing_came, version_head_fault, form_head_fault, stream}
 use Rattle.dsdiff_spec.specs.Streams.{later_head_fault, chunk_head_fault, came_with, in_form, in_sound, frte_fault_at, front_of, with_front}
 use Rattle.dsdiff_spec.proofs.Tiling.{head_of, head_of_chunk, length_of_chunk, regroup_first, regroup_chunks}
@@ -33,38 +33,38 @@ frameless b e frame later = ap (λ c. if c then with_frame frame later else late
 uncounted : (b : Bool) → b ≡ false → (found : ℕ) → (if b then (found + 1) else found) ≡ found
 uncounted b e found = ap (λ c. if c then (found + 1) else found) e
 
-sound_passes : (w : List ℕ) (f : Shape) (told end most found place : ℕ) (h : Head) → head_at w place ≡ h → h.place ≡ place →
+sound_passes : (w : List ℕ) (f : Shape) (count end most found place : ℕ) (h : Head) → head_at w place ≡ h → h.place ≡ place →
     (h.id is "DSTF") ≡ false → next_place h ≤ end → next_place h ≤ length w →
-    frames_from w f told end (suc most) found place ≡ frames_from w f told end most found (next_place h)
-sound_passes w f told end most found place h e p d le there =
+    frames_from w f count end (suc most) found place ≡ frames_from w f count end most found (next_place h)
+sound_passes w f count end most found place h e p d le there =
     let other : ((head_at w place).id is "DSTF") ≡ false = ap (λ i. i.id is "DSTF") e ∙ d in
     let next : next_place (head_at w place) ≡ next_place h = ap next_place e in
     let size : body_end (head_at w place) ≡ body_end h = ap body_end e in
     let fault = within (Overrun (head_at w place).place) end (body_end (head_at w place)) _ (omega (arith, le, size))
     ∙ no_frame ((head_at w place).id is "DSTF") other _ None in
-    sound_has_chunk w f told end most found place (omega (arith, p, le))
-    (head_is_whole w end place (frame_head_fault f told end found (head_at w place)) (omega (arith, p, le)) (omega (arith, p, there))
+    sound_has_chunk w f count end most found place (omega (arith, p, le))
+    (head_is_whole w end place (frame_head_fault f count end found (head_at w place)) (omega (arith, p, le)) (omega (arith, p, there))
     ∙ ap (option_map stopped) fault)
     ∙ reaches w _ (body_end (head_at w place)) _ (omega (arith, there, size))
     ∙ frameless ((head_at w place).id is "DSTF") other _ _
     ∙ reaches w _ (whole_end end (head_at w place)) _ (omega (arith, there, next))
-    ∙ ap (λ n. frames_from w f told end most n (next_place (head_at w place))) (uncounted ((head_at w place).id is "DSTF") other found)
-    ∙ ap (frames_from w f told end most found) next
+    ∙ ap (λ n. frames_from w f count end most n (next_place (head_at w place))) (uncounted ((head_at w place).id is "DSTF") other found)
+    ∙ ap (frames_from w f count end most found) next
 
 -- ---- chunks that are no frames
 abbrev pub IsNoFrame : Chunk → Type 0
 IsNoFrame c = (c.id is "DSTF") ≡ false
 
-pub sound_leads_on : (w : List ℕ) (f : Shape) (told end found : ℕ) (cs : List Chunk) (front rest : List ℕ) (most more : ℕ) →
+pub sound_leads_on : (w : List ℕ) (f : Shape) (count end found : ℕ) (cs : List Chunk) (front rest : List ℕ) (most more : ℕ) →
     AllByRecursion IsChunk cs → AllByRecursion IsNoFrame cs → most ≡ length cs + more → w ≡ front ++ flat_map bytes_of_chunk cs ++ rest →
     length front + length (flat_map bytes_of_chunk cs) ≤ end →
-    frames_from w f told end most found (length front) ≡ frames_from w f told end more found (length front + length (flat_map bytes_of_chunk cs))
-sound_leads_on w f told end found [] front rest most more all none room p le =
+    frames_from w f count end most found (length front) ≡ frames_from w f count end more found (length front + length (flat_map bytes_of_chunk cs))
+sound_leads_on w f count end found [] front rest most more all none room p le =
     let same : length front ≡ length front + 0 = omega arith in
     let rest_of : most ≡ more = omega (arith, room) in
-    ap (λ n. frames_from w f told end n found (length front)) rest_of ∙ ap (frames_from w f told end more found) same
-sound_leads_on w f told end found (c ∷ cs) front rest zero more all none room p le = absurd (omega (arith, room))
-sound_leads_on w f told end found (c ∷ cs) front rest (suc most) more all none room p le =
+    ap (λ n. frames_from w f count end n found (length front)) rest_of ∙ ap (frames_from w f count end more found) same
+sound_leads_on w f count end found (c ∷ cs) front rest zero more all none room p le = absurd (omega (arith, room))
+sound_leads_on w f count end found (c ∷ cs) front rest (suc most) more all none room p le =
     let h = head_of c.id (length front) (length c.body) in
     let long = length_of_chunk c all.0 in
     let both = length-append (bytes_of_chunk c) (flat_map bytes_of_chunk cs) in
@@ -78,11 +78,11 @@ sound_leads_on w f told end found (c ∷ cs) front rest (suc most) more all none
     let next : next_place h ≡ length (front ++ bytes_of_chunk c) = omega (arith, long, moved) in
     let behind : length (front ++ bytes_of_chunk c) + length (flat_map bytes_of_chunk cs)
     ≡ length front + length (bytes_of_chunk c ++ flat_map bytes_of_chunk cs) = omega (arith, both, moved) in
-    sound_passes w f told end most found (length front) h here refl none.0 (omega (arith, le, both, long)) (omega (arith, whole, long))
-    ∙ ap (frames_from w f told end most found) next
-    ∙ sound_leads_on w f told end found cs (front ++ bytes_of_chunk c) rest most more all.1 none.1 (omega (arith, room))
+    sound_passes w f count end most found (length front) h here refl none.0 (omega (arith, le, both, long)) (omega (arith, whole, long))
+    ∙ ap (frames_from w f count end most found) next
+    ∙ sound_leads_on w f count end found cs (front ++ bytes_of_chunk c) rest most more all.1 none.1 (omega (arith, room))
     (p ∙ regroup_chunks front (bytes_of_chunk c) (flat_map bytes_of_chunk cs) rest) (omega (arith, le, both, moved))
-    ∙ ap (frames_from w f told end more found) behind
+    ∙ ap (frames_from w f count end more found) behind
 
 -- chunks stand in a stream from a place on
 pub record StandInSound (w : List ℕ) (place : ℕ) (cs : List Chunk) : Type 0 where
@@ -93,24 +93,24 @@ pub record StandInSound (w : List ℕ) (place : ℕ) (cs : List Chunk) : Type 0 
   pub bytes : w ≡ front ++ flat_map bytes_of_chunk cs ++ rest
   pub at_place : length front ≡ place
 
-pub chunks_4000000_may_come : (w : List ℕ) (f : Shape) (told end place : ℕ) (cs : List Chunk) → StandInSound w place cs → length cs ≤ 4000000 →
-    end ≡ place + length (flat_map bytes_of_chunk cs) → frames_from w f told end 4000000 0 place ≡ nothing_but (counted told 0)
-chunks_4000000_may_come w f told end place cs s le e =
-    ap (frames_from w f told end 4000000 0) (sym s.at_place)
-    ∙ sound_leads_on w f told end 0 cs s.front s.rest 4000000 (4000000 - length cs) s.each s.none (omega (arith, le)) s.bytes (omega (arith, e, s.at_place))
-    ∙ sound_ends w f told end (4000000 - length cs) 0 _ (omega (arith, e, s.at_place))
+pub chunks_4000000_may_come : (w : List ℕ) (f : Shape) (count end place : ℕ) (cs : List Chunk) → StandInSound w place cs → length cs ≤ 4000000 →
+    end ≡ place + length (flat_map bytes_of_chunk cs) → frames_from w f count end 4000000 0 place ≡ nothing_but (counted count 0)
+chunks_4000000_may_come w f count end place cs s le e =
+    ap (frames_from w f count end 4000000 0) (sym s.at_place)
+    ∙ sound_leads_on w f count end 0 cs s.front s.rest 4000000 (4000000 - length cs) s.each s.none (omega (arith, le)) s.bytes (omega (arith, e, s.at_place))
+    ∙ sound_ends w f count end (4000000 - length cs) 0 _ (omega (arith, e, s.at_place))
 
-pub chunk_4000001_may_not_come : (w : List ℕ) (f : Shape) (told end place : ℕ) (cs : List Chunk) → StandInSound w place cs → length cs ≡ 4000000 →
-    place + length (flat_map bytes_of_chunk cs) < end → frames_from w f told end 4000000 0 place ≡ nothing_but (stopped TooManyChunks)
-chunk_4000001_may_not_come w f told end place cs s e l =
-    ap (frames_from w f told end 4000000 0) (sym s.at_place)
-    ∙ sound_leads_on w f told end 0 cs s.front s.rest 4000000 0 s.each s.none (omega (arith, e)) s.bytes (omega (arith, l, s.at_place))
-    ∙ sound_has_no_more w f told end 0 _ (omega (arith, l, s.at_place))
+pub chunk_4000001_may_not_come : (w : List ℕ) (f : Shape) (count end place : ℕ) (cs : List Chunk) → StandInSound w place cs → length cs ≡ 4000000 →
+    place + length (flat_map bytes_of_chunk cs) < end → frames_from w f count end 4000000 0 place ≡ nothing_but (stopped TooManyChunks)
+chunk_4000001_may_not_come w f count end place cs s e l =
+    ap (frames_from w f count end 4000000 0) (sym s.at_place)
+    ∙ sound_leads_on w f count end 0 cs s.front s.rest 4000000 0 s.each s.none (omega (arith, e)) s.bytes (omega (arith, l, s.at_place))
+    ∙ sound_has_no_more w f count end 0 _ (omega (arith, l, s.at_place))
 
 -- the same in `DST `, behind its `FRTE` of 18 bytes
 abbrev behind_frte : List ℕ → Came → Head → Stream → Stream
 behind_frte w came h frames =
-    up_to w (body_place h) (body_place h + 18) (kept (frte_fault_at w (body_place h)) (with_front (front_of w came h) frames))
+    up_to w (body_place h) (body_place h + 18) (unless (frte_fault_at w (body_place h)) (with_front (front_of w came h) frames))
 
 pub chunks_4000000_may_come_in_dst : (w : List ℕ) (came : Came) (h : Head) (cs : List Chunk) → StandInSound w (body_place h + 18) cs → length cs ≤ 4000000 →
     body_end h ≡ body_place h + 18 + length (flat_map bytes_of_chunk cs) →
@@ -146,8 +146,8 @@ head_rules : (prop : Option (List ℕ)) (h : Head) → (h.id is "PROP") ≡ fals
 unfolding by_ids
 head_rules prop h p q r = no_rule (h.id is "PROP") (h.id is "DSD ") (h.id is "DST ") p q r _ _ _
 
-pub unruled : (b : Bool) → b ≡ false → (fault : Option FileFault) (later : Stream) → kept (if b then fault else None) later ≡ later
-unruled b e fault later = ap (λ c. kept (if c then fault else None) later) e
+pub unruled : (b : Bool) → b ≡ false → (fault : Option FileFault) (later : Stream) → unless (if b then fault else None) later ≡ later
+unruled b e fault later = ap (λ c. unless (if c then fault else None) later) e
 
 no_prop_more : (b : Bool) → b ≡ false → (body : List ℕ) (version : List ℕ) (prop : Option (List ℕ)) →
     behind_version version (if b then Some body else prop) ≡ behind_version version prop
@@ -228,16 +228,16 @@ first_chunk_passes w b =
     let at_end : whole_end end i ≡ min 32 end = ap (λ j. whole_end end j) b.version in
     let fault : chunk_head_fault end nothing_came i ≡ None =
     within (Overrun i.place) end (body_end i) _ (omega (arith, b.within, size)) ∙ ap version_head_fault b.version in
-    ap {A = Bool} (λ c. elim c [ true ↦ nothing_but (cut_off NotForm) | false ↦ kept (form_head_fault w) (in_form w end 1024 nothing_came 16) ])
+    ap {A = Bool} (λ c. elim c [ true ↦ nothing_but (cut_off NotForm) | false ↦ unless (form_head_fault w) (in_form w end 1024 nothing_came 16) ])
     (le-ltb (length w) 16 (omega (arith, b.there)))
-    ∙ ap (λ c. kept c (in_form w end 1024 nothing_came 16)) b.head
+    ∙ ap (λ c. unless c (in_form w end 1024 nothing_came 16)) b.head
     ∙ form_has_chunk w end 1023 nothing_came 16 (omega (arith, b.within))
     (head_is_whole w end 16 (chunk_head_fault end nothing_came i) (omega (arith, b.within)) (omega (arith, b.there)) ∙ ap (option_map stopped) fault)
     (ap (λ j. j.id is "DST ") b.version)
     ∙ reaches w _ (body_end i) _ (omega (arith, b.there, size))
-    ∙ ap (λ c. kept (Version when not (get_or w (body_place c) 0 == 1))
+    ∙ ap (λ c. unless (Version when not (get_or w (body_place c) 0 == 1))
     (up_to w c.place (whole_end end c) (in_form w end 1023 (came_with w nothing_came c) (next_place c)))) b.version
-    ∙ ap (λ n. kept (Version when not (n == 1)) (up_to w 16 (min 32 end) (in_form w end 1023 (came_with w nothing_came h) 32))) b.first_byte
+    ∙ ap (λ n. unless (Version when not (n == 1)) (up_to w 16 (min 32 end) (in_form w end 1023 (came_with w nothing_came h) 32))) b.first_byte
     ∙ reaches w 16 (min 32 end) _ (omega (arith, b.there))
     ∙ ap (λ c. in_form w end 1023 (behind_version (body_of w c) None) 32) (sym b.version)
 

@@ -55,9 +55,9 @@ length-decoded_end n file form =
     let chunks = concat (decoded_behind file form) in
     omega (arith, length-append (sound_pad n form ++ chunks) (kept_bytes form.origin), length-append (sound_pad n form) chunks, length-sound_pad n form)
 
-regroup : (o b d t sound pad behind tail : List ℕ) →
-    o ++ (b ++ (d ++ t ++ sound ++ pad) ++ behind) ++ tail ≡ o ++ b ++ (d ++ t) ++ sound ++ (pad ++ behind ++ tail)
-regroup o b d t sound pad behind tail = simp append_assoc refl
+regroup : (o b d t sound pad behind last : List ℕ) →
+    o ++ (b ++ (d ++ t ++ sound ++ pad) ++ behind) ++ last ≡ o ++ b ++ (d ++ t) ++ sound ++ (pad ++ behind ++ last)
+regroup o b d t sound pad behind last = simp append_assoc refl
 
 pub decoded_is_pieces : (sound file : List ℕ) (form : Form) →
     decoded_with sound file form ≡ decoded_front (length sound) file form ++ sound ++ decoded_end (length sound) file form

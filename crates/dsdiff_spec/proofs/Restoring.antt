@@ -10,7 +10,7 @@ use Rattle.dsdiff_spec.specs.Coded as encoding
 use Rattle.dsdiff_spec.specs.Coded.{Picks, pieces, stored_frames, coded_with}
 use Rattle.dsdiff_spec.specs.Decoded.{Plain, decoded_with}
 use Rattle.dsdiff_spec.specs.Cut.{cut, cut_chunks}
-use Rattle.dsdiff_spec.proofs.Files.{example, empty, empty_coded, tailed, tailed_coded, two, two_coded, two_cut, two_cut_plain}
+use Rattle.dsdiff_spec.proofs.Files.{example, empty, empty_coded, three_behind, three_behind_coded, two, two_coded, two_cut, two_cut_plain}
 use Rattle.dsdiff_spec.proofs.OddFiles.{kept_one}
 use Rattle.dsdiff_spec.proofs.Forms.{forms_open, but}
 
@@ -32,13 +32,13 @@ pub empty_comes_back : Plain empty_coded (accepted empty_coded) empty
 unfolding written_open
 empty_comes_back = record { sounds = []; each = tt; written = refl }
 
-pub tail_is_kept : encoding.coded no_picks tailed (accepted tailed) ≡ tailed_coded
+pub bytes_behind_are_kept : encoding.coded no_picks three_behind (accepted three_behind) ≡ three_behind_coded
 unfolding written_open
-tail_is_kept = refl
+bytes_behind_are_kept = refl
 
-pub tail_comes_back : Plain tailed_coded (accepted tailed_coded) tailed
+pub bytes_behind_come_back : Plain three_behind_coded (accepted three_behind_coded) three_behind
 unfolding written_open
-tail_comes_back = record { sounds = []; each = tt; written = refl }
+bytes_behind_come_back = record { sounds = []; each = tt; written = refl }
 
 -- ---- the file of one frame, which keeps no plain file
 abbrev pub example_plain : List ℕ
@@ -88,10 +88,10 @@ unfolding written_open
 version_1_comes_back = record { sounds = []; each = tt; written = refl }
 
 -- ---- a `CMPR` of another name is kept
-pub other_name_is_kept : encoding.coded no_picks (but 99 78 tailed) (accepted (but 99 78 tailed)) ≡ but 195 78 tailed_coded
+pub other_name_is_kept : encoding.coded no_picks (but 99 78 three_behind) (accepted (but 99 78 three_behind)) ≡ but 195 78 three_behind_coded
 unfolding written_open
 other_name_is_kept = refl
 
-pub other_name_comes_back : Plain (but 195 78 tailed_coded) (accepted (but 195 78 tailed_coded)) (but 99 78 tailed)
+pub other_name_comes_back : Plain (but 195 78 three_behind_coded) (accepted (but 195 78 three_behind_coded)) (but 99 78 three_behind)
 unfolding written_open
 other_name_comes_back = record { sounds = []; each = tt; written = refl }

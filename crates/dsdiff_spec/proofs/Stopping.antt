@@ -48,8 +48,8 @@ stops_or_not c form (x ∷ xs) (inr n, more) = elim (stops_or_not c form xs more
 head_is : {A : Type 0} (x y : A) (xs ys : List A) → x ∷ xs ≡ y ∷ ys → x ≡ y
 head_is x y xs ys e = cc
 
-tail_is : {A : Type 0} (x y : A) (xs ys : List A) → x ∷ xs ≡ y ∷ ys → xs ≡ ys
-tail_is x y xs ys e = cc
+rest_is : {A : Type 0} (x y : A) (xs ys : List A) → x ∷ xs ≡ y ∷ ys → xs ≡ ys
+rest_is x y xs ys e = cc
 
 -- two first ones are the same
 pub one_first : (c : Command) (form : Form) (a b : List (ℕ × List ℕ)) (x y : ℕ × List ℕ) (u v : List (ℕ × List ℕ)) (e f : FrameFault) →
@@ -59,7 +59,7 @@ one_first c form [] [] x y u v e f is m n r s = head_is x y u v is
 one_first c form [] (q ∷ b) x y u v e f is m n r s = absurd (n.0 e (subst (λ (p : ℕ × List ℕ). Refuses c (shape form) p.1 e) (head_is x q u (b ++ y ∷ v) is) r))
 one_first c form (p ∷ a) [] x y u v e f is m n r s =
     absurd (m.0 f (subst (λ (p : ℕ × List ℕ). Refuses c (shape form) p.1 f) (sym (head_is p y (a ++ x ∷ u) v is)) s))
-one_first c form (p ∷ a) (q ∷ b) x y u v e f is m n r s = one_first c form a b x y u v e f (tail_is p q (a ++ x ∷ u) (b ++ y ∷ v) is) m.1 n.1 r s
+one_first c form (p ∷ a) (q ∷ b) x y u v e f is m n r s = one_first c form a b x y u v e f (rest_is p q (a ++ x ∷ u) (b ++ y ∷ v) is) m.1 n.1 r s
 
 -- where none is refused there is no first one
 pub not_both : (c : Command) (form : Form) (a : List (ℕ × List ℕ)) (x : ℕ × List ℕ) (u : List (ℕ × List ℕ)) (e : FrameFault) →

@@ -56,66 +56,66 @@ at_sound_chunk : Option Ending → List ℕ → ℕ → Head → Stream → Stre
 at_sound_chunk ending w end h later = elim ending [ Some e ↦ nothing_but e | None ↦ in_sound_chunk w end h later ]
 
 at_sound_place : Bool → List ℕ → Shape → ℕ → ℕ → ℕ → ℕ → ℕ → Stream
-at_sound_place b w f told end most found place =
+at_sound_place b w f count end most found place =
     let h = head_at w place in
     elim b [
-      | false ↦ nothing_but (counted told found)
+      | false ↦ nothing_but (counted count found)
       | true ↦
-          at_sound_chunk (ending_at_head w end place (frame_head_fault f told end found h)) w end h
-          (frames_from w f told end most (found_with h found) (next_place h))
+          at_sound_chunk (ending_at_head w end place (frame_head_fault f count end found h)) w end h
+          (frames_from w f count end most (found_with h found) (next_place h))
     ]
 
-sound_opened : (w : List ℕ) (f : Shape) (told end most found place : ℕ) →
-    frames_from w f told end (suc most) found place ≡ at_sound_place (nat_lt place end) w f told end most found place
+sound_opened : (w : List ℕ) (f : Shape) (count end most found place : ℕ) →
+    frames_from w f count end (suc most) found place ≡ at_sound_place (nat_lt place end) w f count end most found place
 unfolding frames_from at_sound_place at_sound_chunk
-sound_opened w f told end most found place = refl
+sound_opened w f count end most found place = refl
 
-no_chunk_asked : (w : List ℕ) (f : Shape) (told end found place : ℕ) →
-    frames_from w f told end zero found place ≡ nothing_but (if nat_lt place end then stopped TooManyChunks else counted told found)
+no_chunk_asked : (w : List ℕ) (f : Shape) (count end found place : ℕ) →
+    frames_from w f count end zero found place ≡ nothing_but (if nat_lt place end then stopped TooManyChunks else counted count found)
 unfolding frames_from
-no_chunk_asked w f told end found place = refl
+no_chunk_asked w f count end found place = refl
 
-pub sound_ends : (w : List ℕ) (f : Shape) (told end most found place : ℕ) → end ≤ place →
-    frames_from w f told end most found place ≡ nothing_but (counted told found)
+pub sound_ends : (w : List ℕ) (f : Shape) (count end most found place : ℕ) → end ≤ place →
+    frames_from w f count end most found place ≡ nothing_but (counted count found)
 unfolding at_sound_place
-sound_ends w f told end zero found place le =
-    no_chunk_asked w f told end found place
-    ∙ ap (λ b. nothing_but (if b then stopped TooManyChunks else counted told found)) (le-ltb place end le)
-sound_ends w f told end (suc most) found place le =
-    sound_opened w f told end most found place ∙ ap (λ b. at_sound_place b w f told end most found place) (le-ltb place end le)
+sound_ends w f count end zero found place le =
+    no_chunk_asked w f count end found place
+    ∙ ap (λ b. nothing_but (if b then stopped TooManyChunks else counted count found)) (le-ltb place end le)
+sound_ends w f count end (suc most) found place le =
+    sound_opened w f count end most found place ∙ ap (λ b. at_sound_place b w f count end most found place) (le-ltb place end le)
 
-pub sound_has_no_more : (w : List ℕ) (f : Shape) (told end found place : ℕ) → place < end →
-    frames_from w f told end zero found place ≡ nothing_but (stopped TooManyChunks)
-sound_has_no_more w f told end found place lt =
-    no_chunk_asked w f told end found place
-    ∙ ap (λ b. nothing_but (if b then stopped TooManyChunks else counted told found)) (lt-ltb place end lt)
+pub sound_has_no_more : (w : List ℕ) (f : Shape) (count end found place : ℕ) → place < end →
+    frames_from w f count end zero found place ≡ nothing_but (stopped TooManyChunks)
+sound_has_no_more w f count end found place lt =
+    no_chunk_asked w f count end found place
+    ∙ ap (λ b. nothing_but (if b then stopped TooManyChunks else counted count found)) (lt-ltb place end lt)
 
-sound_goes_on : (w : List ℕ) (f : Shape) (told end most found place : ℕ) → place < end →
-    frames_from w f told end (suc most) found place
-    ≡ at_sound_chunk (ending_at_head w end place (frame_head_fault f told end found (head_at w place))) w end (head_at w place)
-    (frames_from w f told end most (found_with (head_at w place) found) (next_place (head_at w place)))
+sound_goes_on : (w : List ℕ) (f : Shape) (count end most found place : ℕ) → place < end →
+    frames_from w f count end (suc most) found place
+    ≡ at_sound_chunk (ending_at_head w end place (frame_head_fault f count end found (head_at w place))) w end (head_at w place)
+    (frames_from w f count end most (found_with (head_at w place) found) (next_place (head_at w place)))
 unfolding at_sound_place
-sound_goes_on w f told end most found place lt =
-    sound_opened w f told end most found place ∙ ap (λ b. at_sound_place b w f told end most found place) (lt-ltb place end lt)
+sound_goes_on w f count end most found place lt =
+    sound_opened w f count end most found place ∙ ap (λ b. at_sound_place b w f count end most found place) (lt-ltb place end lt)
 
-pub sound_ends_at_head : (w : List ℕ) (f : Shape) (told end most found place : ℕ) (ending : Ending) → place < end →
-    ending_at_head w end place (frame_head_fault f told end found (head_at w place)) ≡ Some ending →
-    frames_from w f told end (suc most) found place ≡ nothing_but ending
+pub sound_ends_at_head : (w : List ℕ) (f : Shape) (count end most found place : ℕ) (ending : Ending) → place < end →
+    ending_at_head w end place (frame_head_fault f count end found (head_at w place)) ≡ Some ending →
+    frames_from w f count end (suc most) found place ≡ nothing_but ending
 unfolding at_sound_chunk
-sound_ends_at_head w f told end most found place ending lt e =
-    sound_goes_on w f told end most found place lt
+sound_ends_at_head w f count end most found place ending lt e =
+    sound_goes_on w f count end most found place lt
     ∙ ap (λ o. at_sound_chunk o w end (head_at w place)
-    (frames_from w f told end most (found_with (head_at w place) found) (next_place (head_at w place)))) e
+    (frames_from w f count end most (found_with (head_at w place) found) (next_place (head_at w place)))) e
 
-pub sound_has_chunk : (w : List ℕ) (f : Shape) (told end most found place : ℕ) → place < end →
-    ending_at_head w end place (frame_head_fault f told end found (head_at w place)) ≡ None →
-    frames_from w f told end (suc most) found place
-    ≡ in_sound_chunk w end (head_at w place) (frames_from w f told end most (found_with (head_at w place) found) (next_place (head_at w place)))
+pub sound_has_chunk : (w : List ℕ) (f : Shape) (count end most found place : ℕ) → place < end →
+    ending_at_head w end place (frame_head_fault f count end found (head_at w place)) ≡ None →
+    frames_from w f count end (suc most) found place
+    ≡ in_sound_chunk w end (head_at w place) (frames_from w f count end most (found_with (head_at w place) found) (next_place (head_at w place)))
 unfolding at_sound_chunk
-sound_has_chunk w f told end most found place lt e =
-    sound_goes_on w f told end most found place lt
+sound_has_chunk w f count end most found place lt e =
+    sound_goes_on w f count end most found place lt
     ∙ ap (λ o. at_sound_chunk o w end (head_at w place)
-    (frames_from w f told end most (found_with (head_at w place) found) (next_place (head_at w place)))) e
+    (frames_from w f count end most (found_with (head_at w place) found) (next_place (head_at w place)))) e
 
 -- ---- in the form
 by_id : Bool → Stream → Stream → Stream

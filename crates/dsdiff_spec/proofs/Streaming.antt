@@ -142,7 +142,7 @@ pub stream_ends_with_its_sound :
 unfolding streams_open
 stream_ends_with_its_sound = refl
 
--- fewer frames than `FRTE` tells are told at the end of `DST `, one more at its head
+-- fewer frames than `FRTE` says are refused at the end of `DST `, one more at its head
 pub other_numbers_of_frames :
     endings (
     sent (dst 3 (frame 2 ∷ frame 2 ∷ []) ∷ []) ∷ take 154 (sent (dst 1 (frame 2 ∷ frame 2 ∷ []) ∷ [])) ∷ take 153 (sent (dst 1 (frame 2 ∷ frame 2 ∷ []) ∷ []))

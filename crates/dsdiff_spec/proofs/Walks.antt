@@ -11,10 +11,10 @@ use Rattle.dsdiff_spec.proofs.Built.{piece, file_of, version, prop, dst}
 use Rattle.dsdiff_spec.proofs.Files.{example, two_coded}
 use Rattle.dsdiff_spec.proofs.Forms.{forms_open, but, head, example_form}
 
--- the walk of a form of one channel, in which so many frames are told; the first chunk behind `FRTE` is at 128
+-- the walk of a form of one channel, in which so many frames are counted; the first chunk behind `FRTE` is at 128
 abbrev walk_of : ℕ → List (List ℕ) → Result (List Entry) FileFault
-walk_of told pieces =
-    let file = file_of (version ∷ prop 1 2822400 "DST " ∷ dst told pieces ∷ []) in
+walk_of count pieces =
+    let file = file_of (version ∷ prop 1 2822400 "DST " ∷ dst count pieces ∷ []) in
     walk file (accepted file)
 
 abbrev frame : ℕ → List ℕ

@@ -61,7 +61,7 @@ zeros_stand_for_no_sound = record {
   is_sound = refl;
 }
 
--- ---- room for one frame: only the frame wanted last is kept
+-- ---- room for one frame: only the frame wanted last is held
 pub one_is_kept : keys_after [] (0 ∷ 1 ∷ 0 ∷ []) 1 ≡ 0 ∷ []
 one_is_kept = refl
 
@@ -71,7 +71,7 @@ each_is_decoded_anew = refl
 pub same_frame_is_kept : decoded_of [] (0 ∷ 0 ∷ []) 1 ≡ 0 ∷ []
 same_frame_is_kept = refl
 
--- ---- room for two: a frame that is kept moves to the front, and one that is decoded puts out the last
+-- ---- room for two: a frame that is held moves to the front, and one that is decoded puts out the last
 pub two_are_kept : keys_after [] (0 ∷ 1 ∷ 0 ∷ []) 2 ≡ 0 ∷ 1 ∷ []
 two_are_kept = refl
 

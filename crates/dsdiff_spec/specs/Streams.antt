@@ -50,10 +50,10 @@ with_front front s = record s { front = Some front }
 abbrev pub with_frame : List ℕ → Stream → Stream
 with_frame frame s = record s { frames = frame ∷ s.frames }
 
--- what follows a rule that is kept
-abbrev pub kept : Option FileFault → Stream → Stream
-kept (Some fault) later = nothing_but (stopped fault)
-kept None later = later
+-- what follows unless a rule is broken
+abbrev pub unless : Option FileFault → Stream → Stream
+unless (Some fault) later = nothing_but (stopped fault)
+unless None later = later
 
 -- what follows where the bytes reach a place; where they don't, they end inside this chunk
 abbrev pub up_to : List ℕ → ℕ → ℕ → Stream → Stream
@@ -70,15 +70,15 @@ ending_at_head w end place fault =
 abbrev pub whole_end : ℕ → Head → ℕ
 whole_end end h = min (next_place h) end
 
--- ---- in `DST `: each `DSTF` is the next frame, of which no more may come than `FRTE` tells
+-- ---- in `DST `: each `DSTF` is the next frame, of which no more may come than `FRTE` says
 abbrev pub frame_head_fault : Shape → ℕ → ℕ → ℕ → Head → Option FileFault
-frame_head_fault f told end found h =
+frame_head_fault f count end found h =
     Overrun h.place when body_end h above end
     otherwise (
     if h.id is "DSTF" then (
     FrameTooLong found h.size when h.size above 2 * (sound_bytes f + 1)
     otherwise TooManyFrames when found above 999999
-    otherwise CountDiffers told (told + 1) when found == told
+    otherwise CountDiffers count (count + 1) when found == count
     ) else None
     )
 
@@ -92,18 +92,18 @@ abbrev pub found_with : Head → ℕ → ℕ
 found_with h found = if h.id is "DSTF" then found + 1 else found
 
 abbrev pub counted : ℕ → ℕ → Ending
-counted told found = if found == told then ended else stopped (CountDiffers told found)
+counted count found = if found == count then ended else stopped (CountDiffers count found)
 
 -- from a place on, up to the end of `DST `, at most `most` chunks
 unfoldable pub frames_from : List ℕ → Shape → ℕ → ℕ → ℕ → ℕ → ℕ → Stream
-frames_from w f told end zero found place = nothing_but (if place below end then stopped TooManyChunks else counted told found)
-frames_from w f told end (suc most) found place =
+frames_from w f count end zero found place = nothing_but (if place below end then stopped TooManyChunks else counted count found)
+frames_from w f count end (suc most) found place =
     let h = head_at w place in
     elim (place below end) [
-      | false ↦ nothing_but (counted told found)
-      | true ↦ elim (ending_at_head w end place (frame_head_fault f told end found h)) [
+      | false ↦ nothing_but (counted count found)
+      | true ↦ elim (ending_at_head w end place (frame_head_fault f count end found h)) [
         | Some ending ↦ nothing_but ending
-        | None ↦ in_sound_chunk w end h (frames_from w f told end most (found_with h found) (next_place h))
+        | None ↦ in_sound_chunk w end h (frames_from w f count end most (found_with h found) (next_place h))
       ]
     ]
 
@@ -175,12 +175,12 @@ abbrev pub in_sound : List ℕ → Came → Head → Stream
 in_sound w came h =
     let front = front_of w came h in
     up_to w (body_place h) (body_place h + 18)
-    (kept (frte_fault_at w (body_place h))
+    (unless (frte_fault_at w (body_place h))
     (with_front front (frames_from w (shape_in front.prop) front.frames (body_end h) 4000000 0 (body_place h + 18))))
 
 abbrev pub in_form_chunk : List ℕ → ℕ → Came → Head → Stream → Stream
 in_form_chunk w end came h later =
-    up_to w h.place (body_end h) (kept (chunk_body_fault w came h) (up_to w h.place (whole_end end h) later))
+    up_to w h.place (body_end h) (unless (chunk_body_fault w came h) (up_to w h.place (whole_end end h) later))
 
 -- from a place on, up to the end of the form, at most `most` chunks
 unfoldable pub in_form : List ℕ → ℕ → ℕ → Came → ℕ → Stream
@@ -208,7 +208,7 @@ form_head_fault w =
 unfoldable pub stream : List ℕ → Stream
 stream w = elim (length w below 16) [
   | true ↦ nothing_but (cut_off NotForm)
-  | false ↦ kept (form_head_fault w) (in_form w (form_end w) 1024 nothing_came 16)
+  | false ↦ unless (form_head_fault w) (in_form w (form_end w) 1024 nothing_came 16)
 ]
 
 -- ---- what decoding a stream writes: a plain form of `FVER`, `PROP` with the `CMPR` of plain sound, and the sound, in which zeros stand

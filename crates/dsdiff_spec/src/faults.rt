@@ -1,4 +1,4 @@
-// Why a file is refused, with the numbers that the refusal tells.
+// Why a file is refused, with the numbers that the refusal has.
 
 use crate::{Numbers, Text, text_of_file};
 use std::fmt::{self, Display, Formatter, Write};
@@ -38,7 +38,7 @@ pub enum FileFault {
     SoundUneven,
     /// `DST ` doesn't begin with a chunk `FRTE` of 75 frames in a second.
     FrameRate,
-    /// `FRTE` tells another number of frames than are found.
+    /// `FRTE` says another number of frames than are found.
     CountDiffers { count: u32, found: u32 },
     /// A frame is longer than any stored frame needs to be.
     FrameTooLong { frame: u32, length: u64 },

@@ -1,4 +1,4 @@
-pub mod Heads
+pub mod Headers
 pub mod SoundSamples
 pub mod PlainBytes
 pub mod SoundBytes

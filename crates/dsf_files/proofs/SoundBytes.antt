@@ -57,16 +57,16 @@ turned_bits b =
     sums : (a b c d e f g h : ℕ) → joined a b c d e f g h ≡ (((((((0 * 2 + a) * 2 + b) * 2 + c) * 2 + d) * 2 + e) * 2 + f) * 2 + g) * 2 + h
     sums a b c d e f g h = omega arith
 
-kept_bits : (b : ℕ) → b < 256 → joined_of (λ s. b / 2 ^ (7 - s) % 2) ≡ b
+same_bits : (b : ℕ) → b < 256 → joined_of (λ s. b / 2 ^ (7 - s) % 2) ≡ b
 unfolding number_from low_bits
-kept_bits b small = number_from-low_bits 8 b ∙ omega arith
+same_bits b small = number_from-low_bits 8 b ∙ omega arith
 
 pub bits_in_order : (order b : ℕ) → is_order order ≡ true → b < 256 → joined_of (bit_of order b) ≡ in_order order b
 bits_in_order order b lawful small = go (order == 1)
   where
     go : (one : Bool) → joined_of (λ s. b / 2 ^ (if one then s else (7 - s)) % 2) ≡ (if one then turned b else b)
     go true = turned_bits b
-    go false = kept_bits b small
+    go false = same_bits b small
 
 -- the first k bits, and zeros
 pub part_of_bits : (k : ℕ) (g : ℕ → ℕ) → ((s : ℕ) → g s < 2) → 0 < k → k < 8 →

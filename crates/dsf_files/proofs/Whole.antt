@@ -120,11 +120,11 @@ standing f d says least most =
     let v : length fver ≡ 16 = refl in
     let size : 4 + length whole ≡ form_size d = omega
     (arith, a, b, c, e, h, i, k, v, long, pad_long (sound_size d), prop_is_long d.multiple d.channels least most) in
-    let head = codes "FRM8" ++ big_bytes 8 (form_size d) ++ codes "DSD " in
+    let form = codes "FRM8" ++ big_bytes 8 (form_size d) ++ codes "DSD " in
     ap (λ (x : Dsf). plain_form x.channels x.multiple (sound_of (dsf_sample f) x.channels (octets x)) (dsfk x ∷ [])) says
     ∙ ap (λ n. codes "FRM8" ++ big_bytes 8 n ++ codes "DSD " ++ whole) size
-    ∙ ap (λ w. head ++ (fver ++ (prop ++ (w ++ (dsfk d ++ []))))) one
-    ∙ sym (regrouped head fver prop (codes "DSD ") (big_bytes 8 (sound_size d)) s pad (dsfk d))
+    ∙ ap (λ w. form ++ (fver ++ (prop ++ (w ++ (dsfk d ++ []))))) one
+    ∙ sym (regrouped form fver prop (codes "DSD ") (big_bytes 8 (sound_size d)) s pad (dsfk d))
 
 pub length-dsdiff : (f : List ℕ) (d : Dsf) → dsf_of f ≡ d → 1 ≤ d.channels → d.channels ≤ 6 → length (dsdiff f) ≡ whole_size d
 length-dsdiff f d says least most =

@@ -1,4 +1,4 @@
--- The head of a DSF file in the pieces in which it is written.
+-- The header of a DSF file in the pieces in which it is written.
 use Rattle.std.proofs.Common.{◌≡◌, ℕ, ◌+◌, ◌*◌, List, [], ◌∷◌, ◌++◌, refl}
 use Rattle.std.specs.Prelude.{codes}
 use Rattle.byteorder.specs.Endian.{little_bytes}

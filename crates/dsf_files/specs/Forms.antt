@@ -15,7 +15,7 @@ dsf_seen f = record {
       f.bits;
 }
 
--- a size that is known has room for the head and the blocks
+-- a size that is known has room for the header and the blocks
 abbrev pub has_blocks : Option ℕ → DsfForm → Bool
 has_blocks None form = false
 has_blocks (Some size) form = nat_le (92 + bytes_of_blocks (dsf_seen form)) size

@@ -9,7 +9,7 @@ use Rattle.dsf_files.specs.declared.form.DsfForm.{DsfForm}
 use Rattle.dsf_files.specs.Forms.{dsf_seen}
 use Rattle.dsf_files.specs.Standing.{plain_of, whole_size}
 
--- the form has the size that follows from the head, and is bytes
+-- the form has the size that follows from the header, and is bytes
 pub record IsPlainOf (f : List ℕ) (form : DsfForm) : Type 0 where
   pub long : length (dsdiff f) ≡ whole_size (dsf_seen form)
   pub bytes : All (λ b. b < 256) (dsdiff f)

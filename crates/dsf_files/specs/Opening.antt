@@ -30,11 +30,11 @@ channels_fault count rate = Channels when outside 1 6 count otherwise Rate when 
 
 -- how many samples there are, and how large their blocks, in a file of some size
 abbrev pub size_fault : ℕ → ℕ → Dsf → Option FileFault
-size_fault size told d =
+size_fault size said d =
     TooManyFrames when frames_for (4704 * d.multiple) (octets d) above 1000000
-    otherwise DsfCount d.samples told when told below 12 + bytes_of_blocks d
+    otherwise DsfCount d.samples said when said below 12 + bytes_of_blocks d
     otherwise Overrun 80 when 92 + bytes_of_blocks d above size
 
-abbrev pub head_fault : ℕ → List ℕ → Option FileFault
-head_fault size f =
+abbrev pub header_fault : ℕ → List ℕ → Option FileFault
+header_fault size f =
     layout_fault f otherwise channels_fault (little_at f 52 4) (little_at f 56 4) otherwise size_fault size (little_at f 84 8) (dsf_of f)

@@ -32,7 +32,7 @@ back_size d = sound_size d % 2 + 26
 abbrev pub whole_size : Dsf → ℕ
 whole_size d = front_size d + sound_size d + back_size d
 
--- what is told of the form where the file's bytes are told
+-- what holds of the form where the file's bytes are told
 abbrev pub plain_of : Option (List ℕ) → Option (List ℕ)
 plain_of None = None
 plain_of (Some f) = Some (dsdiff f)

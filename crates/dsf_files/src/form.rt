@@ -1,7 +1,7 @@
-// What the head of a DSF file says.
+// What the header of a DSF file says.
 use dst_num::Channels;
 
-/// What the head of a DSF file says.
+/// What the header of a DSF file says.
 #[derive(Clone, Copy, Debug, PartialEq, Eq)]
 pub struct DsfForm {
     /// The channels, and the rate.

@@ -1,7 +1,7 @@
-//! DSF files, read as the DSDIFF form that stands for them, and the head of a DSF file.
+//! DSF files, read as the DSDIFF form that stands for them, and the header of a DSF file.
 //!
 //! ```text
-//! let form = open_dsf(&mut source)?; // what the head says, or the first fault of the file
+//! let form = open_dsf(&mut source)?; // what the header says, or the first fault of the file
 //! let mut plain = DsfSource::new(&mut source, form); // a source of the plain DSDIFF form
 //! write_dsf_head(&mut sink, &form)?; // the 92 bytes in front of the blocks
 //! ```
@@ -12,14 +12,14 @@
 #![tactic(auto)]
 
 mod form;
-mod head;
+mod header;
 mod open;
 mod plain;
 mod row;
 mod source;
 
 pub use form::DsfForm;
-pub use head::write_dsf_head;
+pub use header::write_dsf_head;
 pub use open::open_dsf;
 pub use row::{clear_past, turn_bytes};
 pub use source::DsfSource;

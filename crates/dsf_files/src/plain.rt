@@ -5,7 +5,7 @@ ghost use Rattle.dsf_files.specs.Forms.{dsf_seen};
 ghost use Rattle.dsf_files.specs.Standing.{front, back, sound_size, front_size, back_size};
 
 use crate::form::DsfForm;
-use crate::head::octet_count;
+use crate::header::octet_count;
 use arrayvec::ArrayVec;
 
 // What stands between the numbers in front of the sound: the sizes of the form and of `PROP`, the rate, the size of `CHNL`, the count of

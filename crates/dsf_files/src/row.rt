@@ -6,7 +6,7 @@ ghost use Rattle.dsf_files.specs.Forms.{dsf_seen, has_blocks, is_order};
 ghost use Rattle.dsf_files.specs.Rows.{turned, in_order, IsRowOf, IsCleared};
 
 use crate::form::DsfForm;
-use crate::head::block_bytes;
+use crate::header::block_bytes;
 use dsdiff_chunks::read_range;
 use dst_streams::{Failed, Source};
 
@@ -48,7 +48,7 @@ fn order_bytes(bytes: &mut [u8], order: u8)
     }
 }
 
-// Where a row begins in a file: behind the head, and the rows before.
+// Where a row begins in a file: behind the header, and the rows before.
 fn row_place(form: &DsfForm, number: u64) -> u64
     requires { number < rows (dsf_seen form.now) }
     ensures place { result ≡ 92 + number * (4096 * form.now.channels.channels) }

@@ -37,7 +37,7 @@ pub struct DsfSource<'a, S: Source> {
 }
 
 impl<'a, S: Source> DsfSource<'a, S> {
-    /// A source of the form that stands for the lent DSF file, whose head says `form`.
+    /// A source of the form that stands for the lent DSF file, whose header says `form`.
     pub fn new(source: &'a mut S, form: DsfForm) -> DsfSource<'a, S>
         requires blocks { has_blocks (S.known source.now) form ≡ true }
         requires order { is_order form.bits ≡ true }

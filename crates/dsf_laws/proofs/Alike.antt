@@ -1,4 +1,4 @@
--- A DSF file is its head and its samples: files of the same samples are the same.
+-- A DSF file is its header and its samples: files of the same samples are the same.
 use Rattle.std.proofs.Common.{◌≡◌, ℕ, zero, suc, ◌+◌, ◌-◌, ◌*◌, ◌/◌, ◌%◌, ◌^◌, ◌<◌, false, if◌then◌else◌, List, ◌∷◌, ◌++◌, map, reverse, take, get_or}
 use Rattle.std.proofs.Common.{refl, sym, ap, ap₂, ◌∙◌, inl, inr, arith}
 use Rattle.std.specs.Prelude.{◌==◌}

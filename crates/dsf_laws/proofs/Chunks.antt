@@ -37,19 +37,19 @@ same_keys file end (h ∷ hs) (c ∷ cs) (d ∷ ds) p q =
 pub record AreFour (front middle last : List Chunk) (told : List ℕ) : Type 0 where
   pub front_none : front ≡ []
   pub middle_none : middle ≡ []
-  pub kept : Chunk
-  pub last_one : last ≡ kept ∷ []
-  pub id : kept.id ≡ codes "DSFK"
-  pub body : kept.body ≡ told
+  pub dsfk : Chunk
+  pub last_one : last ≡ dsfk ∷ []
+  pub id : dsfk.id ≡ codes "DSFK"
+  pub body : dsfk.body ≡ told
 
 never_true : false ≡ true → ⊥
 never_true e = cc
 
-tail_of : (x y : Key) (xs ys : List Key) → x ∷ xs ≡ y ∷ ys → xs ≡ ys
-tail_of x y xs ys e = cc
+rest_of : (x y : Key) (xs ys : List Key) → x ∷ xs ≡ y ∷ ys → xs ≡ ys
+rest_of x y xs ys e = cc
 
-head_of : (x y : Key) (xs ys : List Key) → x ∷ xs ≡ y ∷ ys → x ≡ y
-head_of x y xs ys e = cc
+first_of : (x y : Key) (xs ys : List Key) → x ∷ xs ≡ y ∷ ys → x ≡ y
+first_of x y xs ys e = cc
 
 empty_key : (x : Key) (xs : List Key) → x ∷ xs ≡ [] → ⊥
 empty_key x xs e = cc
@@ -63,15 +63,15 @@ pub four : (version prop sound : Chunk) (front middle last : List Chunk) (first 
     ≡ first ∷ record { id = codes "PROP"; body = body } ∷ record { id = codes "DSD "; body = s } ∷ record { id = codes "DSFK"; body = told } ∷ [] →
     AreFour front middle last told
 four version prop sound (x ∷ front) middle last first body s told apart none e =
-    let here = head_of _ _ _ _ (tail_of _ _ _ _ e) in
+    let here = first_of _ _ _ _ (rest_of _ _ _ _ e) in
     absurd (never_true (sym apart.1.0 ∙ ap (λ (k : Key). prop_id k.id) here))
 four version prop sound [] (y ∷ middle) last first body s told apart none e =
-    let here = head_of _ _ _ _ (tail_of _ _ _ _ (tail_of _ _ _ _ e)) in
+    let here = first_of _ _ _ _ (rest_of _ _ _ _ (rest_of _ _ _ _ e)) in
     absurd (never_true (sym none.0 ∙ ap (λ (k : Key). sound_id k.id) here))
 four version prop sound [] [] [] first body s told apart none e =
-    absurd (no_more _ _ (tail_of _ _ _ _ (tail_of _ _ _ _ (tail_of _ _ _ _ e))))
+    absurd (no_more _ _ (rest_of _ _ _ _ (rest_of _ _ _ _ (rest_of _ _ _ _ e))))
 four version prop sound [] [] (k ∷ []) first body s told apart none e =
-    let here = head_of _ _ _ _ (tail_of _ _ _ _ (tail_of _ _ _ _ (tail_of _ _ _ _ e))) in
-    record { front_none = refl; middle_none = refl; kept = k; last_one = refl; id = ap (λ (x : Key). x.id) here; body = ap (λ (x : Key). x.body) here }
+    let here = first_of _ _ _ _ (rest_of _ _ _ _ (rest_of _ _ _ _ (rest_of _ _ _ _ e))) in
+    record { front_none = refl; middle_none = refl; dsfk = k; last_one = refl; id = ap (λ (x : Key). x.id) here; body = ap (λ (x : Key). x.body) here }
 four version prop sound [] [] (k ∷ l ∷ last) first body s told apart none e =
-    absurd (empty_key _ _ (tail_of _ _ _ _ (tail_of _ _ _ _ (tail_of _ _ _ _ (tail_of _ _ _ _ e)))))
+    absurd (empty_key _ _ (rest_of _ _ _ _ (rest_of _ _ _ _ (rest_of _ _ _ _ (rest_of _ _ _ _ e)))))

@@ -150,33 +150,33 @@ module _ (f : List ℕ) (picks : Picks) (bytes : AreBytes f) (a : IsAcceptedDsf 
     abbrev before : List Chunk
     before = e.p.parts.version ∷ coded_prop e.p ∷ dst_chunk stored ∷ dsti_chunk (entries_of e.p stored) ∷ origin_of_parts e.p (accepted (dsdiff f)) ∷ []
 
-    in_order : coded_chunks e.p (accepted (dsdiff f)) stored ≡ before ++ are_four.kept ∷ []
+    in_order : coded_chunks e.p (accepted (dsdiff f)) stored ≡ before ++ are_four.dsfk ∷ []
     in_order =
         let rest = dst_chunk stored ∷ dsti_chunk (entries_of e.p stored) ∷ origin_of_parts e.p (accepted (dsdiff f)) ∷ [] in
-        same_chunks e.p.parts.version (coded_prop e.p) rest e.p.parts.front e.p.parts.middle e.p.parts.last are_four.kept are_four.front_none
+        same_chunks e.p.parts.version (coded_prop e.p) rest e.p.parts.front e.p.parts.middle e.p.parts.last are_four.dsfk are_four.front_none
         are_four.middle_none are_four.last_one
       where
         same_chunks : (v p : Chunk) (rest front middle last : List Chunk) (k : Chunk) → front ≡ [] → middle ≡ [] → last ≡ k ∷ [] →
             (v ∷ front ++ p ∷ middle) ++ (rest ++ last) ≡ (v ∷ p ∷ rest) ++ k ∷ []
         same_chunks v p rest front middle last k x y z = rw (x, y, z) refl
 
-    made : IsFile (coded_file picks (dsdiff f)) (before ++ are_four.kept ∷ []) []
+    made : IsFile (coded_file picks (dsdiff f)) (before ++ are_four.dsfk ∷ []) []
     made = subst (λ cs. IsFile (coded_file picks (dsdiff f)) cs []) in_order e.made
 
-    one_dsfk : dsfk_heads form' ≡ head_behind before are_four.kept ∷ []
+    one_dsfk : dsfk_heads form' ≡ head_behind before are_four.dsfk ∷ []
     one_dsfk =
         ap (λ (x : Form). named "DSFK" x.chunks) (coded_form (dsdiff f) picks e)
-        ∙ ap (λ (x : Found). named "DSFK" x.heads) (found_is (coded_file picks (dsdiff f)) (before ++ are_four.kept ∷ []) [] made)
-        ∙ one_named (λ id. id is "DSFK") before [] are_four.kept
+        ∙ ap (λ (x : Found). named "DSFK" x.heads) (found_is (coded_file picks (dsdiff f)) (before ++ are_four.dsfk ∷ []) [] made)
+        ∙ one_named (λ id. id is "DSFK") before [] are_four.dsfk
         (ap (λ id. id is "DSFK") e.p.parts.version_id, (refl, (refl, (refl, (refl, tt))))) (ap (λ id. id is "DSFK") are_four.id) tt
 
-    held : Holds (coded_file picks (dsdiff f)) (form_end (coded_file picks (dsdiff f))) (head_behind before are_four.kept) are_four.kept
-    held = stands_behind (coded_file picks (dsdiff f)) before [] are_four.kept [] made
+    held : Holds (coded_file picks (dsdiff f)) (form_end (coded_file picks (dsdiff f))) (head_behind before are_four.dsfk) are_four.dsfk
+    held = stands_behind (coded_file picks (dsdiff f)) before [] are_four.dsfk [] made
 
-    number_told : (i n : ℕ) → i + n ≤ 14 → number_at (coded_file picks (dsdiff f)) (body_place (head_behind before are_four.kept) + i) n ≡ number_at
+    number_told : (i n : ℕ) → i + n ≤ 14 → number_at (coded_file picks (dsdiff f)) (body_place (head_behind before are_four.dsfk) + i) n ≡ number_at
         (told (dsf_of f)) i n
     number_told i n within =
-        number_inside (coded_file picks (dsdiff f)) (form_end (coded_file picks (dsdiff f))) (head_behind before are_four.kept) are_four.kept i n held
+        number_inside (coded_file picks (dsdiff f)) (form_end (coded_file picks (dsdiff f))) (head_behind before are_four.dsfk) are_four.dsfk i n held
         (omega (arith, within, ap length are_four.body))
         ∙ ap (λ w. number_at w i n) are_four.body
 
@@ -189,7 +189,7 @@ module _ (f : List ℕ) (picks : Picks) (bytes : AreBytes f) (a : IsAcceptedDsf 
 
     said_again : dsf_in (coded_file picks (dsdiff f)) form' ≡ dsf_of f
     said_again =
-        let h = head_behind before are_four.kept in
+        let h = head_behind before are_four.dsfk in
         let file = coded_file picks (dsdiff f) in
         let channels : form'.channels ≡ (dsf_of f).channels = ap (λ (x : Shape). x.channels) its_shape in
         let octets_are : 4704 * form'.multiple ≡ 4704 * (dsf_of f).multiple = ap (λ (x : Shape). x.octets) its_shape in

@@ -215,8 +215,8 @@ module _ (c m : ℕ) (s t : List ℕ) (f : IsMade c m) (told : length t ≡ 14) 
         le-ltb (sound_head g).place (prop_head g).place (omega (arith, there, here, length-body (version ∷ []) (prop_chunk c m ∷ []))) in
         rw (one, once, same, ordered) refl
 
-    plain_kept : plain_fault g ≡ None
-    plain_kept =
+    plain_holds : plain_fault g ≡ None
+    plain_holds =
         let even : ((sound_head g).size % channel_count (prop g) == 0) ≡ true =
         eq-eqb _ 0 (ap₂ (λ (i j : ℕ). i % j) size_read count_read ∙ whole) in
         let frames_few : nat_lt 1000000 (frames_needed g) ≡ false = le-ltb 1000000 (frames_needed g) (omega (arith, frames_read, few)) in
@@ -234,7 +234,7 @@ module _ (c m : ℕ) (s t : List ℕ) (f : IsMade c m) (told : length t ≡ 14) 
     unfolding form_fault
     all_rules =
         let opening : opening_fault g ≡ None = opens g (dsf_chunks c m s t) [] is_file in
-        rw (opening, version_rules, prop_rules, sound_rules) (ap (λ k. kind_fault k g) kind_read ∙ plain_kept)
+        rw (opening, version_rules, prop_rules, sound_rules) (ap (λ k. kind_fault k g) kind_read ∙ plain_holds)
 
     pub is_accepted : (level : ℕ) → refusal (encode level) g ≡ None
     unfolding refusal

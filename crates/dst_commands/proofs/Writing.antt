@@ -23,7 +23,7 @@ adds_nothing w room = record {
 
 pub stops_at_once : (P : Type 0) (piece : List ℕ) (w : Option (List ℕ)) (room : Option ℕ) → (P → ⊥) → Stops P piece w w room
 stops_at_once P piece w room not = record {
-  cut = record { kept = 0; within = omega arith; written = sym (and_then-nothing w) };
+  cut = record { taken = 0; within = omega arith; written = sym (and_then-nothing w) };
   lacks = λ p. absurd (not p);
 }
 
@@ -51,7 +51,7 @@ stops_for P Q piece old new room f h = record { cut = h.cut; lacks = λ q. h.lac
 pub stops_behind : (P : Type 0) (piece : List ℕ) (old new : Option (List ℕ)) (room left : Option ℕ) → (P → ⊥) → Adds piece old new room left →
     Stops P piece old new room
 stops_behind P piece old new room left not h = record {
-  cut = record { kept = length piece; within = omega arith; written = h.written ∙ ap (and_then old) (sym (take_all (length piece) piece (omega arith))) };
+  cut = record { taken = length piece; within = omega arith; written = h.written ∙ ap (and_then old) (sym (take_all (length piece) piece (omega arith))) };
   lacks = λ p. absurd (not p);
 }
 
@@ -60,7 +60,7 @@ pub stops_unsettled : (piece : List ℕ) (old mid new : Option (List ℕ)) (room
     ((n : ℕ) → left ≡ Some n → false ≡ true) → Stops (Unit {0}) piece old new room
 stops_unsettled piece old mid new room left h same sure = record {
   cut = record {
-    kept = length piece;
+    taken = length piece;
     within = omega arith;
     written = same ∙ h.written
         ∙ ap (and_then old) (sym (take_all (length piece) piece (omega arith)));
@@ -91,10 +91,10 @@ adds_then a b old mid new room half left p q = record {
 pub stops_first : (P : Type 0) (a b : List ℕ) (old new : Option (List ℕ)) (room : Option ℕ) → Stops P a old new room → Stops P (a ++ b) old new room
 stops_first P a b old new room h =
     let both = length-append a b in
-    let kept = h.cut.kept in
-    let within : kept ≤ length a = h.cut.within in
+    let taken = h.cut.taken in
+    let within : taken ≤ length a = h.cut.within in
     record {
-      cut = record { kept = kept; within = omega arith; written = h.cut.written ∙ ap (and_then old) (sym (take-append-le kept a b within)) };
+      cut = record { taken = taken; within = omega arith; written = h.cut.written ∙ ap (and_then old) (sym (take-append-le taken a b within)) };
       lacks = λ p n e fits. h.lacks p n e (omega arith);
     }
 
@@ -102,17 +102,17 @@ pub stops_then : (P : Type 0) (a b : List ℕ) (old mid new : Option (List ℕ))
     Adds a old mid room half → Stops P b mid new half → Stops P (a ++ b) old new room
 stops_then P a b old mid new room half p h =
     let both = length-append a b in
-    let kept = h.cut.kept in
-    let within : kept ≤ length b = h.cut.within in
+    let taken = h.cut.taken in
+    let within : taken ≤ length b = h.cut.within in
     record {
       cut = record {
-        kept = length a + kept;
+        taken = length a + taken;
         within = omega arith;
         written =
             h.cut.written
-            ∙ ap (λ w. and_then w (take kept b)) p.written
-            ∙ and_then-twice old a (take kept b)
-            ∙ ap (and_then old) (sym (take-append-add a b kept));
+            ∙ ap (λ w. and_then w (take taken b)) p.written
+            ∙ and_then-twice old a (take taken b)
+            ∙ ap (and_then old) (sym (take-append-add a b taken));
       };
       lacks = λ q n e fits.
           let first = p.lowered n e (omega arith) in

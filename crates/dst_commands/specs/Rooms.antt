@@ -1,4 +1,4 @@
--- How many jobs there are, and the buffers that a frame is worked in, told by one number.
+-- How many jobs there are, and the buffers that a frame is worked in, described by one number.
 use Rattle.std.specs.Prelude.{ℕ, ◌+◌, ◌*◌, ◌/◌, min, max, Bool, not, ◌&&◌, ◌==◌, if◌then◌else◌}
 use Rattle.dst_spec.specs.Sample.{Shape, sound_bytes}
 use Rattle.dsdiff_spec.specs.Bytes.{◌below◌, ◌above◌}

@@ -14,7 +14,7 @@ pub struct MachineFiles<'r, R: Runtime + AllocGlobal> {
 }
 
 impl<'r, R: Runtime + AllocGlobal> MachineFiles<'r, R> {
-    /// The files of this machine; with `is_watched`, on a terminal that people see, a longer run tells how far it is.
+    /// The files of this machine; with `is_watched`, on a terminal that people see, a longer run shows how far it is.
     pub fn new(rt: &'r R, is_watched: bool) -> MachineFiles<'r, R> {
         MachineFiles { rt, is_watched }
     }

@@ -1,4 +1,4 @@
-// How far a run is, told on a terminal.
+// How far a run is, shown on a terminal.
 ghost use Rattle.std.specs.Prelude.{◌≡◌};
 
 use dsdiff_chunks::{Form, open_form};
@@ -7,7 +7,7 @@ use std::alloc::Global;
 use std::rt::Files;
 use std::time::{Clock, Instant};
 
-/// A run shorter than this, in milliseconds, tells nothing.
+/// A run shorter than this, in milliseconds, shows nothing.
 const FIRST: u64 = 500;
 
 /// So many milliseconds lie between two lines.
@@ -27,7 +27,7 @@ pub struct Watched<'r, S: Source, R: Clock + Eprint> {
 }
 
 // How long the sound lasts in milliseconds, 0 where that isn't known; how many bytes the source has and has given; when the run began,
-// and when it told something last, in milliseconds behind that.
+// and when it showed something last, in milliseconds behind that.
 #[derive(Clone, Copy, Drop)]
 struct Watch {
     sound: u64,
@@ -100,7 +100,7 @@ fn share(number: u64, part: u64, of: u64) -> u64 {
     u64::try_from(product / u128::from(of.max(1))).unwrap_or(u64::MAX)
 }
 
-/// How long the sound of a file lasts, in milliseconds; 0 where it can't be told.
+/// How long the sound of a file lasts, in milliseconds; 0 where it isn't known.
 pub(crate) fn sound_of<R: Files>(rt: &R, alloc: Global, name: &str) -> u64 {
     let mut source = FileSource::new(rt, name);
     let frames = match open_form(alloc, &mut source) {

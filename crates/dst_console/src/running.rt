@@ -111,7 +111,7 @@ pub fn run_named<'n, E: Threads + Sync, D: Devices<'n>, R: Sink>(
     ensures memory_line { result.status ≡ 4 → R.written report.new ≡ and_then (R.written report.old) (reports.report (reports.memory_line ∷ [])) }
     // What a done command has written is where the sink keeps it for good.
     ensures settled { (c : Command) → command_of (map string_bytes words.now) ≡ Some c → WritesFile c → result.status ≡ 0 → D.Sink.settled result.output ≡ true }
-    // Words that are no command are told by the status, and by no other.
+    // Words that are no command are answered by the status, and by no other.
     ensures words { command_of (map string_bytes words.now) ≡ None → (result.status ≡ 1) ⊎ (result.status ≡ 7) }
     ensures only_words { result.status ≡ 1 → command_of (map string_bytes words.now) ≡ None }
     // Devices fail by their own cause.

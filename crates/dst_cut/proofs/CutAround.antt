@@ -9,7 +9,7 @@ use Rattle.dsdiff_chunks.specs.declared.copy.CopyFault.{CopyFault}
 use Rattle.dst_commands.specs.Writing.{Adds, Stops}
 use Rattle.dst_commands.proofs.Writing.{adds_same, adds_then, stops_for, stops_first, stops_same, stops_then}
 use Rattle.dst_commands.proofs.OneCall.{side_then}
-use Rattle.dst_cut.specs.CutLayout.{before, behind, end, entries_left, first_at, form_size, front, kept, sound_opening}
+use Rattle.dst_cut.specs.CutLayout.{before, behind, end, entries_left, first_at, form_size, front, origin_left, sound_opening}
 use Rattle.dst_cut.specs.declared.cut_form.CutForm.{CutForm}
 
 -- the head of the form, by its size
@@ -77,8 +77,8 @@ module _ (file : List ℕ) (cut : CutForm) (n : ℕ) (within : cut.form.end ≤ 
     abbrev index : List ℕ
     index = index_at (first_at file form)
 
-    abbrev kept_of : List ℕ
-    kept_of = kept form cut.first cut.last
+    abbrev origin_of_cut : List ℕ
+    origin_of_cut = origin_left form cut.first cut.last
 
     abbrev IsSideLength : ℕ → Type 0
     IsSideLength side = (file : List ℕ) → cut.form.end ≤ length file → side ≡ length (before file form)
@@ -89,29 +89,29 @@ module _ (file : List ℕ) (cut : CutForm) (n : ℕ) (within : cut.form.end ≤ 
     pub stopped_in_index : (side : ℕ) {old new : Option (List ℕ)} {room : Option ℕ} → IsSideLength side →
         Stops (Unit {0}) (index_at (16 + side + 12 + 18)) old new room → Stops BySink (end cut.index file form cut.first cut.last) old new room
     stopped_in_index side {old} {new} {room} is h =
-        stops_first BySink (index ++ kept_of) (behind file form) old new room
-        (stops_first BySink index kept_of old new room
+        stops_first BySink (index ++ origin_of_cut) (behind file form) old new room
+        (stops_first BySink index origin_of_cut old new room
         (stops_for (Unit {0}) BySink index old new room (λ e. tt {0})
         (stops_same (Unit {0}) (index_at (16 + side + 12 + 18)) index old new room (index_is side is) h)))
 
-    pub stopped_in_kept : (side : ℕ) {old mid new : Option (List ℕ)} {room half : Option ℕ} → IsSideLength side →
-        Adds (index_at (16 + side + 12 + 18)) old mid room half → Stops (Unit {0}) kept_of mid new half →
+    pub stopped_in_origin : (side : ℕ) {old mid new : Option (List ℕ)} {room half : Option ℕ} → IsSideLength side →
+        Adds (index_at (16 + side + 12 + 18)) old mid room half → Stops (Unit {0}) origin_of_cut mid new half →
         Stops BySink (end cut.index file form cut.first cut.last) old new room
-    stopped_in_kept side {old} {mid} {new} {room} {half} is a h =
-        stops_first BySink (index ++ kept_of) (behind file form) old new room
-        (stops_then BySink index kept_of old mid new room half
+    stopped_in_origin side {old} {mid} {new} {room} {half} is a h =
+        stops_first BySink (index ++ origin_of_cut) (behind file form) old new room
+        (stops_then BySink index origin_of_cut old mid new room half
         (adds_same (index_at (16 + side + 12 + 18)) index old mid room half (index_is side is) a)
-        (stops_for (Unit {0}) BySink kept_of mid new half (λ e. tt {0}) h))
+        (stops_for (Unit {0}) BySink origin_of_cut mid new half (λ e. tt {0}) h))
 
     -- by the last call
     pub end_by : {T : Type 0} (result : Result T CopyFault) (side : ℕ) {old mid last : Option (List ℕ)} (new : Option (List ℕ))
         {room half less : Option ℕ} (left : Option ℕ) →
-        IsSideLength side → Adds (index_at (16 + side + 12 + 18)) old mid room half → Adds kept_of mid last half less →
+        IsSideLength side → Adds (index_at (16 + side + 12 + 18)) old mid room half → Adds origin_of_cut mid last half less →
         MatchResult result (λ _. Adds (behind file form) last new less left) (λ fault. Stops (fault ≡ CopyFault.Write) (behind file form) last new less) →
         MatchResult result (λ _. Adds (end cut.index file form cut.first cut.last) old new room left)
         (λ fault. Stops (fault ≡ CopyFault.Write) (end cut.index file form cut.first cut.last) old new room)
     end_by result side {old} {mid} {last} new {room} {half} {less} left is a b h =
-        side_then result (index ++ kept_of) (behind file form) old last new room less left
-        (adds_then index kept_of old mid last room half less
+        side_then result (index ++ origin_of_cut) (behind file form) old last new room less left
+        (adds_then index origin_of_cut old mid last room half less
         (adds_same (index_at (16 + side + 12 + 18)) index old mid room half (index_is side is) a) b)
         h

@@ -22,15 +22,15 @@ use Rattle.dsdiff_spec.proofs.ByteLists.{length-index}
 use Rattle.dst_commands.specs.Passing.{chunks_on}
 use Rattle.dst_commands.specs.declared.chunks.Side.{Side}
 use Rattle.dst_commands.specs.declared.chunks.Side.TheVariants.{Before, Behind}
-use Rattle.dst_cut.specs.CutLayout.{begins, ends, count, is_last, before, behind, kept, kept_by, kept_count, size_left, pad_left, side_of}
+use Rattle.dst_cut.specs.CutLayout.{begins, ends, count, is_last, before, behind, origin_left, origin_left_by, origin_count, size_left, pad_left, side_of}
 use Rattle.dst_cut.specs.CutLayout.{sound_size, form_size, sound_opening, padding, frames, index_bytes, entries_left, first_at, whole}
 use Rattle.dst_commands.proofs.ChunkLengths.{even_chunk, length-padded, length-frte}
 use Rattle.dst_cut.proofs.CutPlaces.{AreCutOut, length-left}
 
 -- ---- the chunk `KEPT`
-kept_is : (form : Form) (first last : ℕ) (o : Option Origin) → concat (cut_origin form first last o) ≡ kept_by form first last o
-kept_is form first last None = refl
-kept_is form first last (Some o) = go (is_last form last) refl
+origin_left_is : (form : Form) (first last : ℕ) (o : Option Origin) → concat (cut_origin form first last o) ≡ origin_left_by form first last o
+origin_left_is form first last None = refl
+origin_left_is form first last (Some o) = go (is_last form last) refl
   where
     go : (b : Bool) → is_last form last ≡ b →
         concat ((if b then origin_chunk (o.sound - sound_bytes_of form * first) o.pad o.cmpr [] else origin_chunk
@@ -39,9 +39,9 @@ kept_is form first last (Some o) = go (is_last form last) refl
     go true e = append-nil (origin_chunk (o.sound - sound_bytes_of form * first) o.pad o.cmpr [])
     go false e = append-nil (origin_chunk (sound_bytes_of form * count first last) 0 o.cmpr [])
 
-length-kept : (form : Form) (first last : ℕ) (o : Option Origin) → length (cut_origin form first last o) ≡ kept_count o
-length-kept form first last None = refl
-length-kept form first last (Some o) = refl
+length-origin_left : (form : Form) (first last : ℕ) (o : Option Origin) → length (cut_origin form first last o) ≡ origin_count o
+length-origin_left form first last None = refl
+length-origin_left form first last (Some o) = refl
 
 pub length-origin : (sound pad : ℕ) (cmpr : List ℕ) → length (origin_chunk sound pad cmpr []) ≡ 12 + (14 + length cmpr) + (14 + length cmpr) % 2
 length-origin sound pad cmpr =
@@ -57,12 +57,12 @@ length-origin sound pad cmpr =
     ) in
     length-padded "KEPT" body 0 refl ∙ ap (λ n. 12 + n + n % 2) long
 
-pub length-kept_by : (form : Form) (first last : ℕ) (o : Option Origin) (k : Origin) (cmpr : List ℕ) → o ≡ Some k → cmpr ≡ k.cmpr →
-    12 + (14 + length cmpr) + (14 + length cmpr) % 2 ≡ length (kept_by form first last o)
-length-kept_by form first last o k cmpr e c =
+pub length-origin_left_by : (form : Form) (first last : ℕ) (o : Option Origin) (k : Origin) (cmpr : List ℕ) → o ≡ Some k → cmpr ≡ k.cmpr →
+    12 + (14 + length cmpr) + (14 + length cmpr) % 2 ≡ length (origin_left_by form first last o)
+length-origin_left_by form first last o k cmpr e c =
     ap (λ (w : List ℕ). 12 + (14 + length w) + (14 + length w) % 2) c
     ∙ sym (length-origin (size_left form first last k) (pad_left form last k) k.cmpr)
-    ∙ ap (λ o. length (kept_by form first last o)) (sym e)
+    ∙ ap (λ o. length (origin_left_by form first last o)) (sym e)
 
 pub side_is : (side : Side) (file : List ℕ) (form : Form) → chunks_on side None file form ≡ side_of side file form
 side_is Before file form = refl
@@ -99,16 +99,16 @@ length-dsti : (es : List Entry) → length (dsti es) ≡ 12 + 12 * length es
 length-dsti es = omega (arith, length-padded "DSTI" (index_bytes es) 0 refl, length-index es)
 
 pub count_is : (file : List ℕ) (form : Form) (first last : ℕ) →
-    length (cut_chunks file form first last) ≡ length (before_sound form) + 2 + kept_count form.origin + length (behind_sound form)
+    length (cut_chunks file form first last) ≡ length (before_sound form) + 2 + origin_count form.origin + length (behind_sound form)
 unfolding cut_chunks
 count_is file form first last =
     let b = copied file form (before_sound form) in
     let e = copied file form (behind_sound form) in
     let o = cut_origin form first last form.origin in
-    let sizes : length b + 2 + length o + length e ≡ length (before_sound form) + 2 + kept_count form.origin + length (behind_sound form) =
+    let sizes : length b + 2 + length o + length e ≡ length (before_sound form) + 2 + origin_count form.origin + length (behind_sound form) =
     omega (
       arith,
-      length-kept form first last form.origin,
+      length-origin_left form first last form.origin,
       length-map (before_sound form) (whole_chunk file form),
       length-map (behind_sound form)
           (whole_chunk file form),
@@ -168,16 +168,17 @@ module _ (es : List Entry) (file : List ℕ) (form : Form) (first last : ℕ) (o
         ∷ cut_origin form first last form.origin
         ++ copied file form (behind_sound form)) is
 
-    joined_are : concat (cut_chunks file form first last) ≡ before file form ++ (chunk "DST " body ++ (dsti left ++ (kept form first last ++ behind file form)))
+    joined_are : concat (cut_chunks file form first last) ≡ before file form ++
+        (chunk "DST " body ++ (dsti left ++ (origin_left form first last ++ behind file form)))
     joined_are =
         ap concat chunks_are
         ∙ joined (copied file form (before_sound form)) (chunk "DST " body) (dsti left) (cut_origin form first last form.origin)
         (copied file form (behind_sound form))
-        ∙ ap (λ w. before file form ++ (chunk "DST " body ++ (dsti left ++ (w ++ behind file form)))) (kept_is form first last form.origin)
+        ∙ ap (λ w. before file form ++ (chunk "DST " body ++ (dsti left ++ (w ++ behind file form)))) (origin_left_is form first last form.origin)
 
     pub size_is : 4 + length (concat (cut_chunks file form first last)) ≡ form_size es file form first last
     size_is =
-        let k = kept form first last in
+        let k = origin_left form first last in
         let h = behind file form in
         omega (
           arith,
@@ -193,9 +194,9 @@ module _ (es : List Entry) (file : List ℕ) (form : Form) (first last : ℕ) (o
     pub cut_is : cutting.cut file form first last ≡ whole es file form first last
     cut_is =
         ap₂ (λ n w. codes "FRM8" ++ big_bytes 8 n ++ codes "DSD " ++ w) size_is
-        (joined_are ∙ ap (λ w. before file form ++ (w ++ (dsti left ++ (kept form first last ++ behind file form)))) sound_chunk)
+        (joined_are ∙ ap (λ w. before file form ++ (w ++ (dsti left ++ (origin_left form first last ++ behind file form)))) sound_chunk)
         ∙ regroup (codes "FRM8") (big_bytes 8 (form_size es file form first last)) (codes "DSD ") (before file form)
-        (sound_opening es form first last) (frames es file form first last) (dsti left) (kept form first last) (behind file form)
+        (sound_opening es form first last) (frames es file form first last) (dsti left) (origin_left form first last) (behind file form)
       where
         regroup : (a b c d e f g h i : List ℕ) → a ++ b ++ c ++ (d ++ ((e ++ f) ++ (g ++ (h ++ i)))) ≡ ((a ++ b ++ c) ++ d ++ e) ++ f ++ (g ++ h ++ i)
         regroup a b c d e f g h i = simp append_assoc refl

@@ -45,16 +45,16 @@ size_left form first last origin =
 abbrev pub pad_left : Form → ℕ → Origin → ℕ
 pad_left form last origin = if is_last form last then origin.pad else 0
 
-abbrev pub kept_by : Form → ℕ → ℕ → Option Origin → List ℕ
-kept_by form first last None = []
-kept_by form first last (Some origin) = origin_chunk (size_left form first last origin) (pad_left form last origin) origin.cmpr []
+abbrev pub origin_left_by : Form → ℕ → ℕ → Option Origin → List ℕ
+origin_left_by form first last None = []
+origin_left_by form first last (Some origin) = origin_chunk (size_left form first last origin) (pad_left form last origin) origin.cmpr []
 
-abbrev pub kept_count : Option Origin → ℕ
-kept_count None = 0
-kept_count (Some origin) = 1
+abbrev pub origin_count : Option Origin → ℕ
+origin_count None = 0
+origin_count (Some origin) = 1
 
-abbrev pub kept : Form → ℕ → ℕ → List ℕ
-kept form first last = kept_by form first last form.origin
+abbrev pub origin_left : Form → ℕ → ℕ → List ℕ
+origin_left form first last = origin_left_by form first last form.origin
 
 -- ---- the sizes of the body of `DST ` and of the form
 abbrev pub sound_size : List Entry → Form → ℕ → ℕ → ℕ
@@ -63,7 +63,7 @@ sound_size es form first last = 18 + (ends es form last - begins es first)
 abbrev pub form_size : List Entry → List ℕ → Form → ℕ → ℕ → ℕ
 form_size es file form first last =
     4 + length (before file form) + (12 + sound_size es form first last + sound_size es form first last % 2)
-    + (12 + 12 * count first last) + length (kept form first last) + length (behind file form)
+    + (12 + 12 * count first last) + length (origin_left form first last) + length (behind file form)
 
 -- ---- in front of the frames, the frames with the pad byte behind a body of odd size, and behind them
 abbrev pub sound_opening : List Entry → Form → ℕ → ℕ → List ℕ
@@ -94,7 +94,7 @@ abbrev pub first_at : List ℕ → Form → ℕ
 first_at file form = 16 + length (before file form) + 12 + 18
 
 abbrev pub end : List Entry → List ℕ → Form → ℕ → ℕ → List ℕ
-end es file form first last = dsti (entries_left es first last (first_at file form)) ++ kept form first last ++ behind file form
+end es file form first last = dsti (entries_left es first last (first_at file form)) ++ origin_left form first last ++ behind file form
 
 -- all of it
 abbrev pub whole : List Entry → List ℕ → Form → ℕ → ℕ → List ℕ

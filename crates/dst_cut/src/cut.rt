@@ -47,7 +47,7 @@ pub enum CutFault {
 /// Cuts frames out of a coded file: writes a coded file of those from the first to the last, both included, as they stand.
 ///
 /// Frames are counted from 0, and the last is not before the first. No frame is decoded. All that stands between the frames goes with
-/// them; the index is a new one, and where the file tells of a plain one, so does the new file of the sound that is left of it.
+/// them; the index is a new one, and where the file says of a plain one, so does the new file of the sound that is left of it.
 pub fn cut_file<S: Source, K: Sink>(
     alloc: Global,
     source: &mut S,

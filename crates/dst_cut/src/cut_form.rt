@@ -113,12 +113,12 @@ impl CutForm {
         let before = self.side_length(Side::Before);
         let behind = self.side_length(Side::Behind);
         let index = 12 + 12 * u64::from(self.count());
-        4 + before + (12 + sound + sound % 2) + index + self.kept_size() + behind
+        4 + before + (12 + sound + sound % 2) + index + self.origin_size() + behind
     }
 
     // Bytes of `KEPT`, where there is one.
-    fn kept_size(&self) -> u64
-        ensures size { result ≡ length (layout.kept (coded_seen self.now.form) self.now.first self.now.last) }
+    fn origin_size(&self) -> u64
+        ensures size { result ≡ length (layout.origin_left (coded_seen self.now.form) self.now.first self.now.last) }
         ensures most { result ≤ 2 ^ 18 }
     {
         match &self.form.origin {
@@ -140,12 +140,12 @@ impl CutForm {
         };
         let before = chunks_count(&passed, Side::Before);
         let behind = chunks_count(&passed, Side::Behind);
-        before + 2 + self.kept_count() + behind
+        before + 2 + self.origin_count() + behind
     }
 
     // How many chunks `KEPT` there are.
-    fn kept_count(&self) -> u32
-        ensures count { result ≡ layout.kept_count (coded_seen self.now.form).origin }
+    fn origin_count(&self) -> u32
+        ensures count { result ≡ layout.origin_count (coded_seen self.now.form).origin }
         ensures most { result ≤ 1 }
     {
         match &self.form.origin {

@@ -112,7 +112,7 @@ pub(crate) fn write_frames<S: Source, K: Sink>(
     }
 }
 
-/// Writes what stands behind the frames: the index, what is kept of the plain file, the chunks behind the sound.
+/// Writes what stands behind the frames: the index, what is said of the plain file, the chunks behind the sound.
 pub(crate) fn write_end<S: Source, K: Sink>(
     source: &mut S,
     sink: &mut K,
@@ -136,18 +136,18 @@ pub(crate) fn write_end<S: Source, K: Sink>(
     let Ok(()) = write_index(sink, cut, place, buffer) else {
         return Err(CopyFault::Write);
     };
-    let Ok(()) = write_kept(sink, cut) else {
+    let Ok(()) = write_origin_chunk(sink, cut) else {
         return Err(CopyFault::Write);
     };
     pass_side(source, sink, cut, Side::Behind, buffer)
 }
 
 // Writes `KEPT`, where there is one: what it says of the sound that is left.
-fn write_kept<K: Sink>(sink: &mut K, cut: &CutForm) -> Result<(), Failed>
+fn write_origin_chunk<K: Sink>(sink: &mut K, cut: &CutForm) -> Result<(), Failed>
     ensures cause { HasCause (K.faults sink.old) (K.faults sink.new) result }
     ensures written { MatchResult result
-        (λ _. Adds (layout.kept (coded_seen cut.now.form) cut.now.first cut.now.last) (K.written sink.old) (K.written sink.new) (K.room sink.old) (K.room sink.new))
-        (λ _. Stops (Unit {0}) (layout.kept (coded_seen cut.now.form) cut.now.first cut.now.last) (K.written sink.old) (K.written sink.new) (K.room sink.old)) }
+        (λ _. Adds (layout.origin_left (coded_seen cut.now.form) cut.now.first cut.now.last) (K.written sink.old) (K.written sink.new) (K.room sink.old) (K.room sink.new))
+        (λ _. Stops (Unit {0}) (layout.origin_left (coded_seen cut.now.form) cut.now.first cut.now.last) (K.written sink.old) (K.written sink.new) (K.room sink.old)) }
 {
     match &cut.form.origin {
         Some(origin) => {

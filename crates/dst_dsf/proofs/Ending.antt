@@ -45,10 +45,10 @@ stopped_at_sink : (P : Type 0) (file piece : List ℕ) (old new : Option (List �
 stopped_at_sink P file piece old new room bytes p front s =
     (stopped_short P file piece old new room bytes front s, (λ o is. (stops_in P o.out piece old new room (front o is) s).lacks p))
 
--- ---- the head
-pub head_added : {T E : Type 0} (result : Result T E) (d : Dsf) (old new : Option (List ℕ)) (room left : Option ℕ) → IsSure room left 92 result →
+-- ---- the header
+pub header_added : {T E : Type 0} (result : Result T E) (d : Dsf) (old new : Option (List ℕ)) (room left : Option ℕ) → IsSure room left 92 result →
     new ≡ and_then old (dsf_header d) → Adds (dsf_header d) old new room left
-head_added result d old new room left sure told =
+header_added result d old new room left sure told =
     added result (dsf_header d) old new room left (subst (λ n. IsSure room left n result) (sym (length-dsf_header d)) sure) told
 
 pub head_cut : {T E : Type 0} (fault : E) (d : Dsf) (old new : Option (List ℕ)) (room left : Option ℕ) → IsSure {T = T} {E = E} room left 92 (Err fault) →
@@ -80,50 +80,50 @@ module _ (file : List ℕ) (form : Form) (d : Dsf) (o : IsFor file form d) (byte
         AreDecoded file form k sounds → k ≤ form.frames →
         IsStoppedInRows P d (sound_of form sounds) mid new half ⊎ ((k ≡ form.frames) × Stops P (rows_of d (sound_of form sounds) (rows d)) mid new half) →
         IsStop P old new room
-    at_stop P k sounds old mid new room half head h few (inl s) = record {
+    at_stop P k sounds old mid new room half header h few (inl s) = record {
       piece = dsf_header d ++ rows_of d (sound_of form sounds) s.rows;
       front = rows_are_front file form d o k sounds s.rows bytes h (omega (arith, few, decodes.frames)) s.within;
-      stops = stops_then P (dsf_header d) (rows_of d (sound_of form sounds) s.rows) old mid new room half head s.stops;
+      stops = stops_then P (dsf_header d) (rows_of d (sound_of form sounds) s.rows) old mid new room half header s.stops;
     }
-    at_stop P k sounds old mid new room half head h few (inr (all, s)) = record {
+    at_stop P k sounds old mid new room half header h few (inr (all, s)) = record {
       piece = dsf_header d ++ rows_of d (sound_of form sounds) (rows d);
       front = whole_is_front file form d o sounds bytes (subst (λ n. AreDecoded file form n sounds) all h);
-      stops = stops_then P (dsf_header d) (rows_of d (sound_of form sounds) (rows d)) old mid new room half head s;
+      stops = stops_then P (dsf_header d) (rows_of d (sound_of form sounds) (rows d)) old mid new room half header s;
     }
 
     pub ends_in_rows : (fault : DecodeFault) (old mid new : Option (List ℕ)) (room half left : Option ℕ) → Adds (dsf_header d) old mid room half →
         FramesEnd (Err fault) file form d mid new half left → DecodingEnds (Err fault) file old new room
-    ends_in_rows (Frame k fault) old mid new room half left head (sounds, at, written) = (
+    ends_in_rows (Frame k fault) old mid new room half left header (sounds, at, written) = (
       dsf_header d ++ rows_of d (sound_of form sounds) (length (sound_of form sounds) / (4096 * d.channels)),
       refused_outcome file form d o k fault sounds at,
-      written ∙ ap (λ told. and_then told (rows_of d (sound_of form sounds) (length (sound_of form sounds) / (4096 * d.channels)))) head.written
+      written ∙ ap (λ told. and_then told (rows_of d (sound_of form sounds) (length (sound_of form sounds) / (4096 * d.channels)))) header.written
           ∙ and_then-twice old (dsf_header d) (rows_of d (sound_of form sounds) (length (sound_of form sounds) / (4096 * d.channels))),
     )
-    ends_in_rows Write old mid new room half left head (k, sounds, h, few, s) =
-        let stop = at_stop (Write ≡ Write) k sounds old mid new room half head h few s in
+    ends_in_rows Write old mid new room half left header (k, sounds, h, few, s) =
+        let stop = at_stop (Write ≡ Write) k sounds old mid new room half header h few s in
         stopped_at_sink (Write ≡ Write) file stop.piece old new room bytes refl stop.front stop.stops
-    ends_in_rows (Source fault) old mid new room half left head (k, sounds, h, few, s) =
-        let stop = at_stop (Source fault ≡ Write) k sounds old mid new room half head h few s in
+    ends_in_rows (Source fault) old mid new room half left header (k, sounds, h, few, s) =
+        let stop = at_stop (Source fault ≡ Write) k sounds old mid new room half header h few s in
         stopped_short (Source fault ≡ Write) file stop.piece old new room bytes stop.front stop.stops
 
     pub ends_unsettled : (sounds : List (List ℕ)) (old mid last new : Option (List ℕ)) (room half left : Option ℕ) → AreDecoded file form form.frames sounds →
         Adds (dsf_header d) old mid room half → Adds (rows_of d (sound_of form sounds) (rows d)) mid last half left → new ≡ last →
         ((n : ℕ) → left ≡ Some n → false ≡ true) → DecodingEnds (Err Write) file old new room
-    ends_unsettled sounds old mid last new room half left h head body same sure =
+    ends_unsettled sounds old mid last new room half left h header body same sure =
         stopped_at_sink (Unit {0}) file (dsf_header d ++ rows_of d (sound_of form sounds) (rows d)) old new room bytes (tt {0})
         (whole_is_front file form d o sounds bytes h)
         (stops_unsettled (dsf_header d ++ rows_of d (sound_of form sounds) (rows d)) old last new room left
-        (adds_then (dsf_header d) (rows_of d (sound_of form sounds) (rows d)) old mid last room half left head body) same sure)
+        (adds_then (dsf_header d) (rows_of d (sound_of form sounds) (rows d)) old mid last room half left header body) same sure)
 
     pub ends_done : (s : Decoded) (sounds : List (List ℕ)) (old mid last new : Option (List ℕ)) (room half left : Option ℕ) →
         AreDecoded file form form.frames sounds →
         Adds (dsf_header d) old mid room half → Adds (rows_of d (sound_of form sounds) (rows d)) mid last half left → new ≡ last →
         s.frames ≡ form.frames → s.bytes ≡ size_of_sound form → DecodingEnds (Ok s) file old new room
-    ends_done s sounds old mid last new room half left h head body same frames size = (
+    ends_done s sounds old mid last new room half left h header body same frames size = (
       dsf_header d ++ rows_of d (sound_of form sounds) (rows d),
       subst (λ n. OutcomeOf decode_dsf file (done (dsf_header d ++ rows_of d (sound_of form sounds) (rows d)) (decoded_line n s.bytes ∷ []))) (sym frames)
           (subst (λ n. OutcomeOf decode_dsf file (done (dsf_header d ++ rows_of d (sound_of form sounds) (rows d)) (decoded_line form.frames n ∷ [])))
           (sym size)
           (done_outcome file form d o sounds h)),
-      same ∙ (adds_then (dsf_header d) (rows_of d (sound_of form sounds) (rows d)) old mid last room half left head body).written,
+      same ∙ (adds_then (dsf_header d) (rows_of d (sound_of form sounds) (rows d)) old mid last room half left header body).written,
     )

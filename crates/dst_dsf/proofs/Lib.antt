@@ -1,7 +1,7 @@
 pub mod RowPlaces
 pub mod RowBytes
 pub mod Gathering
-pub mod Kept
+pub mod Dsfk
 pub mod Underway
 pub mod Running
 pub mod OneDsf

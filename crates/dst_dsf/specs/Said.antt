@@ -11,13 +11,13 @@ use Rattle.dst_commands.specs.Opened.{IsWalked}
 use Rattle.dst_commands.specs.declared.opened.WalkedForm.{WalkedForm}
 
 -- the body of `DSFK`: what it tells, and whether it is one that no encoder writes for this form
-abbrev pub told_in : Form → List ℕ → Dsf
-told_in form body = dsf_said form (number_at body 1 8) (number_at body 9 4) (number_at body 13 1)
+abbrev pub said_in : Form → List ℕ → Dsf
+said_in form body = dsf_said form (number_at body 1 8) (number_at body 9 4) (number_at body 13 1)
 
 abbrev pub is_bad_body : Form → List ℕ → Bool
 is_bad_body form body =
-    not (number_at body 0 1 == 1) || not ((told_in form body).bits == 1 || (told_in form body).bits == 8)
-    || not (octets (told_in form body) * (told_in form body).channels == size_of_sound form)
+    not (number_at body 0 1 == 1) || not ((said_in form body).bits == 1 || (said_in form body).bits == 8)
+    || not (octets (said_in form body) * (said_in form body).channels == size_of_sound form)
 
 -- the DSF file has the form's channels and its sound, in one of the two orders of bits
 pub record IsSaid (form : CodedForm) (said : DsfForm) : Type 0 where

@@ -33,7 +33,7 @@ use std::thread::Threads;
 /// Decodes a coded file to a DSF file: writes the one whose sound its frames mean.
 ///
 /// Batches of frames are read, decoded by so many workers, 1 to 16, and their sounds gathered in order into rows of blocks. What is
-/// answered and written is what one worker answers and writes. A file or a frame that is refused is told by its first fault; in front of a
+/// answered and written is what one worker answers and writes. A file or a frame that is refused is answered by its first fault; in front of a
 /// refused frame there are the rows that the sounds before it fill whole.
 pub fn decode_dsf<R: Threads + Sync, S: Source, K: Sink, G: Gate>(
     rt: &R,

@@ -14,7 +14,7 @@ use std::alloc::Global;
 #[derive(Clone, Copy, Drop)]
 pub(crate) struct DsfFrames;
 
-/// A coded form, where its frames stand, and the head of the DSF file.
+/// A coded form, where its frames stand, and the header of the DSF file.
 #[derive(Drop)]
 pub(crate) struct DsfWalked {
     pub(crate) walked: WalkedForm,

@@ -20,7 +20,7 @@ pub(crate) struct RowWriter<'a, K: Sink> {
 }
 
 impl<'a, K: Sink> RowWriter<'a, K> {
-    /// Writes to this sink the sound of a DSF file whose head says `form`.
+    /// Writes to this sink the sound of a DSF file whose header says `form`.
     pub(crate) fn new(sink: &'a mut K, form: DsfForm, size: u64) -> RowWriter<'a, K>
         requires order { is_order form.bits ≡ true }
         requires whole { size ≡ octets (dsf_seen form) * form.channels.channels }

@@ -8,7 +8,7 @@ ghost use Rattle.dsdiff_chunks.specs.Forms.{coded_seen};
 ghost use Rattle.dsdiff_chunks.specs.Seen.{head_seen};
 ghost use Rattle.dsdiff_chunks.specs.Opening.{Reads, Stops};
 ghost use Rattle.dsf_files.specs.Forms.{dsf_seen};
-ghost use Rattle.dst_dsf.specs.Said.{IsSaid, told_in, is_bad_body};
+ghost use Rattle.dst_dsf.specs.Said.{IsSaid, said_in, is_bad_body};
 
 use byteorder::{BigEndian, ByteOrder};
 use dsdiff_chunks::{ChunkHead, CodedForm, FileFault, Finding, OpenFault, find_either, read_range};
@@ -28,23 +28,23 @@ pub(crate) fn read_said<S: Source>(source: &mut S, form: &CodedForm) -> Result<D
     ensures lawful { IfOk result (IsSaid form.now) }
     ensures stops { IfErr result (Stops (λ file. dsfk_fault file (coded_seen form.now)) (S.bytes source.old) (S.faults source.old) (S.faults source.new)) }
 {
-    let head = match find_kept(form.heads.as_slice()) {
+    let head = match find_dsfk(form.heads.as_slice()) {
         Finding::Nothing => return Ok(usual_form(form)),
         Finding::Several(_) => return Err(OpenFault::File(FileFault::DsfKeptBad)),
         Finding::One(head) => head,
     };
-    read_kept(source, form, head)
+    read_dsfk(source, form, head)
 }
 
 // The chunks `DSFK` of some chunks.
-fn find_kept(heads: &[ChunkHead]) -> Finding
+fn find_dsfk(heads: &[ChunkHead]) -> Finding
     ensures { FoundAre result (named "DSFK" (map head_seen heads.now)) }
 {
     find_either(heads, *b"DSFK", *b"DSFK")
 }
 
 // What the one chunk `DSFK` of a form says.
-fn read_kept<S: Source>(
+fn read_dsfk<S: Source>(
     source: &mut S,
     form: &CodedForm,
     head: ChunkHead,
@@ -72,7 +72,7 @@ fn read_kept<S: Source>(
 
 // What the body of `DSFK` says, or None where no encoder writes it for this form.
 fn said_in(form: &CodedForm, body: &[u8; 14]) -> Option<DsfForm>
-    ensures said { IfSome result (λ d. told_in (coded_seen form.now) body.now ≡ dsf_seen d) }
+    ensures said { IfSome result (λ d. said_in (coded_seen form.now) body.now ≡ dsf_seen d) }
     ensures good { IfSome result (λ _. is_bad_body (coded_seen form.now) body.now ≡ false) }
     ensures lawful { IfSome result (IsSaid form.now) }
     ensures bad { IfNone result (is_bad_body (coded_seen form.now) body.now ≡ true) }

@@ -1,47 +1,47 @@
--- A frame begins in a lane: the words of the others, and tables that are narrow.
+-- A frame begins in a lane: the chances of the others, and tables that are narrow.
 use Rattle.std.proofs.Common.{◌≡◌, ◌≢◌, ℕ, ◌+◌, ◌%◌, ◌<◌, ℤ, pos, [], ◌∷◌, Bool, true, false, nat_eq, List, length, get_or, set, get_or-set_same}
 use Rattle.std.proofs.Common.{get_or-set_other, length-set}
 use Rattle.std.proofs.Common.{refl, ap, sym, subst, arith}
 use Rattle.std.proofs.lemmas.Bool.{eqb-true, eqb-false}
-use Rattle.arith_lanes.specs.Words.{IsWord}
+use Rattle.arith_lanes.specs.Chances.{IsChance}
 use Rattle.byte_predictor.specs.Upward.{size_sum}
 use Rattle.dst_frames.specs.Eight.{state_in}
-use Rattle.dst_frames.specs.Batch.{IsWordOf}
-use Rattle.dst_frames.specs.Running.{AreNarrow, AreWords}
+use Rattle.dst_frames.specs.Batch.{IsChanceOf}
+use Rattle.dst_frames.specs.Running.{AreNarrow, AreChances}
 use Rattle.dst_frames.specs.declared.tables.ChannelTables.{ChannelTables}
 use Rattle.dst_frames.specs.declared.state.ChannelState.{ChannelState}
 use Rattle.dst_frames.specs.declared.eight.EightStates.{EightStates}
 
-pub words_begun : (n c : ℕ) (was : EightStates) (rows : List EightStates) (row : EightStates) → c < length rows → AreWords rows n →
-    IsWordOf (state_in row n).next (get_or row.words n 0) → ((m : ℕ) → m ≢ n → state_in row m ≡ state_in (get_or rows c was) m) →
-    ((m : ℕ) → m ≢ n → get_or row.words m 0 ≡ get_or (get_or rows c was).words m 0) → AreWords (set rows c row) n
-words_begun n c was rows row lt are own states words = record {
+pub chances_begun : (n c : ℕ) (was : EightStates) (rows : List EightStates) (row : EightStates) → c < length rows → AreChances rows n →
+    IsChanceOf (state_in row n).next (get_or row.chances n 0) → ((m : ℕ) → m ≢ n → state_in row m ≡ state_in (get_or rows c was) m) →
+    ((m : ℕ) → m ≢ n → get_or row.chances m 0 ≡ get_or (get_or rows c was).chances m 0) → AreChances (set rows c row) n
+chances_begun n c was rows row lt are own states chances = record {
   some = λ m d other h k. some_at m d other h (omega (arith, length-set rows c row)) (nat_eq d c) refl;
   next = λ m d other h k. next_at m d other h (omega (arith, length-set rows c row)) (nat_eq d c) refl;
 }
   where
-    here : (m : ℕ) → m < 8 → (b : Bool) → nat_eq m n ≡ b → (p : ℕ) × IsWord p (get_or row.words m 0)
+    here : (m : ℕ) → m < 8 → (b : Bool) → nat_eq m n ≡ b → (p : ℕ) × IsChance p (get_or row.chances m 0)
     here m h true e =
         let is = eqb-true m n e in
         ((state_in row n).next % 128 + 1, rw is own.prob)
     here m h false e =
         let s = are.some m c was h lt in
-        (s.0, subst (IsWord s.0) (sym (words m (eqb-false m n e))) s.1)
+        (s.0, subst (IsChance s.0) (sym (chances m (eqb-false m n e))) s.1)
 
     some_at : (m d : ℕ) (other : EightStates) → m < 8 → d < length rows → (b : Bool) → nat_eq d c ≡ b →
-        (p : ℕ) × IsWord p (get_or (get_or (set rows c row) d other).words m 0)
+        (p : ℕ) × IsChance p (get_or (get_or (set rows c row) d other).chances m 0)
     some_at m d other h k true e =
         let is = eqb-true d c e in
         rw (is, get_or-set_same rows c row other lt) (here m h (nat_eq m n) refl)
     some_at m d other h k false e = rw (get_or-set_other rows c d row other (eqb-false d c e)) (are.some m d other h k)
 
     next_at : (m d : ℕ) (other : EightStates) → m < n → d < length rows → (b : Bool) → nat_eq d c ≡ b →
-        IsWordOf (state_in (get_or (set rows c row) d other) m).next (get_or (get_or (set rows c row) d other).words m 0)
+        IsChanceOf (state_in (get_or (set rows c row) d other) m).next (get_or (get_or (set rows c row) d other).chances m 0)
     next_at m d other h k true e =
         let is = eqb-true d c e in
         let ne : m ≢ n = omega arith in
         let same : (state_in row m).next ≡ (state_in (get_or rows c was) m).next = ap (λ (s : ChannelState). s.next) (states m ne) in
-        let moved : IsWordOf (state_in row m).next (get_or row.words m 0) = rw (same, words m ne) (are.next m c was h lt) in
+        let moved : IsChanceOf (state_in row m).next (get_or row.chances m 0) = rw (same, chances m ne) (are.next m c was h lt) in
         rw (is, get_or-set_same rows c row other lt) moved
     next_at m d other h k false e = rw (get_or-set_other rows c d row other (eqb-false d c e)) (are.next m d other h k)
 

@@ -11,7 +11,7 @@ use Rattle.dst_spec.specs.declared.faults.FrameFault.{FrameFault}
 use Rattle.dst_spec.proofs.Meaning.{meaning_is_no_fault}
 use Rattle.dst_spec.proofs.Unique.{meaning_of_tail}
 use Rattle.arith_decoder.specs.Decoding.{Decoding, StandsFor}
-use Rattle.arith_lanes.specs.Words.{IsWord}
+use Rattle.arith_lanes.specs.Chances.{IsChance}
 use Rattle.arith_lanes.specs.Lanes.{IsLane, IsKept, Begins, TakesSymbol, given_of, decoding_at, first_at, used_at, ahead_at}
 use Rattle.arith_lanes.specs.declared.lanes.ArithLanes.{ArithLanes}
 use Rattle.dst_frames.specs.Coded.{IsCodeOfSound}
@@ -39,9 +39,9 @@ begins_kept s t n bytes place b k =
       stands = subst (λ d. StandsFor d []) (sym same) b.stands;
     }
 
-pub begun_kept : (f : Shape) (s t : ArithLanes) (n : ℕ) (bytes : List ℕ) (tables : List ChannelTables) (states : List ChannelState) (word : ℕ) →
-    HasBegun f s n bytes tables states word → IsKept s t n → HasBegun f t n bytes tables states word
-begun_kept f s t n bytes tables states word b k = record {
+pub begun_kept : (f : Shape) (s t : ArithLanes) (n : ℕ) (bytes : List ℕ) (tables : List ChannelTables) (states : List ChannelState) (chance : ℕ) →
+    HasBegun f s n bytes tables states chance → IsKept s t n → HasBegun f t n bytes tables states chance
+begun_kept f s t n bytes tables states chance b k = record {
   params = b.params;
   place = b.place;
   begins = begins_kept s t n bytes b.place b.begins k;
@@ -56,11 +56,11 @@ begun_kept f s t n bytes tables states word b k = record {
 -- the code of a frame that is decoded
 pub code_in_lane : ((d : Decoding) (pairs : List (Bool × ℕ)) → StandsFor d pairs → IsCodeOf (bits d.bytes) d.first pairs) →
     (f : Shape) (s t u : ArithLanes) (n : ℕ) (bytes : List ℕ) (tables : List ChannelTables) (states after : List ChannelState)
-    (word octets : ℕ) (symbol : Bool) (sound heard : List ℕ) →
-    (b : HasBegun f s n bytes tables states word) → TakesSymbol s t n bytes (reserved_probability b.params) symbol →
+    (chance octets : ℕ) (symbol : Bool) (sound heard : List ℕ) →
+    (b : HasBegun f s n bytes tables states chance) → TakesSymbol s t n bytes (reserved_probability b.params) symbol →
     f.channels ≡ length tables → f.octets ≡ octets → LaneDecoded n 0 octets bytes t u tables states after sound heard → first_at u n ≡ first_at t n →
     IsCodeOfSound f b.params (bits bytes) b.place heard (used_at u n)
-code_in_lane law f s t u n bytes tables states after word octets symbol sound heard b taken channels all decoded first =
+code_in_lane law f s t u n bytes tables states after chance octets symbol sound heard b taken channels all decoded first =
     let P = b.params in
     let begins = frame_begins f P symbol (reserved_probability P) sound (decoding_at t n bytes) states refl
     (taken.stands [] b.begins.stands) b.fresh in
@@ -85,14 +85,14 @@ answered f frame sound answer tail shape is means = rw is (record {
 
 -- the lanes behind their reserved symbols
 pub begun_lanes : (f : Shape) (s t : ArithLanes) (frames : List StoredFrame) (tables : List ChannelTables) (numbers : List TableNumbers)
-    (rows : List EightStates) (words given : List ℕ) →
+    (rows : List EightStates) (chances given : List ℕ) →
     length frames ≤ 8 →
     ((n : ℕ) (frame : StoredFrame) → n < length frames →
-    HasBegun f s n (stored_in (get_or frames n frame)) (tables_at tables numbers n) (states_at rows n) (get_or words n 0)) →
-    ((n : ℕ) → length frames ≤ n → n < 8 → Begins s n [] 0 × IsWord 1 (get_or words n 0)) →
-    ((n p : ℕ) (bytes : List ℕ) → n < 8 → IsLane s n bytes → IsWord p (get_or words n 0) → 8 ≤ ahead_at s n → used_at s n ≤ 2 ^ 40 →
-    (symbol : Bool) × (get_or given n 0 ≡ given_of (get_or words n 0) symbol) × TakesSymbol s t n bytes p symbol) → AreLanes t (code_at frames) (2 ^ 30)
-begun_lanes f s t frames tables numbers rows words given few begun empty taken = record {
+    HasBegun f s n (stored_in (get_or frames n frame)) (tables_at tables numbers n) (states_at rows n) (get_or chances n 0)) →
+    ((n : ℕ) → length frames ≤ n → n < 8 → Begins s n [] 0 × IsChance 1 (get_or chances n 0)) →
+    ((n p : ℕ) (bytes : List ℕ) → n < 8 → IsLane s n bytes → IsChance p (get_or chances n 0) → 8 ≤ ahead_at s n → used_at s n ≤ 2 ^ 40 →
+    (symbol : Bool) × (get_or given n 0 ≡ given_of (get_or chances n 0) symbol) × TakesSymbol s t n bytes p symbol) → AreLanes t (code_at frames) (2 ^ 30)
+begun_lanes f s t frames tables numbers rows chances given few begun empty taken = record {
   lane = λ n h. (at n h (nat_lt n (length frames)) refl).0;
   used = λ n h. (at n h (nat_lt n (length frames)) refl).1;
 }

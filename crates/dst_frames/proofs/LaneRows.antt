@@ -14,13 +14,13 @@ use Rattle.dst_frames.proofs.History.{Predicts}
 use Rattle.dst_frames.proofs.Rows.{IsRow, row_goes_on}
 
 pub row_on : Predicts → (f : Shape) (P : Params) (reserved : Bool) (byte place i : ℕ) (start : Bool) (samples : ℕ → List ℕ) (old mid new : Decoding)
-    (table : ChannelTables) (states : List ChannelState) (was after : ChannelState) (word : ℕ) →
+    (table : ChannelTables) (states : List ChannelState) (was after : ChannelState) (chance : ℕ) →
     IsBuilt (filter_of P i) (probs_of P i) (get_or P.half_prob i false) table →
-    LaneSteps place (start && nat_lt (8 * byte + place) table.early) table was after mid new word → mid ≡ old →
+    LaneSteps place (start && nat_lt (8 * byte + place) table.early) table was after mid new chance → mid ≡ old →
     ((other : ChannelState) → get_or states i other ≡ was) →
     IsRow f P reserved (8 * byte + place) place samples i old states → i < f.channels → i < length states →
     (start ≡ false → 16 ≤ byte) → IsRow f P reserved (8 * byte + place) place samples (i + 1) new (set states i after)
-row_on law f P reserved byte place i start samples old mid new table states was after word built step alike here row lt inside at_start =
+row_on law f P reserved byte place i start samples old mid new table states was after chance built step alike here row lt inside at_start =
     let half_prob = get_or P.half_prob i false in
     let early = early_is half_prob start byte place table.early (length (filter_of P i)) built.early built.short at_start in
     let ready = subst (λ s. IsReady (filter_of P i) (probs_of P i) place (samples i) s) (here was) (row.before i was (omega arith) lt) in

@@ -4,20 +4,20 @@ use Rattle.std.proofs.Common.{refl, ap, sym, ◌∙◌, subst, arith, ltb-true, 
 use lib.Dec.{leb}
 use mathlib.Core.Bool.{beq}
 use Rattle.arith_decoder.specs.Decoding.{Decoding, StandsFor}
-use Rattle.arith_lanes.specs.Words.{IsWord}
+use Rattle.arith_lanes.specs.Chances.{IsChance}
 use Rattle.arith_lanes.specs.Lanes.{TakesSymbol, given_of}
 use Rattle.arith_lanes.specs.declared.lanes.ArithLanes.{ArithLanes}
 use Rattle.dst_frames.specs.Tables.{symbol_after}
-use Rattle.dst_frames.specs.Batch.{IsWordOf, LaneTakes, LaneSteps, IsLaneFurther}
+use Rattle.dst_frames.specs.Batch.{IsChanceOf, LaneTakes, LaneSteps, IsLaneFurther}
 use Rattle.dst_frames.specs.declared.tables.ChannelTables.{ChannelTables}
 use Rattle.dst_frames.specs.declared.state.ChannelState.{ChannelState}
 use Rattle.dst_frames.proofs.Symbols.{symbol_is, high_is}
 
 -- the sample that is given for a symbol
-sample_given : (s : Bool) (e word given : ℕ) → word / 128 % 2 ≡ e / 128 → given ≡ given_of word s → beq s (leb 128 e) ≡ nat_eq (given % 2) 1
-sample_given s e word given mark is = ap (beq s) (high_is e) ∙ go s (nat_lt e 128) refl is
+sample_given : (s : Bool) (e chance given : ℕ) → chance / 128 % 2 ≡ e / 128 → given ≡ given_of chance s → beq s (leb 128 e) ≡ nat_eq (given % 2) 1
+sample_given s e chance given mark is = ap (beq s) (high_is e) ∙ go s (nat_lt e 128) refl is
   where
-    go : (s low : Bool) → nat_lt e 128 ≡ low → given ≡ given_of word s → beq s (not low) ≡ nat_eq (given % 2) 1
+    go : (s low : Bool) → nat_lt e 128 ≡ low → given ≡ given_of chance s → beq s (not low) ≡ nat_eq (given % 2) 1
     go true true h is =
         let lt = ltb-true e 128 h in
         let none : given ≡ 0 = omega arith in
@@ -39,12 +39,12 @@ prob_now : (early : Bool) (e : ℕ) → (if early then 128 else e % 128 + 1) ≡
 prob_now true e = refl
 prob_now false e = refl
 
-pub lane_steps : (place : ℕ) (early : Bool) (table : ChannelTables) (before after : ChannelState) (old new : Decoding) (given next word now : ℕ) →
-    LaneTakes place given table before after next → IsWordOf before.next word → now / 128 % 2 ≡ word / 128 % 2 →
+pub lane_steps : (place : ℕ) (early : Bool) (table : ChannelTables) (before after : ChannelState) (old new : Decoding) (given next chance now : ℕ) →
+    LaneTakes place given table before after next → IsChanceOf before.next chance → now / 128 % 2 ≡ chance / 128 % 2 →
     ((s : Bool) × (given ≡ given_of now s)
     × ((pairs : List (Bool × ℕ)) → StandsFor old pairs → StandsFor new (pairs ++ (s, (if early then 128 else before.next % 128 + 1)) ∷ []))) →
     LaneSteps place early table before after old new next
-lane_steps place early table before after old new given next word now taken is same d =
+lane_steps place early table before after old new given next chance now taken is same d =
     let e = before.next in
     let mark : now / 128 % 2 ≡ e / 128 = same ∙ is.mark in
     let sample = sample_given d.0 e now given mark d.1 in
@@ -59,7 +59,7 @@ lane_steps place early table before after old new given next word now taken is s
             pair ∙ ap (symbol_after filter probs early samples) sample in
             subst (λ q. StandsFor new (pairs ++ q ∷ [])) whole (d.2 pairs stands);
       };
-      next_word = taken.next_word;
+      next_chance = taken.next_chance;
     }
 
 pub further_by : (s t : ArithLanes) (n : ℕ) (bytes : List ℕ) (p : ℕ) (symbol : Bool) → TakesSymbol s t n bytes p symbol → IsLaneFurther s t n bytes 8
@@ -70,13 +70,13 @@ pub one_of : {A : Type 0} (xs : List A) (n : ℕ) → n < length xs → A
 one_of [] n h = absurd (omega arith)
 one_of (x ∷ xs) n h = x
 
--- each word for now has some probability
-pub some_word : (early : ℕ → ℕ) (words now : List ℕ) (count t : ℕ) (start : Bool) (n p : ℕ) →
-    ((n p : ℕ) → n < count → IsWord p (get_or words n 0) →
-    IsWord (if (start && nat_lt t (early n)) then 128 else p) (get_or now n 0)) →
-    ((n : ℕ) → count ≤ n → get_or now n 0 ≡ get_or words n 0) → IsWord p (get_or words n 0) → (q : ℕ) × IsWord q (get_or now n 0)
-some_word early words now count t start n p live idle word = go (nat_lt n count) refl
+-- each chance for now has some probability
+pub some_chance : (early : ℕ → ℕ) (chances now : List ℕ) (count t : ℕ) (start : Bool) (n p : ℕ) →
+    ((n p : ℕ) → n < count → IsChance p (get_or chances n 0) →
+    IsChance (if (start && nat_lt t (early n)) then 128 else p) (get_or now n 0)) →
+    ((n : ℕ) → count ≤ n → get_or now n 0 ≡ get_or chances n 0) → IsChance p (get_or chances n 0) → (q : ℕ) × IsChance q (get_or now n 0)
+some_chance early chances now count t start n p live idle chance = go (nat_lt n count) refl
   where
-    go : (b : Bool) → nat_lt n count ≡ b → (q : ℕ) × IsWord q (get_or now n 0)
-    go true e = (_, live n p (ltb-true n count e) word)
-    go false e = (p, subst (IsWord p) (sym (idle n (ltb-false n count e))) word)
+    go : (b : Bool) → nat_lt n count ≡ b → (q : ℕ) × IsChance q (get_or now n 0)
+    go true e = (_, live n p (ltb-true n count e) chance)
+    go false e = (p, subst (IsChance p) (sym (idle n (ltb-false n count e))) chance)

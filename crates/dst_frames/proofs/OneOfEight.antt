@@ -4,25 +4,25 @@ use Rattle.std.proofs.Common.{refl, ap, ap₂, sym, subst, ◌∙◌, arith}
 use Rattle.std.proofs.lemmas.Bool.{eqb-true, eqb-false}
 use Rattle.std.proofs.lemmas.List.{get_or_default, set-get_or, get_or-map, length-map}
 use Rattle.std.proofs.Math.Seq.{map-set_same}
-use Rattle.arith_lanes.specs.Words.{IsWord}
+use Rattle.arith_lanes.specs.Chances.{IsChance}
 use Rattle.byte_predictor.specs.Samples.{signed_sum}
 use Rattle.byte_predictor.specs.SumsAhead.{SumsAhead, IsAhead}
 use Rattle.dst_frames.specs.Tables.{IsBuilt, IsEntry}
-use Rattle.dst_frames.specs.Batch.{IsWordOf}
+use Rattle.dst_frames.specs.Batch.{IsChanceOf}
 use Rattle.dst_frames.specs.Eight.{entry_in, state_in, states_at, no_tables, table_at, tables_at}
 use Rattle.dst_frames.specs.declared.tables.ChannelTables.{ChannelTables}
 use Rattle.dst_frames.specs.declared.state.ChannelState.{ChannelState}
 use Rattle.dst_frames.specs.declared.eight.TableNumbers.{TableNumbers}
 use Rattle.dst_frames.specs.declared.eight.EightStates.{EightStates}
 
--- the low half of a word is its entry
-pub word_of_itself : (p word : ℕ) → IsWord p word → IsWordOf (entry_in word) word
-word_of_itself p word is =
-    let same : p ≡ word % 256 % 128 + 1 = omega (arith, is.prob) in
-    record { prob = subst (λ q. IsWord q word) same is; mark = omega arith }
+-- the low half of a chance is its entry
+pub chance_of_itself : (p chance : ℕ) → IsChance p chance → IsChanceOf (entry_in chance) chance
+chance_of_itself p chance is =
+    let same : p ≡ chance % 256 % 128 + 1 = omega (arith, is.prob) in
+    record { prob = subst (λ q. IsChance q chance) same is; mark = omega arith }
 
-pub word_of_entry : (entry word : ℕ) → IsWord (entry % 128 + 1) word → word / 128 % 2 ≡ entry / 128 → entry_in word ≡ entry
-word_of_entry entry word is mark = omega (arith, is.prob)
+pub chance_of_entry : (entry chance : ℕ) → IsChance (entry % 128 + 1) chance → chance / 128 % 2 ≡ entry / 128 → entry_in chance ≡ entry
+chance_of_entry entry chance is mark = omega (arith, is.prob)
 
 -- one of the frames is another one, or it isn't
 pub own_or_other : (n m : ℕ) (P : Type 0) → (n ≡ m → P) → (n ≢ m → P) → P
@@ -34,16 +34,16 @@ own_or_other n m P own other = go (nat_eq n m) refl
 
 -- a row of no frames
 abbrev pub no_row : EightStates
-no_row = record { ahead = record { sums = []; newest = [] }; words = [] }
+no_row = record { ahead = record { sums = []; newest = [] }; chances = [] }
 
 -- numbers of no frames
 abbrev pub no_numbers : TableNumbers
 no_numbers = record { of = [] }
 
--- a word tells the entry of the sample at a place
+-- a chance tells the entry of the sample at a place
 abbrev pub TellsNext : ℕ → ChannelTables → SumsAhead → ℕ → Type 0
-TellsNext place table ahead word = (filter : List ℤ) (probs samples : List ℕ) (half_prob : Bool) → IsBuilt filter probs half_prob table →
-    IsAhead filter place samples ahead → IsEntry (signed_sum filter samples) probs (entry_in word)
+TellsNext place table ahead chance = (filter : List ℤ) (probs samples : List ℕ) (half_prob : Bool) → IsBuilt filter probs half_prob table →
+    IsAhead filter place samples ahead → IsEntry (signed_sum filter samples) probs (entry_in chance)
 
 -- ---- the channels of a frame
 pub length-states : (rows : List EightStates) (n : ℕ) → length (states_at rows n) ≡ length rows

@@ -1,15 +1,15 @@
--- A batch on its way: its lanes and its words.
+-- A batch on its way: its lanes and its chances.
 use Rattle.std.proofs.Common.{◌≡◌, ℕ, zero, suc, ◌+◌, ◌<◌, ◌≤◌, nat_eq, nat_lt, Bool, true, false, List, [], ◌∷◌, length}
 use Rattle.std.proofs.Common.{get_or, set}
 use Rattle.std.proofs.Common.{get_or-set_same, get_or-set_other, length-set, refl, ap, sym, ◌∙◌, subst, arith, ltb-true, ltb-false}
 use Rattle.std.proofs.lemmas.Bool.{eqb-true, eqb-false}
 use Rattle.arith_decoder.specs.Decoding.{Decoding}
-use Rattle.arith_lanes.specs.Words.{IsWord}
+use Rattle.arith_lanes.specs.Chances.{IsChance}
 use Rattle.arith_lanes.specs.Lanes.{IsLane, IsKept, decoding_at, used_at}
 use Rattle.arith_lanes.specs.declared.lanes.ArithLanes.{ArithLanes}
 use Rattle.dst_frames.specs.Eight.{state_in}
-use Rattle.dst_frames.specs.Batch.{IsWordOf, HasEnough, IsLaneFurther, AreLanes, stored_in, code_at}
-use Rattle.dst_frames.specs.Running.{AreWords, LaneDecoded}
+use Rattle.dst_frames.specs.Batch.{IsChanceOf, HasEnough, IsLaneFurther, AreLanes, stored_in, code_at}
+use Rattle.dst_frames.specs.Running.{AreChances, LaneDecoded}
 use Rattle.dst_frames.specs.declared.tables.ChannelTables.{ChannelTables}
 use Rattle.dst_frames.specs.declared.state.ChannelState.{ChannelState}
 use Rattle.dst_frames.specs.declared.eight.EightStates.{EightStates}
@@ -71,40 +71,40 @@ lanes_on s t codes most more all are further h = record {
   used = λ n l. omega (arith, are.used n l, (further n l).used);
 }
 
--- ---- the words
+-- ---- the chances
 -- behind a step of one channel
-pub words_on : (c count : ℕ) (rows : List EightStates) (row : EightStates) → count ≤ 8 → c < length rows → AreWords rows count →
-    ((n : ℕ) → n < count → IsWordOf (state_in row n).next (get_or row.words n 0)) →
-    ((n : ℕ) (other : EightStates) → count ≤ n → get_or row.words n 0 ≡ get_or (get_or rows c other).words n 0) → AreWords (set rows c row) count
-words_on c count rows row few inside are live idle = record {
+pub chances_on : (c count : ℕ) (rows : List EightStates) (row : EightStates) → count ≤ 8 → c < length rows → AreChances rows count →
+    ((n : ℕ) → n < count → IsChanceOf (state_in row n).next (get_or row.chances n 0)) →
+    ((n : ℕ) (other : EightStates) → count ≤ n → get_or row.chances n 0 ≡ get_or (get_or rows c other).chances n 0) → AreChances (set rows c row) count
+chances_on c count rows row few inside are live idle = record {
   some = λ n d other h k. some_at n d other h (omega (arith, length-set rows c row)) (nat_eq d c) refl;
   next = λ n d other h k. next_at n d other h (omega (arith, length-set rows c row)) (nat_eq d c) refl;
 }
   where
-    here : (n : ℕ) (other : EightStates) → n < 8 → (b : Bool) → nat_lt n count ≡ b → (p : ℕ) × IsWord p (get_or row.words n 0)
+    here : (n : ℕ) (other : EightStates) → n < 8 → (b : Bool) → nat_lt n count ≡ b → (p : ℕ) × IsChance p (get_or row.chances n 0)
     here n other h true e = (_, (live n (ltb-true n count e)).prob)
     here n other h false e =
         let s = are.some n c other h inside in
-        (s.0, subst (IsWord s.0) (sym (idle n other (ltb-false n count e))) s.1)
+        (s.0, subst (IsChance s.0) (sym (idle n other (ltb-false n count e))) s.1)
 
     some_at : (n d : ℕ) (other : EightStates) → n < 8 → d < length rows → (b : Bool) → nat_eq d c ≡ b →
-        (p : ℕ) × IsWord p (get_or (get_or (set rows c row) d other).words n 0)
+        (p : ℕ) × IsChance p (get_or (get_or (set rows c row) d other).chances n 0)
     some_at n d other h k true e =
         let is = eqb-true d c e in
         rw (is, get_or-set_same rows c row other inside) (here n other h (nat_lt n count) refl)
     some_at n d other h k false e = rw (get_or-set_other rows c d row other (eqb-false d c e)) (are.some n d other h k)
 
     next_at : (n d : ℕ) (other : EightStates) → n < count → d < length rows → (b : Bool) → nat_eq d c ≡ b →
-        IsWordOf (state_in (get_or (set rows c row) d other) n).next (get_or (get_or (set rows c row) d other).words n 0)
+        IsChanceOf (state_in (get_or (set rows c row) d other) n).next (get_or (get_or (set rows c row) d other).chances n 0)
     next_at n d other h k true e =
         let is = eqb-true d c e in
         rw (is, get_or-set_same rows c row other inside) (live n h)
     next_at n d other h k false e = rw (get_or-set_other rows c d row other (eqb-false d c e)) (are.next n d other h k)
 
--- words that are as they were
-pub words_same : (count : ℕ) (rows new : List EightStates) → AreWords rows count → length new ≡ length rows →
-    ((c : ℕ) (row : EightStates) → (get_or new c row).words ≡ (get_or rows c row).words) → AreWords new count
-words_same count rows new are long same = record {
+-- chances that are as they were
+pub chances_same : (count : ℕ) (rows new : List EightStates) → AreChances rows count → length new ≡ length rows →
+    ((c : ℕ) (row : EightStates) → (get_or new c row).chances ≡ (get_or rows c row).chances) → AreChances new count
+chances_same count rows new are long same = record {
   some = λ n c row h k. rw (same c row) (are.some n c row h (omega arith));
   next = λ n c row h k. rw (same c row) (are.next n c row h (omega arith));
 }

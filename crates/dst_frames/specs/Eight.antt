@@ -7,13 +7,13 @@ use Rattle.dst_frames.specs.declared.eight.TableNumbers.{TableNumbers}
 use Rattle.dst_frames.specs.declared.eight.EightTables.{EightTables}
 use Rattle.dst_frames.specs.declared.eight.EightStates.{EightStates}
 
--- the entry that has the probability and the guess of a word
+-- the entry that has the probability and the guess of a chance
 abbrev pub entry_in : ℕ → ℕ
-entry_in word = word % 256
+entry_in chance = chance % 256
 
 -- the channel in one of the frames
 abbrev pub state_in : EightStates → ℕ → ChannelState
-state_in row n = record { ahead = ahead_at row.ahead n; next = entry_in (get_or row.words n 0) }
+state_in row n = record { ahead = ahead_at row.ahead n; next = entry_in (get_or row.chances n 0) }
 
 -- all channels of frame n, and their tables
 unfoldable pub states_at : List EightStates → ℕ → List ChannelState

@@ -3,14 +3,14 @@ use Rattle.std.specs.Prelude.{◌≡◌, ℕ, ◌+◌, ◌*◌, ◌<◌, ◌≤�
 use Rattle.dst_spec.specs.Sample.{Shape}
 use Rattle.dst_spec.specs.Header.{Params}
 use Rattle.arith_decoder.specs.Decoding.{Decoding}
-use Rattle.arith_lanes.specs.Words.{IsWord}
+use Rattle.arith_lanes.specs.Chances.{IsChance}
 use Rattle.arith_lanes.specs.Lanes.{decoding_at}
 use Rattle.arith_lanes.specs.declared.lanes.ArithLanes.{ArithLanes}
 use Rattle.byte_predictor.specs.Upward.{size_sum}
 use Rattle.dst_frames.specs.Tables.{AreBuilt}
 use Rattle.dst_frames.specs.Underway.{earlier, IsUnderway, IsDecodedTo, AreDecoded}
 use Rattle.dst_frames.specs.Eight.{state_in}
-use Rattle.dst_frames.specs.Batch.{IsWordOf}
+use Rattle.dst_frames.specs.Batch.{IsChanceOf}
 use Rattle.dst_frames.specs.declared.tables.ChannelTables.{ChannelTables}
 use Rattle.dst_frames.specs.declared.state.ChannelState.{ChannelState}
 use Rattle.dst_frames.specs.declared.eight.TableNumbers.{TableNumbers}
@@ -52,15 +52,15 @@ pub record AreTaken (eight : EightTables) (frames channels : ℕ) : Type 0 where
   pub few : eight.taken ≤ frames * length eight.numbers.items + channels
   pub inside : eight.taken ≤ length eight.tables.items
 
--- a channel of no frames: each word has the probability 1
+-- a channel of no frames: each chance has the probability 1
 abbrev pub IsFresh : EightStates → Type 0
-IsFresh row = (n : ℕ) → n < 8 → IsWord 1 (get_or row.words n 0)
+IsFresh row = (n : ℕ) → n < 8 → IsChance 1 (get_or row.chances n 0)
 
--- The words of each channel: those of the next samples of the first frames, and some behind them.
-pub record AreWords (rows : List EightStates) (frames : ℕ) : Type 0 where
-  pub some : (n c : ℕ) (row : EightStates) → n < 8 → c < length rows → (p : ℕ) × IsWord p (get_or (get_or rows c row).words n 0)
+-- The chances of each channel: those of the next samples of the first frames, and some behind them.
+pub record AreChances (rows : List EightStates) (frames : ℕ) : Type 0 where
+  pub some : (n c : ℕ) (row : EightStates) → n < 8 → c < length rows → (p : ℕ) × IsChance p (get_or (get_or rows c row).chances n 0)
   pub next : (n c : ℕ) (row : EightStates) → n < frames → c < length rows →
-      IsWordOf (state_in (get_or rows c row) n).next (get_or (get_or rows c row).words n 0)
+      IsChanceOf (state_in (get_or rows c row) n).next (get_or (get_or rows c row).chances n 0)
 
 -- one sample of each channel more is decoded
 abbrev pub RowsDecoded : Shape → Params → Bool → ℕ → ℕ → (n : ℕ) → List ℕ → ArithLanes → ArithLanes → List ChannelState →

@@ -8,14 +8,14 @@ ghost use Rattle.dst_spec.specs.Means.{MeansWithTail};
 ghost use Rattle.byte_predictor.specs.Samples.{samples_of};
 ghost use Rattle.byte_predictor.specs.Upward.{size_sum};
 ghost use Rattle.dst_spec.specs.Symbols.{reserved_probability as probability_of};
-ghost use Rattle.arith_lanes.specs.Words.{IsWord};
+ghost use Rattle.arith_lanes.specs.Chances.{IsChance};
 ghost use Rattle.arith_lanes.specs.Lanes.{IsKept, Begins};
 ghost use Rattle.dst_frames.specs.Coded.{IsCodeOfSound};
 ghost use Rattle.dst_frames.specs.Tables.{IsBuilt, AreBuilt};
 ghost use Rattle.dst_frames.specs.Ready.{IsReady};
 ghost use Rattle.dst_frames.specs.Batch.{IsDecoded, IsLaneFurther, AreLanes, HasBegun, stored_in, code_at};
 ghost use Rattle.dst_frames.specs.Eight.{states_at, table_at, tables_at, tables_in};
-ghost use Rattle.dst_frames.specs.Running.{AreStored, AreNarrow, AreEight, IsPool, AreTaken, IsFresh, AreWords, LaneDecoded};
+ghost use Rattle.dst_frames.specs.Running.{AreStored, AreNarrow, AreEight, IsPool, AreTaken, IsFresh, AreChances, LaneDecoded};
 ghost use Rattle.dst_frames.specs.declared.state.ChannelState.{ChannelState};
 ghost use Rattle.dst_frames.specs.declared.eight.TableNumbers.{TableNumbers};
 ghost use Rattle.dst_frames.specs.declared.stored.StoredFrame.{StoredFrame};
@@ -29,7 +29,7 @@ use crate::state::ChannelState;
 use crate::stored::{DecodedFrame, StoredFrame};
 use crate::tables::ChannelTables;
 use arith_decoder::laws::decoded_code;
-use arith_lanes::{ArithLanes, word};
+use arith_lanes::{ArithLanes, chance};
 use byte_predictor::filter_size;
 use channel_params::{alike_channel, channel_filter, reserved_probability};
 use dst_num::{Channels, Params};
@@ -187,7 +187,7 @@ fn decode_one(
     heard.answer = answer;
 }
 
-// Begins each frame in its lane, and gives the words of their reserved symbols. None where one of them is plain or refused.
+// Begins each frame in its lane, and gives the chances of their reserved symbols. None where one of them is plain or refused.
 fn begin_all(
     frames: &[StoredFrame],
     channels: Channels,
@@ -202,24 +202,24 @@ fn begin_all(
     requires rows { length rows.old ≡ channels.channels }
     requires fresh { All IsFresh rows.old }
     requires empty { (n : ℕ) → n < 8 → Begins lanes.old n [] 0 }
-    ensures begun { IfSome result (λ words. (n : ℕ) (frame : StoredFrame) → n < length frames.now
-        → HasBegun channels lanes.new n (stored_in (get_or frames.now n frame)) (tables_in eight.new n) (states_at rows.new n) (get_or words n 0)) }
-    ensures empty { IfSome result (λ words. (n : ℕ) → length frames.now ≤ n → n < 8 → Begins lanes.new n [] 0 × IsWord 1 (get_or words n 0)) }
-    ensures words { IfSome result (λ _. AreWords rows.new (length frames.now)) }
+    ensures begun { IfSome result (λ chances. (n : ℕ) (frame : StoredFrame) → n < length frames.now
+        → HasBegun channels lanes.new n (stored_in (get_or frames.now n frame)) (tables_in eight.new n) (states_at rows.new n) (get_or chances n 0)) }
+    ensures empty { IfSome result (λ chances. (n : ℕ) → length frames.now ≤ n → n < 8 → Begins lanes.new n [] 0 × IsChance 1 (get_or chances n 0)) }
+    ensures chances { IfSome result (λ _. AreChances rows.new (length frames.now)) }
     ensures eight { IsPool eight.new channels.channels }
 {
-    let mut words = [word(0); 8];
+    let mut chances = [chance(0); 8];
     eight.taken = 0;
     for n in 0..frames.len() {
         match begin_lane(frames[n].stored(), channels, lanes, n, eight, rows) {
-            Some(reserved) => words[n] = reserved,
+            Some(reserved) => chances[n] = reserved,
             None => return None,
         }
     }
-    Some(words)
+    Some(chances)
 }
 
-// Begins a coded frame in a lane, and gives the word of its reserved symbol. None where the frame is plain or refused.
+// Begins a coded frame in a lane, and gives the chance of its reserved symbol. None where the frame is plain or refused.
 fn begin_lane(
     frame: &[u8],
     channels: Channels,
@@ -233,9 +233,9 @@ fn begin_lane(
     requires eight { IsPool eight.old channels.channels }
     requires taken { AreTaken eight.old n 0 }
     requires rows { length rows.old ≡ channels.channels }
-    requires words { AreWords rows.old n }
+    requires chances { AreChances rows.old n }
     ensures begun { IfSome result (HasBegun channels lanes.new n frame.now (tables_in eight.new n) (states_at rows.new n)) }
-    ensures words { IfSome result (λ _. AreWords rows.new (n + 1)) }
+    ensures chances { IfSome result (λ _. AreChances rows.new (n + 1)) }
     ensures others { (m : ℕ) → m ≢ n → IsKept lanes.old lanes.new m }
     ensures tables { (m : ℕ) → m < n → tables_in eight.new m ≡ tables_in eight.old m }
     ensures states { (m : ℕ) → m ≢ n → states_at rows.new m ≡ states_at rows.old m }
@@ -248,7 +248,7 @@ fn begin_lane(
         ) {
             Ok(()) => {
                 build_all_in(&params, n, eight, rows);
-                Some(reserved_word(&params))
+                Some(reserved_chance(&params))
             }
             Err(_) => None,
         },
@@ -276,11 +276,11 @@ fn build_all_in(params: &Params, n: usize, eight: &mut EightTables, rows: &mut [
     requires narrow { (c : ℕ) → c < length rows.old → size_sum (filter_of params.now c) < 32768 }
     requires eight { IsPool eight.old (length rows.old) }
     requires taken { AreTaken eight.old n 0 }
-    requires words { AreWords rows.old n }
+    requires chances { AreChances rows.old n }
     ensures built { (f : Shape) → f.channels ≡ length rows.old → AreBuilt f params.now (tables_in eight.new n) }
     ensures fresh { (c : ℕ) (other : ChannelState) → c < length rows.old
         → IsReady (filter_of params.now c) (probs_of params.now c) 0 (samples_of (replicate 16 0xaa)) (get_or (states_at rows.new n) c other) }
-    ensures words { AreWords rows.new (n + 1) }
+    ensures chances { AreChances rows.new (n + 1) }
     ensures tables { (m : ℕ) → m < n → tables_in eight.new m ≡ tables_in eight.old m }
     ensures states { (m : ℕ) → m ≢ n → states_at rows.new m ≡ states_at rows.old m }
     ensures eight { IsPool eight.new (length rows.old) }
@@ -325,11 +325,11 @@ fn share_or_build(params: &Params, c: usize, n: usize, eight: &mut EightTables)
     }
 }
 
-fn reserved_word(params: &Params) -> u16
+fn reserved_chance(params: &Params) -> u16
     requires { 0 < length params.now.half_prob }
-    ensures { IsWord (probability_of params.now) result }
+    ensures { IsChance (probability_of params.now) result }
 {
-    word((reserved_probability(params).value() - 1) as u8)
+    chance((reserved_probability(params).value() - 1) as u8)
 }
 
 // The unread bytes of a frame that is decoded, behind the place up to which its code is used.
@@ -361,11 +361,11 @@ fn decode_lanes(
     requires sounds { (n : ℕ) (other : DecodedFrame) → n < length frames.now → length (get_or heard.old n other).sound.items ≡ sound_bytes channels }
     requires eight { AreEight tables.now numbers.now channels.channels }
     requires rows { length rows.old ≡ channels.channels }
-    requires words { AreWords rows.old (length frames.now) }
+    requires chances { AreChances rows.old (length frames.now) }
     requires begun { (n : ℕ) (frame : StoredFrame) → n < length frames.now
         → HasBegun channels lanes.old n (stored_in (get_or frames.now n frame)) (tables_at tables.now numbers.now n) (states_at rows.old n)
         (get_or reserved.now n 0) }
-    requires empty { (n : ℕ) → length frames.now ≤ n → n < 8 → Begins lanes.old n [] 0 × IsWord 1 (get_or reserved.now n 0) }
+    requires empty { (n : ℕ) → length frames.now ≤ n → n < 8 → Begins lanes.old n [] 0 × IsChance 1 (get_or reserved.now n 0) }
     ensures decoded { (n : ℕ) (frame : StoredFrame) (other : DecodedFrame) → n < length frames.now
         → IsDecoded channels (stored_in (get_or frames.now n frame)) (get_or heard.new n other).sound.items (get_or heard.new n other).answer }
     ensures long { (n : ℕ) (other : DecodedFrame) → n < length frames.now → length (get_or heard.new n other).sound.items ≡ sound_bytes channels }
@@ -397,7 +397,7 @@ fn decode_all(
     requires eight { AreEight tables.now numbers.now (length rows.old) }
     requires stored { AreStored frames.now }
     requires lanes { AreLanes lanes.old (code_at frames.now) (2 ^ 30) }
-    requires words { AreWords rows.old (length frames.now) }
+    requires chances { AreChances rows.old (length frames.now) }
     requires same { length heard.old ≡ length frames.now }
     requires inside { (n : ℕ) (other : DecodedFrame) → n < length heard.old
         → octets * length rows.old ≤ length (get_or heard.old n other).sound.items }

@@ -1,7 +1,7 @@
 // What the frames of a batch are decoded with: their tables, and one channel of eight frames, sample after sample.
 ghost use Rattle.std.specs.Prelude.{◌≡◌, ◌≢◌, ◌<◌, ◌≤◌, ◌+◌, ◌*◌, ◌/◌, ◌%◌, ◌^◌, ℕ, ℤ, Bool, List, ◌&&◌, nat_lt, length, get_or, replicate, if◌then◌else◌};
 ghost use Rattle.std.specs.Prelude.{IfOk, vec_len, vec_capacity};
-ghost use Rattle.arith_lanes.specs.Words.{IsWord};
+ghost use Rattle.arith_lanes.specs.Chances.{IsChance};
 ghost use Rattle.arith_lanes.specs.Lanes.{IsLane, decoding_at, used_at, ahead_at as bits_ahead};
 ghost use Rattle.byte_predictor.specs.Samples.{samples_of, signed_sum};
 ghost use Rattle.byte_predictor.specs.SumsAhead.{IsAhead};
@@ -10,11 +10,11 @@ ghost use Rattle.byte_predictor.specs.Eight.{ahead_at};
 ghost use Rattle.dst_frames.specs.Tables.{IsBuilt, IsEntry};
 ghost use Rattle.dst_frames.specs.Ready.{IsReady};
 ghost use Rattle.dst_frames.specs.Eight.{entry_in, state_in, table_at};
-ghost use Rattle.dst_frames.specs.Batch.{IsWordOf, LaneTakes, LaneSteps, IsLaneFurther};
+ghost use Rattle.dst_frames.specs.Batch.{IsChanceOf, LaneTakes, LaneSteps, IsLaneFurther};
 ghost use Rattle.dst_frames.specs.Running.{AreNarrow, IsFresh, IsGrown, IsPool};
 
 use crate::tables::ChannelTables;
-use arith_lanes::{ArithLanes, word};
+use arith_lanes::{ArithLanes, chance};
 use byte_predictor::EightAhead;
 use std::alloc::{AllocError, Global};
 
@@ -118,19 +118,19 @@ pub(crate) fn table_of<'a>(
 #[derive(Drop)]
 pub(crate) struct EightStates {
     pub(crate) ahead: EightAhead,
-    /// The word of each frame's next sample.
-    pub(crate) words: [u16; 8],
+    /// The chance of each frame's next sample.
+    pub(crate) chances: [u16; 8],
 }
 
 impl EightStates {
-    /// Of no frames: their words have the probability 1.
+    /// Of no frames: their chances have the probability 1.
     pub(crate) fn new() -> EightStates
         ensures { IsFresh result }
     {
-        let words = [word(0); 8];
+        let chances = [chance(0); 8];
         EightStates {
             ahead: EightAhead::new(),
-            words,
+            chances,
         }
     }
 
@@ -140,30 +140,30 @@ impl EightStates {
         requires narrow { size_sum tables.now.filter < 32768 }
         ensures fresh { (filter : List ℤ) (probs : List ℕ) (half_prob : Bool) → IsBuilt filter probs half_prob tables.now
             → IsReady filter probs 0 (samples_of (replicate 16 0xaa)) (state_in self.new n) }
-        ensures word { IsWordOf (state_in self.new n).next (get_or self.new.words n 0) }
+        ensures chance { IsChanceOf (state_in self.new n).next (get_or self.new.chances n 0) }
         ensures others { (m : ℕ) → m ≢ n → state_in self.new m ≡ state_in self.old m }
-        ensures words { (m : ℕ) → m ≢ n → get_or self.new.words m 0 ≡ get_or self.old.words m 0 }
+        ensures chances { (m : ℕ) → m ≢ n → get_or self.new.chances m 0 ≡ get_or self.old.chances m 0 }
     {
         self.ahead.begin(n, &tables.filter);
-        let next = self.word_at(n, tables, 0);
-        self.words[n] = next;
+        let next = self.chance_at(n, tables, 0);
+        self.chances[n] = next;
     }
 
-    // The word of the sample of frame `n` at a place of a byte.
+    // The chance of the sample of frame `n` at a place of a byte.
     #[inline(always)]
-    fn word_at(&self, n: usize, tables: &ChannelTables, place: usize) -> u16
+    fn chance_at(&self, n: usize, tables: &ChannelTables, place: usize) -> u16
         requires frame { n < 8 }
         requires place { place ≤ 8 }
         requires narrow { size_sum tables.now.filter < 32768 }
         ensures entry { (filter : List ℤ) (probs samples : List ℕ) (half_prob : Bool) → IsBuilt filter probs half_prob tables.now
             → IsAhead filter place samples (ahead_at self.now.ahead n) → IsEntry (signed_sum filter samples) probs (entry_in result) }
-        ensures word { IsWordOf (entry_in result) result }
+        ensures chance { IsChanceOf (entry_in result) result }
     {
         let upward = self.ahead.upward(n, &tables.filter, place);
-        word(tables.entries.narrow_entry(upward))
+        chance(tables.entries.narrow_entry(upward))
     }
 
-    // Takes the next sample of each frame, 1 where the low bit of what is given is 1. The words of the first frames become those
+    // Takes the next sample of each frame, 1 where the low bit of what is given is 1. The chances of the first frames become those
     // of their next samples.
     #[inline(always)]
     fn take(
@@ -179,15 +179,15 @@ impl EightStates {
         requires narrow { AreNarrow tables.now }
         requires from { (n : ℕ) → n < 8 → get_or from.now n 0 < length tables.now }
         ensures taken { (n : ℕ) → n < count
-            → LaneTakes place (get_or given.now n 0) (table_at tables.now from.now n) (state_in self.old n) (state_in self.new n) (get_or self.new.words n 0) }
-        ensures others { (n : ℕ) → count ≤ n → get_or self.new.words n 0 ≡ get_or self.old.words n 0 }
+            → LaneTakes place (get_or given.now n 0) (table_at tables.now from.now n) (state_in self.old n) (state_in self.new n) (get_or self.new.chances n 0) }
+        ensures others { (n : ℕ) → count ≤ n → get_or self.new.chances n 0 ≡ get_or self.old.chances n 0 }
     {
         let own = table_of(tables, from, place);
         self.ahead.push(given, place, &own.filter);
         for n in 0..count {
             let table = table_of(tables, from, n);
-            let next = self.word_at(n, table, place + 1);
-            self.words[n] = next;
+            let next = self.chance_at(n, table, place + 1);
+            self.chances[n] = next;
         }
     }
 
@@ -200,7 +200,7 @@ impl EightStates {
         ensures added { (probs samples : List ℕ) → IsReady tables.now.filter probs 8 samples (state_in self.old n)
             → IsReady tables.now.filter probs 0 samples (state_in self.new n) }
         ensures others { (m : ℕ) → m ≢ n → state_in self.new m ≡ state_in self.old m }
-        ensures words { self.new.words ≡ self.old.words }
+        ensures chances { self.new.chances ≡ self.old.chances }
     {
         let newest = self.ahead.newest(n);
         self.ahead.take_byte(n, &tables.filter);
@@ -208,66 +208,66 @@ impl EightStates {
     }
 }
 
-// The words of the samples before sample `t`, with the probability 128 in those that are early.
+// The chances of the samples before sample `t`, with the probability 128 in those that are early.
 #[inline(always)]
-fn early_words(
+fn early_chances(
     tables: &[ChannelTables],
     from: &[usize; 8],
     count: usize,
     t: usize,
-    words: &[u16; 8],
+    chances: &[u16; 8],
 ) -> [u16; 8]
     requires few { count ≤ 8 }
     requires narrow { AreNarrow tables.now }
     requires from { (n : ℕ) → n < 8 → get_or from.now n 0 < length tables.now }
-    ensures early { (n p : ℕ) → n < count → IsWord p (get_or words.now n 0)
-        → IsWord (if nat_lt t (table_at tables.now from.now n).early then 128 else p) (get_or result n 0) }
-    ensures mark { (n : ℕ) → get_or result n 0 / 128 % 2 ≡ get_or words.now n 0 / 128 % 2 }
-    ensures others { (n : ℕ) → count ≤ n → get_or result n 0 ≡ get_or words.now n 0 }
+    ensures early { (n p : ℕ) → n < count → IsChance p (get_or chances.now n 0)
+        → IsChance (if nat_lt t (table_at tables.now from.now n).early then 128 else p) (get_or result n 0) }
+    ensures mark { (n : ℕ) → get_or result n 0 / 128 % 2 ≡ get_or chances.now n 0 / 128 % 2 }
+    ensures others { (n : ℕ) → count ≤ n → get_or result n 0 ≡ get_or chances.now n 0 }
 {
-    let mut early = *words;
+    let mut early = *chances;
     for n in 0..count {
-        let own = words[n];
-        early[n] = early_word(t < table_of(tables, from, n).early, own);
+        let own = chances[n];
+        early[n] = early_chance(t < table_of(tables, from, n).early, own);
     }
     early
 }
 
-// The word with the probability 128 in place of its own where the sample is early.
+// The chance with the probability 128 in place of its own where the sample is early.
 #[inline(always)]
-fn early_word(early: bool, own: u16) -> u16
-    ensures prob { (p : ℕ) → IsWord p own → IsWord (if early then 128 else p) result }
+fn early_chance(early: bool, own: u16) -> u16
+    ensures prob { (p : ℕ) → IsChance p own → IsChance (if early then 128 else p) result }
     ensures mark { result / 128 % 2 ≡ own / 128 % 2 }
 {
     if early {
-        word((own % 256 / 128 * 128 + 127) as u8)
+        chance((own % 256 / 128 * 128 + 127) as u8)
     } else {
         own
     }
 }
 
-// The words of the samples before sample `t`. Only at the start there are early ones.
+// The chances of the samples before sample `t`. Only at the start there are early ones.
 #[inline(always)]
-fn words_at(
+fn chances_at(
     tables: &[ChannelTables],
     from: &[usize; 8],
     count: usize,
     t: usize,
     start: bool,
-    words: &[u16; 8],
+    chances: &[u16; 8],
 ) -> [u16; 8]
     requires few { count ≤ 8 }
     requires narrow { AreNarrow tables.now }
     requires from { (n : ℕ) → n < 8 → get_or from.now n 0 < length tables.now }
-    ensures prob { (n p : ℕ) → n < count → IsWord p (get_or words.now n 0)
-        → IsWord (if (start && nat_lt t (table_at tables.now from.now n).early) then 128 else p) (get_or result n 0) }
-    ensures mark { (n : ℕ) → get_or result n 0 / 128 % 2 ≡ get_or words.now n 0 / 128 % 2 }
-    ensures others { (n : ℕ) → count ≤ n → get_or result n 0 ≡ get_or words.now n 0 }
+    ensures prob { (n p : ℕ) → n < count → IsChance p (get_or chances.now n 0)
+        → IsChance (if (start && nat_lt t (table_at tables.now from.now n).early) then 128 else p) (get_or result n 0) }
+    ensures mark { (n : ℕ) → get_or result n 0 / 128 % 2 ≡ get_or chances.now n 0 / 128 % 2 }
+    ensures others { (n : ℕ) → count ≤ n → get_or result n 0 ≡ get_or chances.now n 0 }
 {
     if start {
-        early_words(tables, from, count, t, words)
+        early_chances(tables, from, count, t, chances)
     } else {
-        *words
+        *chances
     }
 }
 
@@ -289,14 +289,14 @@ pub(crate) fn decode_next(
     requires from { (n : ℕ) → n < 8 → get_or from.now n 0 < length tables.now }
     ensures steps { (n : ℕ) (bytes : List ℕ) → n < count → IsLane lanes.old n bytes
         → 8 ≤ bits_ahead lanes.old n → used_at lanes.old n ≤ 2 ^ 40
-        → IsWordOf (state_in row.old n).next (get_or row.old.words n 0)
+        → IsChanceOf (state_in row.old n).next (get_or row.old.chances n 0)
         → LaneSteps place (start && nat_lt t (table_at tables.now from.now n).early) (table_at tables.now from.now n) (state_in row.old n) (state_in row.new n)
-        (decoding_at lanes.old n bytes) (decoding_at lanes.new n bytes) (get_or row.new.words n 0) }
+        (decoding_at lanes.old n bytes) (decoding_at lanes.new n bytes) (get_or row.new.chances n 0) }
     ensures further { (n p : ℕ) (bytes : List ℕ) → n < 8 → IsLane lanes.old n bytes → 8 ≤ bits_ahead lanes.old n
-        → used_at lanes.old n ≤ 2 ^ 40 → IsWord p (get_or row.old.words n 0) → IsLaneFurther lanes.old lanes.new n bytes 8 }
-    ensures others { (n : ℕ) → count ≤ n → get_or row.new.words n 0 ≡ get_or row.old.words n 0 }
+        → used_at lanes.old n ≤ 2 ^ 40 → IsChance p (get_or row.old.chances n 0) → IsLaneFurther lanes.old lanes.new n bytes 8 }
+    ensures others { (n : ℕ) → count ≤ n → get_or row.new.chances n 0 ≡ get_or row.old.chances n 0 }
 {
-    let now = words_at(tables, from, count, t, start, &row.words);
+    let now = chances_at(tables, from, count, t, start, &row.chances);
     let given = lanes.decode(&now);
     row.take(tables, from, count, place, &given);
 }

@@ -6,7 +6,7 @@ ghost use Rattle.dst_frames.specs.Tables.{AreBuilt};
 ghost use Rattle.dst_frames.specs.Ready.{IsReady};
 ghost use Rattle.dst_frames.specs.Eight.{states_at, tables_at};
 ghost use Rattle.dst_frames.specs.Batch.{HasEnough, AreLanes, IsLaneFurther, code_at};
-ghost use Rattle.dst_frames.specs.Running.{AreStored, AreEight, AreWords, RowsDecoded, FinishesSound, LaneDecoded};
+ghost use Rattle.dst_frames.specs.Running.{AreStored, AreEight, AreChances, RowsDecoded, FinishesSound, LaneDecoded};
 ghost use Rattle.dst_frames.specs.declared.tables.ChannelTables.{ChannelTables};
 ghost use Rattle.dst_frames.specs.declared.state.ChannelState.{ChannelState};
 ghost use Rattle.dst_frames.specs.declared.eight.EightStates.{EightStates};
@@ -76,9 +76,9 @@ fn decode_place(
     requires eight { AreEight tables.now numbers.now (length rows.old) }
     requires stored { AreStored frames.now }
     requires lanes { AreLanes lanes.old (code_at frames.now) (2 ^ 39) }
-    requires words { AreWords rows.old count }
+    requires chances { AreChances rows.old count }
     ensures lanes { (n : ℕ) → n < 8 → IsLaneFurther lanes.old lanes.new n (code_at frames.now n) (8 * length rows.old) }
-    ensures words { AreWords rows.new count }
+    ensures chances { AreChances rows.new count }
     ensures rows { (n : ℕ) (f : Shape) (P : Params) (reserved : Bool) → n < count → f.channels ≡ length rows.old
         → AreBuilt f P (tables_at tables.now numbers.now n)
         → RowsDecoded f P reserved (8 * byte + place) place n (code_at frames.now n) lanes.old lanes.new (states_at rows.old n) (states_at rows.new n) }
@@ -118,7 +118,7 @@ fn finish_rows(
         → IsReady (get_or (tables_at tables.now numbers.now n) c table).filter probs 8 samples (get_or (states_at rows.old n) c other)
         → IsReady (get_or (tables_at tables.now numbers.now n) c table).filter probs 0 samples (get_or (states_at rows.new n) c other) }
     ensures others { (m : ℕ) → m ≢ n → states_at rows.new m ≡ states_at rows.old m }
-    ensures words { (c : ℕ) (row : EightStates) → (get_or rows.new c row).words ≡ (get_or rows.old c row).words }
+    ensures chances { (c : ℕ) (row : EightStates) → (get_or rows.new c row).chances ≡ (get_or rows.old c row).chances }
 {
     for c in 0..rows.len() {
         let own = table_of(tables, &numbers[c].of, n);
@@ -144,7 +144,7 @@ fn finish_sound(
     ensures finishes { FinishesSound byte (length rows.old) (tables_at tables.now numbers.now n) (states_at rows.old n) (states_at rows.new n)
         sound.old sound.new }
     ensures others { (m : ℕ) → m ≢ n → states_at rows.new m ≡ states_at rows.old m }
-    ensures words { (c : ℕ) (row : EightStates) → (get_or rows.new c row).words ≡ (get_or rows.old c row).words }
+    ensures chances { (c : ℕ) (row : EightStates) → (get_or rows.new c row).chances ≡ (get_or rows.old c row).chances }
 {
     let channels = rows.len();
     let first = byte * channels;
@@ -174,7 +174,7 @@ fn finish_heard(
     ensures finishes { FinishesSound byte (length rows.old) (tables_at tables.now numbers.now n) (states_at rows.old n) (states_at rows.new n)
         heard.old.sound.items heard.new.sound.items }
     ensures others { (m : ℕ) → m ≢ n → states_at rows.new m ≡ states_at rows.old m }
-    ensures words { (c : ℕ) (row : EightStates) → (get_or rows.new c row).words ≡ (get_or rows.old c row).words }
+    ensures chances { (c : ℕ) (row : EightStates) → (get_or rows.new c row).chances ≡ (get_or rows.old c row).chances }
 {
     let sound = heard.sound.as_mut_slice();
     finish_sound(tables, numbers, rows, n, sound, byte);
@@ -199,7 +199,7 @@ fn finish_all(
     ensures finishes { (n : ℕ) (frame : DecodedFrame) → n < count
         → FinishesSound byte (length rows.old) (tables_at tables.now numbers.now n) (states_at rows.old n) (states_at rows.new n)
         (get_or heard.old n frame).sound.items (get_or heard.new n frame).sound.items }
-    ensures words { (c : ℕ) (row : EightStates) → (get_or rows.new c row).words ≡ (get_or rows.old c row).words }
+    ensures chances { (c : ℕ) (row : EightStates) → (get_or rows.new c row).chances ≡ (get_or rows.old c row).chances }
 {
     for n in 0..count {
         finish_heard(tables, numbers, rows, n, &mut heard[n], byte);
@@ -227,12 +227,12 @@ fn decode_octet(
     requires eight { AreEight tables.now numbers.now (length rows.old) }
     requires stored { AreStored frames.now }
     requires lanes { AreLanes lanes.old (code_at frames.now) (2 ^ 38) }
-    requires words { AreWords rows.old count }
+    requires chances { AreChances rows.old count }
     requires same { length heard.old ≡ count }
     requires inside { (n : ℕ) (other : DecodedFrame) → n < length heard.old
         → (byte + 1) * length rows.old ≤ length (get_or heard.old n other).sound.items }
     ensures lanes { (n : ℕ) → n < 8 → IsLaneFurther lanes.old lanes.new n (code_at frames.now n) 384 }
-    ensures words { AreWords rows.new count }
+    ensures chances { AreChances rows.new count }
     ensures long { (n : ℕ) (other : DecodedFrame) → n < length heard.old
         → length (get_or heard.new n other).sound.items ≡ length (get_or heard.old n other).sound.items }
     ensures sound { (n : ℕ) (frame : DecodedFrame) → n < count
@@ -268,7 +268,7 @@ pub(crate) fn decode_octets(
     requires eight { AreEight tables.now numbers.now (length rows.old) }
     requires stored { AreStored frames.now }
     requires lanes { AreLanes lanes.old (code_at frames.now) (2 ^ 30) }
-    requires words { AreWords rows.old count }
+    requires chances { AreChances rows.old count }
     requires same { length heard.old ≡ count }
     requires inside { (n : ℕ) (other : DecodedFrame) → n < length heard.old
         → octets * length rows.old ≤ length (get_or heard.old n other).sound.items }

@@ -207,13 +207,13 @@ pub fn entry(frame: u32, offset: u64, size: u32) -> Line
     ended(line)
 }
 
-/// A word behind the name of what it says, as in the summary of a file.
-pub fn with_word(name: &str, word: &str) -> Line
-    requires { length name.now + length word.now < 32 }
-    ensures { result.bytes ≡ report ((name.now ++ word.now) ∷ []) }
+/// A text behind the name of what it says, as in the summary of a file.
+pub fn with_text(name: &str, text: &str) -> Line
+    requires { length name.now + length text.now < 32 }
+    ensures { result.bytes ≡ report ((name.now ++ text.now) ∷ []) }
 {
     let mut line = line_of(name);
-    line.push_str(word);
+    line.push_str(text);
     ended(line)
 }
 

@@ -31,11 +31,11 @@ use Rattle.stream_spec.proofs.OneOutcome.{some_sounds, frames_are_bytes, one_out
 use Rattle.push_decoder.specs.Events.{begun, has_ended, has_stopped, front_event, frame_event}
 use Rattle.dst_commands.specs.Writing.{Stops}
 use Rattle.dst_commands.proofs.Writing.{stops_in, stops_at_once}
-use Rattle.dst_pipes.specs.Heads.{head_of}
+use Rattle.dst_pipes.specs.Fronts.{front_bytes}
 use Rattle.dst_pipes.specs.States.{AreSounds, BeginsSo}
 use Rattle.dst_pipes.specs.Endings.{IsStoppedShort, LacksRoom}
 use Rattle.dst_pipes.proofs.Events.{all_behind}
-use Rattle.dst_pipes.proofs.Written.{size_of, zeros, piped_is, length-head}
+use Rattle.dst_pipes.proofs.Written.{size_of, zeros, piped_is, length-front}
 
 -- ---- what is decided stays
 pub stays_ended : (p rest : List ℕ) → (stream p).ending ≡ ended → stream (p ++ rest) ≡ stream p
@@ -137,12 +137,12 @@ few_of w front frames later h =
 -- ---- what is written up to some sounds
 before_is : (front : Front) (a b : List (List ℕ)) → length front.version ≡ 4 → AreWhole (size_of front) (a ++ b) → AreWhole (size_of front) a →
     length (a ++ b) ≤ front.frames →
-    piped_before front (piped front (a ++ b)) (length a) ≡ head_of front ++ concat a
+    piped_before front (piped front (a ++ b)) (length a) ≡ front_bytes front ++ concat a
 before_is front a b four both first le =
-    let h = head_of front in
+    let h = front_bytes front in
     let z = zeros front (length (a ++ b)) in
     let long : place_of_piped_sound front + length a * size_of front ≡ length (h ++ concat a) =
-    omega (arith, length-append h (concat a), length-head front four, length-sounds (size_of front) a first) in
+    omega (arith, length-append h (concat a), length-front front four, length-sounds (size_of front) a first) in
     ap (take (place_of_piped_sound front + length a * size_of front)) (piped_is front (a ++ b) four both le
     ∙ ap (λ x. h ++ (x ++ z)) (concat_both a b) ∙ seam h (concat a) (concat b) z)
     ∙ ap (λ n. take n ((h ++ concat a) ++ (concat b ++ z))) long
@@ -152,12 +152,12 @@ before_is front a b four both first le =
     seam h x y z = simp append_assoc refl
 
 whole_is : (front : Front) (a : List (List ℕ)) → length front.version ≡ 4 → AreWhole (size_of front) a → length a ≡ front.frames →
-    piped front a ≡ head_of front ++ concat a
+    piped front a ≡ front_bytes front ++ concat a
 whole_is front a four first all =
     let none : front.frames - length a ≡ 0 = omega (arith, all) in
     piped_is front a four first (omega (arith, all))
-    ∙ ap (λ n. head_of front ++ (concat a ++ concat (replicate n (replicate (size_of front) 0)))) none
-    ∙ ap (λ x. head_of front ++ x) (append-nil (concat a))
+    ∙ ap (λ n. front_bytes front ++ (concat a ++ concat (replicate n (replicate (size_of front) 0)))) none
+    ∙ ap (λ x. front_bytes front ++ x) (append-nil (concat a))
 
 -- ---- outcomes
 out_of : (w : List ℕ) (front : Front) (all : List (List ℕ)) → (stream w).front ≡ Some front →
@@ -185,7 +185,7 @@ sounds_whole front frames sounds are = whole (shape_in front.prop) frames sounds
 -- what is written behind the last frame that came, and behind the last that is told
 pub behind_all : (w : List ℕ) (front : Front) (frames sounds : List (List ℕ)) → (stream w).front ≡ Some front → (stream w).frames ≡ frames →
     AreSounds front frames sounds →
-    piped_before front (piped front sounds) (length frames) ≡ head_of front ++ concat sounds
+    piped_before front (piped front sounds) (length frames) ≡ front_bytes front ++ concat sounds
 behind_all w front frames sounds has same are =
     let both = sounds_whole front frames sounds are in
     let few = ((streams_are_lawful w).frames front has).few in
@@ -193,10 +193,10 @@ behind_all w front frames sounds has same are =
     ∙ before_is front sounds [] (lawful_of w front has).version (subst (AreWhole (size_of front)) (sym (append-nil sounds)) both.0) both.0
     (omega (arith, few, ap length same, both.1, length-append sounds []))
 
-pub all_told : (w : List ℕ) (front : Front) (frames sounds : List (List ℕ)) → (stream w).front ≡ Some front → (stream w).frames ≡ frames →
+pub all_written : (w : List ℕ) (front : Front) (frames sounds : List (List ℕ)) → (stream w).front ≡ Some front → (stream w).frames ≡ frames →
     (stream w).ending ≡ ended →
-    AreSounds front frames sounds → piped front sounds ≡ head_of front ++ concat sounds
-all_told w front frames sounds has same end are =
+    AreSounds front frames sounds → piped front sounds ≡ front_bytes front ++ concat sounds
+all_written w front frames sounds has same end are =
     let both = sounds_whole front frames sounds are in
     let count = ((streams_are_lawful w).frames front has).ended end in
     whole_is front sounds (lawful_of w front has).version both.0 (omega (arith, count, ap length same, both.1))
@@ -204,7 +204,7 @@ all_told w front frames sounds has same end are =
 -- the first frame that offends
 pub refused : (w : List ℕ) (front : Front) (frames : List (List ℕ)) (frame : List ℕ) (later sounds : List (List ℕ)) (fault : FrameFault) → AreBytes w →
     Has w front (frames ++ frame ∷ []) later → AreSounds front frames sounds → Offends (shape_in front.prop) frame fault →
-    StreamOutcome w (frame_refused (length frames) fault (head_of front ++ concat sounds))
+    StreamOutcome w (frame_refused (length frames) fault (front_bytes front ++ concat sounds))
 refused w front frames frame later sounds fault bytes h are offends =
     let f = shape_in front.prop in
     let rest = frame ∷ later in
@@ -217,10 +217,10 @@ refused w front frames frame later sounds fault bytes h are offends =
     let here = whole f frames sounds first in
     let few = ((streams_are_lawful w).frames front h.has_front).few in
     let out = piped front (sounds ++ more.0) in
-    let is_before : piped_before front out (length frames) ≡ head_of front ++ concat sounds =
+    let is_before : piped_before front out (length frames) ≡ front_bytes front ++ concat sounds =
     ap (piped_before front out) (sym here.1)
     ∙ before_is front sounds more.0 (lawful_of w front h.has_front).version count.0 here.0 (omega (arith, few, ap length all, count.1)) in
-    subst (λ x. OfStream (stream w) x (frame_refused (length frames) fault (head_of front ++ concat sounds))) (sym h.has_front)
+    subst (λ x. OfStream (stream w) x (frame_refused (length frames) fault (front_bytes front ++ concat sounds))) (sym h.has_front)
     (inl (record {
       k = length frames;
       fault = fault;
@@ -236,18 +236,18 @@ refused w front frames frame later sounds fault bytes h are offends =
     behind : {A : Type 0} (P : A → Type 0) (xs ys : List A) → AllByRecursion P (xs ++ ys) → AllByRecursion P ys
     behind P xs ys every = all_behind P xs ys every
 
--- ---- every outcome begins with the head and the sounds of frames that came
+-- ---- every outcome begins with the front and the sounds of frames that came
 begins_cut : (n : ℕ) (x y : List ℕ) → length x ≤ n → BeginsWith (take n (x ++ y)) x
 begins_cut n x y le = record { rest = take (n - length x) y; is = take-joined n x y ∙ ap (λ w. w ++ take (n - length x) y) (take_all n x le) }
 
-seam_of : (front : Front) (a b : List (List ℕ)) (z : List ℕ) → head_of front ++ (concat (a ++ b) ++ z) ≡ (head_of front ++ concat a) ++ (concat b ++ z)
-seam_of front a b z = ap (λ x. head_of front ++ (x ++ z)) (concat_both a b) ∙ grouped (head_of front) (concat a) (concat b) z
+seam_of : (front : Front) (a b : List (List ℕ)) (z : List ℕ) → front_bytes front ++ (concat (a ++ b) ++ z) ≡ (front_bytes front ++ concat a) ++ (concat b ++ z)
+seam_of front a b z = ap (λ x. front_bytes front ++ (x ++ z)) (concat_both a b) ∙ grouped (front_bytes front) (concat a) (concat b) z
   where
     grouped : (h x y z : List ℕ) → h ++ ((x ++ y) ++ z) ≡ (h ++ x) ++ (y ++ z)
     grouped h x y z = simp append_assoc refl
 
 out_begins : (w : List ℕ) (front : Front) (frames later sounds : List (List ℕ)) (out : List ℕ) → Has w front frames later → AreSounds front frames sounds →
-    PipeOut (stream w) front out → (y : List ℕ) × (out ≡ (head_of front ++ concat sounds) ++ y)
+    PipeOut (stream w) front out → (y : List ℕ) × (out ≡ (front_bytes front ++ concat sounds) ++ y)
 out_begins w front frames later sounds out h are p =
     let f = shape_in front.prop in
     let each = subst (λ fs. AllZip (MeansOrZeros f) fs p.sounds) h.has_frames p.each in
@@ -257,26 +257,26 @@ out_begins w front frames later sounds out h are p =
     let z = zeros front (length p.sounds) in (
       concat more.0 ++ z,
       p.written ∙ piped_is front p.sounds (lawful_of w front h.has_front).version count.0 (omega (arith, few, count.1))
-          ∙ ap (λ x. head_of front ++ (concat x ++ z)) more.1
+          ∙ ap (λ x. front_bytes front ++ (concat x ++ z)) more.1
           ∙ seam_of front sounds more.0 z,
     )
 
 before_begins : (w : List ℕ) (front : Front) (frames later sounds : List (List ℕ)) (out : List ℕ) (k : ℕ) → Has w front frames later →
     AreSounds front frames sounds →
-    PipeOut (stream w) front out → length frames ≤ k → BeginsWith (piped_before front out k) (head_of front ++ concat sounds)
+    PipeOut (stream w) front out → length frames ≤ k → BeginsWith (piped_before front out k) (front_bytes front ++ concat sounds)
 before_begins w front frames later sounds out k h are p le =
     let both = sounds_whole front frames sounds are in
     let o = out_begins w front frames later sounds out h are p in
-    let x = head_of front ++ concat sounds in
+    let x = front_bytes front ++ concat sounds in
     let n = place_of_piped_sound front + k * size_of front in
     let more = mul-le-mul_right (size_of front) le in
-    let long = length-append (head_of front) (concat sounds) in
+    let long = length-append (front_bytes front) (concat sounds) in
     subst (λ v. BeginsWith (take n v) x) (sym o.1)
     (begins_cut n x o.0 (omega (
       arith,
       more,
       long,
-      length-head front (lawful_of w front h.has_front).version,
+      length-front front (lawful_of w front h.has_front).version,
       length-sounds (size_of front) sounds
           both.0,
       ap (λ m. m * size_of front) both.1,
@@ -284,7 +284,7 @@ before_begins w front frames later sounds out k h are p le =
 
 end_begins : (w : List ℕ) (front : Front) (frames later sounds : List (List ℕ)) (out : List ℕ) (e : Ending) → Has w front frames later →
     AreSounds front frames sounds →
-    PipeOut (stream w) front out → BeginsWith (at_ending e front (length (stream w).frames) out).out (head_of front ++ concat sounds)
+    PipeOut (stream w) front out → BeginsWith (at_ending e front (length (stream w).frames) out).out (front_bytes front ++ concat sounds)
 end_begins w front frames later sounds out ended h are p =
     (let o = out_begins w front frames later sounds out h are p in record { rest = o.0; is = o.1 })
 end_begins w front frames later sounds out (stopped fault) h are p =
@@ -293,12 +293,12 @@ end_begins w front frames later sounds out (cut_off fault) h are p =
     before_begins w front frames later sounds out (length (stream w).frames) h are p (omega (arith, ap length h.has_frames, length-append frames later))
 
 outcome_begins : (w : List ℕ) (front : Front) (frames later sounds : List (List ℕ)) (o : Answer) → Has w front frames later → AreSounds front frames sounds →
-    IsStopped (stream w) front o ⊎ IsThrough (stream w) front o → BeginsWith o.out (head_of front ++ concat sounds)
+    IsStopped (stream w) front o ⊎ IsThrough (stream w) front o → BeginsWith o.out (front_bytes front ++ concat sounds)
 outcome_begins w front frames later sounds o h are (inr i) =
-    subst (λ (a : Answer). BeginsWith a.out (head_of front ++ concat sounds)) (sym i.answer)
+    subst (λ (a : Answer). BeginsWith a.out (front_bytes front ++ concat sounds)) (sym i.answer)
     (end_begins w front frames later sounds i.out (stream w).ending h are i.written)
 outcome_begins w front frames later sounds o h are (inl i) =
-    subst (λ (a : Answer). BeginsWith a.out (head_of front ++ concat sounds)) (sym i.answer)
+    subst (λ (a : Answer). BeginsWith a.out (front_bytes front ++ concat sounds)) (sym i.answer)
     (before_begins w front frames later sounds i.out i.k h are i.written (reached (cases_lt i.k (length frames))))
   where
     reached : (i.k < length frames) ⊎ (length frames ≤ i.k) → length frames ≤ i.k
@@ -308,7 +308,7 @@ outcome_begins w front frames later sounds o h are (inl i) =
         i.within i.offends)
 
 pub every_outcome_begins : (w : List ℕ) (front : Front) (frames later sounds : List (List ℕ)) → Has w front frames later → AreSounds front frames sounds →
-    (o : Answer) → StreamOutcome w o → BeginsWith o.out (head_of front ++ concat sounds)
+    (o : Answer) → StreamOutcome w o → BeginsWith o.out (front_bytes front ++ concat sounds)
 every_outcome_begins w front frames later sounds h are o p =
     outcome_begins w front frames later sounds o h are (subst (λ x. OfStream (stream w) x o) h.has_front p)
 

@@ -15,13 +15,13 @@ use Rattle.push_decoder.specs.Told.{EndsAs}
 use Rattle.push_decoder.specs.Laws.{AreOf}
 use Rattle.push_decoder.proofs.Pieces.{no_more_frames}
 use Rattle.dst_commands.proofs.Writing.{stops_behind, stops_unsettled, and_then-nothing}
-use Rattle.dst_pipes.specs.Heads.{head_of}
+use Rattle.dst_pipes.specs.Fronts.{front_bytes}
 use Rattle.dst_pipes.specs.States.{AreSounds, Wrote, BeginsSo}
 use Rattle.dst_pipes.specs.Steps.{HasCome, StopsAtFault, StopsAtFrame, StopsInWriting}
 use Rattle.dst_pipes.specs.Endings.{Writes, IsStoppedShort, LacksRoom}
 use Rattle.dst_pipes.specs.declared.work.Work.{Work}
 use Rattle.dst_pipes.proofs.Ending.{stays_ended, stays_stopped, end_is, stop_is, early_stop_is, no_front, all_frames, has_begun, through}
-use Rattle.dst_pipes.proofs.Ending.{behind_all, all_told, refused, every_outcome_begins, stopped_short, lacks_room, nothing_written}
+use Rattle.dst_pipes.proofs.Ending.{behind_all, all_written, refused, every_outcome_begins, stopped_short, lacks_room, nothing_written}
 
 -- the frames of the bytes that were taken
 at_taken : (p : List ℕ) (answered : Answered) → BeginsSo p answered → AreOf answered (stream p)
@@ -41,7 +41,7 @@ ends_done p rest work old new room left h =
       piped h.front sounds,
       (
         through (p ++ rest) h.front h.frames ended sounds has frames ending h.wrote.are,
-        h.wrote.adds.written ∙ ap (and_then old) (sym (all_told (p ++ rest) h.front h.frames sounds has frames ending h.wrote.are)),
+        h.wrote.adds.written ∙ ap (and_then old) (sym (all_written (p ++ rest) h.front h.frames sounds has frames ending h.wrote.are)),
       ),
     )
 
@@ -53,13 +53,13 @@ ends_unsettled p rest work old mid new room left h bytes same sure =
     let has = has_begun p rest h.front h.frames h.begins in
     let sounds = h.wrote.sounds in
     let begins = every_outcome_begins (p ++ rest) h.front h.frames _ sounds has h.wrote.are in
-    let stops = stops_unsettled (head_of h.front ++ concat sounds) old mid new room left h.wrote.adds same sure in
+    let stops = stops_unsettled (front_bytes h.front ++ concat sounds) old mid new room left h.wrote.adds same sure in
     (stopped_short (Unit {0}) (p ++ rest) _ old new room bytes begins stops, lacks_room (p ++ rest) _ old new room begins stops)
 
 -- ---- the stream is refused: what is told of its frames, and its ending
 refused_behind : (w : List ℕ) (front : Front) (frames sounds : List (List ℕ)) (e : Ending) (fault : FileFault) (old new : Option (List ℕ)) →
     (stream w).front ≡ Some front →
-    (stream w).frames ≡ frames → (stream w).ending ≡ e → AreSounds front frames sounds → new ≡ and_then old (head_of front ++ concat sounds) →
+    (stream w).frames ≡ frames → (stream w).ending ≡ e → AreSounds front frames sounds → new ≡ and_then old (front_bytes front ++ concat sounds) →
     at_ending e front (length frames) (piped front sounds) ≡ stream_refused fault (piped_before front (piped front sounds) (length frames)) →
     (out : List ℕ) × Writes w (stream_refused fault out) old new
 refused_behind w front frames sounds e fault old new has same ending are written is_refused = (
@@ -123,7 +123,7 @@ pub ends_at_frame : (k : ℕ) (fault : FrameFault) (taken piece rest : List ℕ)
     AreBytes ((taken ++ take h.count piece) ++ rest) → (out : List ℕ) × Writes ((taken ++ take h.count piece) ++ rest) (frame_refused k fault out) old new
 ends_at_frame k fault taken piece rest old new room left h bytes =
     let p = taken ++ take h.count piece in
-    let out = head_of h.front ++ concat h.wrote.sounds in (
+    let out = front_bytes h.front ++ concat h.wrote.sounds in (
       out,
       (
         subst (λ n. StreamOutcome (p ++ rest) (frame_refused n fault out)) (sym h.number)
@@ -149,6 +149,6 @@ ends_in_reading p rest nothing_answered old new room left bytes begins wrote =
     subst (IsStoppedShort (p ++ rest) old) (sym wrote.0) (nothing_written (p ++ rest) old bytes)
 ends_in_reading p rest (begun front frames) old new room left bytes begins wrote =
     let has = has_begun p rest front frames begins in
-    stopped_short ⊥ (p ++ rest) (head_of front ++ concat wrote.sounds) old new room bytes
+    stopped_short ⊥ (p ++ rest) (front_bytes front ++ concat wrote.sounds) old new room bytes
     (every_outcome_begins (p ++ rest) front frames _ wrote.sounds has wrote.are)
-    (stops_behind ⊥ (head_of front ++ concat wrote.sounds) old new room left (λ x. x) wrote.adds)
+    (stops_behind ⊥ (front_bytes front ++ concat wrote.sounds) old new room left (λ x. x) wrote.adds)

@@ -68,9 +68,9 @@ piece_stops (Frame k fault) taken piece later old new room left bytes s =
     (ends_at_frame k fault taken piece (drop s.count piece ++ later) old new room left s (subst AreBytes same bytes))
 
 -- ---- the end
-pub told_most : (p : List ℕ) (work : Option Work) (old new : Option (List ℕ)) (room left : Option ℕ) (h : HasCome p work old new room left) →
+pub frames_most : (p : List ℕ) (work : Option Work) (old new : Option (List ℕ)) (room left : Option ℕ) (h : HasCome p work old new room left) →
     (m : Work) × (work ≡ Some m) × (m.frame_count ≤ 1000000)
-told_most p work old new room left h =
+frames_most p work old new room left h =
     let few = ((streams_are_lawful (p ++ [])).front h.front (h.begins []).0).frames in
     let most = h.works.2.frame_count in
     (h.works.0, h.works.1, omega (arith, few, most))

@@ -23,7 +23,7 @@ use Rattle.push_decoder.specs.declared.decoder.PushDecoder.{PushDecoder}
 use Rattle.push_decoder.proofs.Pieces.{events_law}
 use Rattle.dst_commands.specs.Writing.{Adds, Stops}
 use Rattle.dst_commands.proofs.Writing.{adds_same, adds_then, stops_same, stops_then}
-use Rattle.dst_pipes.specs.Heads.{head_of}
+use Rattle.dst_pipes.specs.Fronts.{front_bytes}
 use Rattle.dst_pipes.specs.States.{IsReady, WorksFor, Works, AreSounds, HasWritten, Wrote, BeginsSo, events_left}
 use Rattle.dst_pipes.specs.Steps.{FrontCame, FrameCame, IsFrontOf, HasBegun, SoundEnds, StopsBy, GoesOn}
 use Rattle.dst_pipes.specs.declared.work.Work.{Work}
@@ -40,30 +40,30 @@ pub of_ready : {P : List ℕ → Answered → Type 0} {d : PushDecoder} {work : 
     ((taken : List ℕ) (answered : Answered) → StandsFor d taken answered → Works answered work → P taken answered) → P r.taken r.answered
 of_ready r step = step r.taken r.answered r.stands r.works
 
-pub told_of : {taken : List ℕ} {answered : Answered} {channels multiple frames : ℕ} {d : PushDecoder} {work : Option Work}
+pub is_front : {taken : List ℕ} {answered : Answered} {channels multiple frames : ℕ} {d : PushDecoder} {work : Option Work}
     (t : FrontCame taken answered channels multiple frames d work) → IsFrontOf t.front channels multiple frames d
-told_of {taken} t = record { taken = taken; stands = t.stands; shape = t.shape; frame_count = t.frame_count }
+is_front {taken} t = record { taken = taken; stands = t.stands; shape = t.shape; frame_count = t.frame_count }
 
-pub lawful_told : (front : Front) (channels multiple frames : ℕ) (d : PushDecoder) → IsFrontOf front channels multiple frames d → IsLawfulFront front
-lawful_told front channels multiple frames d t = (streams_are_lawful (t.taken ++ [])).front front (events_law d t.taken (begun front []) t.stands []).0
+pub lawful_front : (front : Front) (channels multiple frames : ℕ) (d : PushDecoder) → IsFrontOf front channels multiple frames d → IsLawfulFront front
+lawful_front front channels multiple frames d t = (streams_are_lawful (t.taken ++ [])).front front (events_law d t.taken (begun front []) t.stands []).0
 
 -- at most 1,000,000 frames are told
-pub few_told : (front : Front) (channels multiple frames : ℕ) (d : PushDecoder) → IsFrontOf front channels multiple frames d → frames ≤ 1000000
-few_told front channels multiple frames d t =
-    let few = (lawful_told front channels multiple frames d t).frames in
+pub few_frames : (front : Front) (channels multiple frames : ℕ) (d : PushDecoder) → IsFrontOf front channels multiple frames d → frames ≤ 1000000
+few_frames front channels multiple frames d t =
+    let few = (lawful_front front channels multiple frames d t).frames in
     omega (arith, few, t.frame_count)
 
-pub shape_told : (front : Front) (channels multiple frames : ℕ) (d : PushDecoder) → IsFrontOf front channels multiple frames d →
+pub lawful_shape : (front : Front) (channels multiple frames : ℕ) (d : PushDecoder) → IsFrontOf front channels multiple frames d →
     IsShape (shape_of channels multiple)
-shape_told front channels multiple frames d t =
-    subst IsShape (sym t.shape) (prop_has_a_shape 0 front.prop (lawful_told front channels multiple frames d t).rules)
+lawful_shape front channels multiple frames d t =
+    subst IsShape (sym t.shape) (prop_has_a_shape 0 front.prop (lawful_front front channels multiple frames d t).rules)
 
--- ---- the head is written
+-- ---- the front is written
 abbrev no_sounds : (front : Front) → AreSounds front [] []
 no_sounds front = record { each = tt; none = tt }
 
 pub begun_goes_on : (m : Work) (front : Front) (taken : List ℕ) (d : PushDecoder) (old here new : Option (List ℕ)) (room half left : Option ℕ) →
-    StandsFor d taken (begun front []) → WorksFor front 0 m → Wrote nothing_answered old here room half → Adds (head_of front) here new half left →
+    StandsFor d taken (begun front []) → WorksFor front 0 m → Wrote nothing_answered old here room half → Adds (front_bytes front) here new half left →
     GoesOn taken d (Some m) old new room left
 begun_goes_on m front taken d old here new room half left stands works wrote adds =
     record {
@@ -73,8 +73,8 @@ begun_goes_on m front taken d old here new room half left stands works wrote add
       wrote = record {
         sounds = [];
         are = no_sounds front;
-        adds = adds_same (head_of front) (head_of front ++ []) old new room left (sym (append-nil (head_of front)))
-            (subst (λ a. Adds (head_of front) a new room left) wrote.0 (subst (λ r. Adds (head_of front) here new r left) wrote.1 adds));
+        adds = adds_same (front_bytes front) (front_bytes front ++ []) old new room left (sym (append-nil (front_bytes front)))
+            (subst (λ a. Adds (front_bytes front) a new room left) wrote.0 (subst (λ r. Adds (front_bytes front) here new r left) wrote.1 adds));
       };
     }
 
@@ -94,8 +94,8 @@ begun_stops Write front taken piece n d old here new room half left stands wrote
       begins = events_law d (taken ++ take n piece) (begun front []) stands;
       sounds = [];
       are = no_sounds front;
-      stops = stops_same (Unit {0}) (head_of front) (head_of front ++ []) old new room (sym (append-nil (head_of front)))
-          (subst (λ a. Stops (Unit {0}) (head_of front) a new room) wrote.0 (subst (Stops (Unit {0}) (head_of front) here new) wrote.1 b));
+      stops = stops_same (Unit {0}) (front_bytes front) (front_bytes front ++ []) old new room (sym (append-nil (front_bytes front)))
+          (subst (λ a. Stops (Unit {0}) (front_bytes front) a new room) wrote.0 (subst (Stops (Unit {0}) (front_bytes front) here new) wrote.1 b));
     }
 
 pub begun_no_read : (fault : PipeFault) (front : Front) (old new : Option (List ℕ)) (room left : Option ℕ) →
@@ -117,9 +117,9 @@ one_more_sound front frames sounds frame sound are means none =
     }
 
 pieces_are : (front : Front) (sounds : List (List ℕ)) (sound : List ℕ) →
-    (head_of front ++ concat sounds) ++ sound ≡ head_of front ++ concat (sounds ++ sound ∷ [])
+    (front_bytes front ++ concat sounds) ++ sound ≡ front_bytes front ++ concat (sounds ++ sound ∷ [])
 pieces_are front sounds sound =
-    append_assoc (head_of front) (concat sounds) sound ∙ ap (λ w. head_of front ++ w) (sym (concat_one_more sounds sound))
+    append_assoc (front_bytes front) (concat sounds) sound ∙ ap (λ w. front_bytes front ++ w) (sym (concat_one_more sounds sound))
 
 -- how far it came before the frame, which is the last that was answered
 pub wrote_before : (taken : List ℕ) (answered : Answered) (answer : Result ℕ FrameFault) (d : PushDecoder) (work : Option Work)
@@ -163,7 +163,7 @@ sound_goes_on (Ok tail) taken answered d work later t old here new room half lef
         sounds = before.sounds ++ m.sound.items ∷ [];
         are = one_more_sound t.front t.frames before.sounds t.frame m.sound.items before.are t.decoded.0 t.decoded.1;
         adds = adds_same _ _ old new room left (pieces_are t.front before.sounds m.sound.items)
-            (adds_then (head_of t.front ++ concat before.sounds) m.sound.items old here new room half left before.adds ends.1);
+            (adds_then (front_bytes t.front ++ concat before.sounds) m.sound.items old here new room half left before.adds ends.1);
       };
     }
 
@@ -204,7 +204,7 @@ sound_stops (Ok tail) Write taken piece n answered d work later t old here new r
       sounds = before.sounds ++ m.sound.items ∷ [];
       are = one_more_sound t.front t.frames before.sounds t.frame m.sound.items before.are t.decoded.0 t.decoded.1;
       stops = stops_same (Unit {0}) _ _ old new room (pieces_are t.front before.sounds m.sound.items)
-          (stops_then (Unit {0}) (head_of t.front ++ concat before.sounds) m.sound.items old here new room half before.adds ends);
+          (stops_then (Unit {0}) (front_bytes t.front ++ concat before.sounds) m.sound.items old here new room half before.adds ends);
     }
 sound_stops (Err f) Read taken piece n answered d work later t old here new room half left wrote ends = ends
 sound_stops (Err f) Write taken piece n answered d work later t old here new room half left wrote ends = absurd ends

@@ -1,4 +1,4 @@
--- The bytes of the plain file: its head, the sounds of some frames, and zeros for the others.
+-- The bytes of the plain file: its front, the sounds of some frames, and zeros for the others.
 use Rattle.std.proofs.Common.{◌≡◌, ℕ, zero, suc, ◌+◌, ◌-◌, ◌*◌, ◌%◌, ◌≤◌, ◌==◌, List, [], ◌∷◌, ◌++◌, length, replicate, refl, sym, ap, ap₂, ◌∙◌}
 use Rattle.std.proofs.Common.{arith, length-append, append-nil, append_assoc}
 use Rattle.std.specs.Prelude.{codes, if◌then◌else◌}
@@ -14,7 +14,7 @@ use Rattle.dsdiff_spec.specs.Streams.{Front, shape_in, piped, place_of_piped_sou
 use Rattle.dsdiff_spec.proofs.Pieces.{AreWhole, length-sounds, zeros_are_whole}
 use Rattle.dsdiff_spec.proofs.MadeLengths.{sound_chunk}
 use Rattle.stream_spec.specs.Outcome.{sound_size}
-use Rattle.dst_pipes.specs.Heads.{version_bytes, opening_bytes, plain_size, head_of}
+use Rattle.dst_pipes.specs.Fronts.{version_bytes, opening_bytes, plain_size, front_bytes}
 
 -- ---- sizes
 abbrev pub size_of : Front → ℕ
@@ -69,7 +69,7 @@ grouped : (a b c d e : List ℕ) → a ++ (b ++ (c ++ (d ++ e))) ≡ (a ++ b ++ 
 grouped a b c d e = simp append_assoc refl
 
 pub piped_is : (front : Front) (sounds : List (List ℕ)) → length front.version ≡ 4 → AreWhole (size_of front) sounds → length sounds ≤ front.frames →
-    piped front sounds ≡ head_of front ++ (concat sounds ++ zeros front (length sounds))
+    piped front sounds ≡ front_bytes front ++ (concat sounds ++ zeros front (length sounds))
 piped_is front sounds four whole le =
     let body = concat sounds ++ zeros front (length sounds) in
     let n = sound_size front in
@@ -87,8 +87,8 @@ piped_is front sounds four whole le =
     (append_assoc (codes "DSD ") (big_bytes 8 n) body ∙ sym (append_assoc (codes "DSD ") (big_bytes 8 n) body))
     ∙ grouped (opening_bytes (plain_size front.prop n)) v p (codes "DSD " ++ big_bytes 8 n) body
 
-pub length-head : (front : Front) → length front.version ≡ 4 → length (head_of front) ≡ place_of_piped_sound front
-length-head front four =
+pub length-front : (front : Front) → length front.version ≡ 4 → length (front_bytes front) ≡ place_of_piped_sound front
+length-front front four =
     let v = version_bytes front.version in
     let p = prop_with front.prop cmpr_plain in
     let n = sound_size front in

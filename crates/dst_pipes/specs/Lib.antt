@@ -1,4 +1,4 @@
-pub mod Heads
+pub mod Fronts
 pub mod States
 pub mod Steps
 pub mod Endings

@@ -12,7 +12,7 @@ use Rattle.push_decoder.specs.Decoder.{StandsFor}
 use Rattle.push_decoder.specs.declared.decoder.PushDecoder.{PushDecoder}
 use Rattle.dst_commands.specs.Writing.{Adds}
 use Rattle.dst_pipes.specs.declared.work.Work.{Work}
-use Rattle.dst_pipes.specs.Heads.{head_of}
+use Rattle.dst_pipes.specs.Fronts.{front_bytes}
 
 -- what frames behind a front are decoded in, so many of them being decoded
 pub record WorksFor (front : Front) (count : ℕ) (m : Work) : Type 0 where
@@ -38,7 +38,7 @@ abbrev pub events_left : Option Work → ℕ
 events_left None = 1000002
 events_left (Some m) = m.frame_count - m.decoded
 
--- ---- what is written: nothing, or the head and the sounds of all frames that came, none of which offends
+-- ---- what is written: nothing, or the front and the sounds of all frames that came, none of which offends
 pub record AreSounds (front : Front) (frames sounds : List (List ℕ)) : Type 0 where
   pub each : AllZip (Means (shape_in front.prop)) frames sounds
   pub none : NoneOf decode (shape_in front.prop) frames
@@ -46,7 +46,7 @@ pub record AreSounds (front : Front) (frames sounds : List (List ℕ)) : Type 0 
 pub record HasWritten (front : Front) (frames : List (List ℕ)) (old new : Option (List ℕ)) (room left : Option ℕ) : Type 0 where
   pub sounds : List (List ℕ)
   pub are : AreSounds front frames sounds
-  pub adds : Adds (head_of front ++ concat sounds) old new room left
+  pub adds : Adds (front_bytes front ++ concat sounds) old new room left
 
 abbrev pub Wrote : Answered → (old new : Option (List ℕ)) → (room left : Option ℕ) → Type 0
 Wrote nothing_answered old new room left = (new ≡ old) × (left ≡ room)

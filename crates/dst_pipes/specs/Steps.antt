@@ -13,7 +13,7 @@ use Rattle.push_decoder.specs.Events.{Answered, nothing_answered, begun, has_end
 use Rattle.push_decoder.specs.Decoder.{StandsFor}
 use Rattle.push_decoder.specs.declared.decoder.PushDecoder.{PushDecoder}
 use Rattle.dst_commands.specs.Writing.{Adds, Stops}
-use Rattle.dst_pipes.specs.Heads.{head_of}
+use Rattle.dst_pipes.specs.Fronts.{front_bytes}
 use Rattle.dst_pipes.specs.States.{WorksFor, Works, Wrote, AreSounds, HasWritten, BeginsSo}
 use Rattle.dst_pipes.specs.declared.work.Work.{Work}
 use Rattle.dst_pipes.specs.declared.steps.Came.{Came}
@@ -68,26 +68,26 @@ Took (Ok (n, End)) piece taken answered d work = EndCame (taken ++ take n piece)
 Took (Err fault) piece taken answered d work = (n : ℕ) × (due (taken ++ take n piece) answered ≡ Some (has_stopped fault))
 
 -- ---- what an event asks for
--- the head of the stream, as the decoder tells it
+-- what stands in front of the frames, as the decoder says it
 pub record IsFrontOf (front : Front) (channels multiple frames : ℕ) (d : PushDecoder) : Type 0 where
   pub taken : List ℕ
   pub stands : StandsFor d taken (begun front [])
   pub shape : shape_of channels multiple ≡ shape_in front.prop
   pub frame_count : frames ≡ front.frames
 
--- the head of the plain file is written
+-- the front of the plain file is written
 abbrev pub HasBegun : Result Work PipeFault → Front → (old new : Option (List ℕ)) → (room left : Option ℕ) → Type 0
-HasBegun (Ok m) front old new room left = WorksFor front 0 m × Adds (head_of front) old new room left
-HasBegun (Err failing.Write) front old new room left = Stops (Unit {0}) (head_of front) old new room
+HasBegun (Ok m) front old new room left = WorksFor front 0 m × Adds (front_bytes front) old new room left
+HasBegun (Err failing.Write) front old new room left = Stops (Unit {0}) (front_bytes front) old new room
 HasBegun (Err (failing.Memory refused)) front old new room left = (new ≡ old)
 HasBegun (Err fault) front old new room left = ⊥
 
--- the sound of a frame is written, or its fault told
+-- the sound of a frame is written, or its fault answered
 abbrev pub SoundEnds : Result ℕ FrameFault → Result (Unit {0}) PipeFault → Work → Option Work → (old new : Option (List ℕ)) → (room left : Option ℕ) → Type 0
 SoundEnds (Ok tail) (Ok done) m work old new room left = (work ≡ Some (record m { decoded = m.decoded + 1 })) × Adds m.sound.items old new room left
 SoundEnds (Ok tail) (Err failing.Write) m work old new room left = Stops (Unit {0}) m.sound.items old new room
 SoundEnds (Ok tail) (Err fault) m work old new room left = ⊥
-SoundEnds (Err fault) (Err (failing.Frame k told)) m work old new room left = (k ≡ m.decoded) × (told ≡ fault) × (new ≡ old) × (left ≡ room)
+SoundEnds (Err fault) (Err (failing.Frame k answer)) m work old new room left = (k ≡ m.decoded) × (answer ≡ fault) × (new ≡ old) × (left ≡ room)
 SoundEnds (Err fault) result m work old new room left = ⊥
 
 -- ---- a step stops: behind so many bytes of a piece
@@ -115,7 +115,7 @@ pub record StopsInWriting (taken piece : List ℕ) (old new : Option (List ℕ))
   pub begins : BeginsSo (taken ++ take count piece) (begun front frames)
   pub sounds : List (List ℕ)
   pub are : AreSounds front frames sounds
-  pub stops : Stops (Unit {0}) (head_of front ++ concat sounds) old new room
+  pub stops : Stops (Unit {0}) (front_bytes front ++ concat sounds) old new room
 
 abbrev pub StopsBy : PipeFault → List ℕ → List ℕ → (old new : Option (List ℕ)) → (room left : Option ℕ) → Type 0
 StopsBy failing.Read taken piece old new room left = ⊥

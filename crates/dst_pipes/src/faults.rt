@@ -23,10 +23,10 @@ pub enum PipeFault {
     /// Memory was refused by the allocator, before the first call on the sink.
     #[error("memory")]
     Memory(AllocError),
-    /// The stream breaks a rule, or ends too early; what the fault means is told at `FileFault`.
+    /// The stream breaks a rule, or ends too early; what the fault means stands at `FileFault`.
     #[error("file refused: {0}")]
     File(FileFault),
-    /// A frame offends; it is told by its number, from 0.
+    /// A frame offends; it is named by its number, from 0.
     #[error("frame {frame} refused: {fault}")]
     Frame { frame: u32, fault: FrameFault },
 }

@@ -13,7 +13,7 @@
 #![tactic(auto)]
 
 mod faults;
-mod head;
+mod front;
 mod pieces;
 mod pipe;
 mod steps;

@@ -32,7 +32,7 @@ const LONGEST: u64 = (1 << 50) + 12;
 
 /// Decodes a stream: writes the plain file whose sound its frames mean.
 ///
-/// Each frame is decoded and its sound appended once its last byte came. A stream or a frame that is refused is told by its first fault; what is
+/// Each frame is decoded and its sound appended once its last byte came. A stream or a frame that is refused is answered by its first fault; what is
 /// written then ends behind the sound of the last frame before it. Nothing is read of the flow behind a piece in which the stream has ended. Memory is
 /// taken before anything is written, and none that grows with the stream.
 pub fn decode_pipe<F: Flow, K: Sink>(

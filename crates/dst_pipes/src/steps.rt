@@ -12,7 +12,7 @@ ghost use Rattle.dst_pipes.specs.declared.steps.Next.{Next};
 ghost use Rattle.dst_pipes.specs.declared.faults.PipeFault.{PipeFault};
 
 use crate::faults::PipeFault;
-use crate::head::write_front;
+use crate::front::write_front;
 use crate::work::Work;
 use dst_frames::decode_frame;
 use dst_num::{Channels, FrameFault};
@@ -78,7 +78,7 @@ fn take_step(
     }
 }
 
-/// Takes bytes of a piece up to the first event, and does what it asks for: writes the head of the plain file, or the sound of a frame.
+/// Takes bytes of a piece up to the first event, and does what it asks for: writes the front of the plain file, or the sound of a frame.
 pub(crate) fn decode_step<K: Sink>(
     alloc: Global,
     decoder: &mut PushDecoder,
@@ -126,21 +126,21 @@ pub(crate) fn decode_step<K: Sink>(
     }
 }
 
-// Takes the memory for so many frames of so many channels at so many times 64 times 44.1 kHz, and writes the head of the plain file.
+// Takes the memory for so many frames of so many channels at so many times 64 times 44.1 kHz, and writes the front of the plain file.
 fn begin<K: Sink>(
     alloc: Global,
     decoder: &PushDecoder,
-    head: (u32, u32, u32),
+    properties: (u32, u32, u32),
     sink: &mut K,
 ) -> Result<Work, PipeFault>
-    requires head { (front : Front) × IsFrontOf front head.0 head.1 head.2 decoder.now }
+    requires properties { (front : Front) × IsFrontOf front properties.0 properties.1 properties.2 decoder.now }
     ensures later { K.faults sink.old ≤ K.faults sink.new }
     ensures write { result ≡ Err PipeFault.Write → Rose (K.faults sink.old) (K.faults sink.new) }
     ensures memory { (refused : AllocError) → result ≡ Err (PipeFault.Memory refused) → sink.new ≡ sink.old }
     ensures fewer { IfOk result (λ m. m.frame_count - m.decoded < 1000002) }
-    ensures begun { (front : Front) → IsFrontOf front head.0 head.1 head.2 decoder.now → HasBegun result front (K.written sink.old) (K.written sink.new) (K.room sink.old) (K.room sink.new) }
+    ensures begun { (front : Front) → IsFrontOf front properties.0 properties.1 properties.2 decoder.now → HasBegun result front (K.written sink.old) (K.written sink.new) (K.room sink.old) (K.room sink.new) }
 {
-    let (channels, multiple, frames) = head;
+    let (channels, multiple, frames) = properties;
     let Some(channels) = Channels::at(channels, multiple) else {
         unreachable!()
     };
@@ -155,7 +155,7 @@ fn begin<K: Sink>(
     }
 }
 
-// Writes the sound of a frame that was decoded, or tells its fault.
+// Writes the sound of a frame that was decoded, or answers its fault.
 fn write_sound<K: Sink>(
     answer: Result<u32, FrameFault>,
     work: &mut Option<Work>,

@@ -6,7 +6,7 @@ use dst_frames::Scratch;
 use dst_num::Channels;
 use std::alloc::{AllocError, Global};
 
-/// The channels and the number of frames that the head tells, how many were decoded, and room for a frame's sound.
+/// The channels and the number of frames that the stream says, how many were decoded, and room for a frame's sound.
 #[derive(Drop)]
 pub(crate) struct Work {
     pub(crate) channels: Channels,

@@ -12,7 +12,7 @@ use Rattle.dsdiff_spec.specs.Walk.{Entry, entry}
 use Rattle.dsdiff_spec.proofs.OneSound.{one_sound}
 use Rattle.dst_commands.specs.Writing.{Adds}
 use Rattle.frame_cache.specs.Reader.{Reader, KeepsSounds, frame_in, order, stored_bytes}
-use Rattle.frame_cache.specs.Slots.{Kept, frames_in}
+use Rattle.frame_cache.specs.Slots.{Held, frames_in}
 use Rattle.dst_read.specs.declared.faults.DecodeFault.{DecodeFault}
 use Rattle.dst_ranges.specs.Asked.{groups_asked, bytes_read}
 use Rattle.dst_ranges.specs.Ending.{RangeEnds}
@@ -47,7 +47,7 @@ parts_same pairs file o ready is =
 
 keeps_none : (pairs : List (ℕ × ℕ)) (file : List ℕ) (o : OpenedParts) → IsReady pairs o → KeepsSounds file o.reader
 keeps_none pairs file o ready =
-    subst (λ (ks : List Kept). AllByRecursion (λ x. Means o.reader.shape (frame_in file o.reader x.frame) x.sound) ks) (sym ready.kept_is) tt
+    subst (λ (ks : List Held). AllByRecursion (λ x. Means o.reader.shape (frame_in file o.reader x.frame) x.sound) ks) (sym ready.held_is) tt
 
 -- ---- all is written
 pub ends_done : (pairs : List (ℕ × ℕ)) (file : List ℕ) (o : OpenedParts) (r' : Reader) (s : RangeWritten) (bytes : Option (List ℕ)) (given given' : ℕ)
@@ -90,9 +90,9 @@ given_most pairs file o r' bytes given given' old new room left ready is small w
     let r = o.reader in
     let frames : frames_wanted (its_parts pairs o) ≡ map (λ (w : Want). w.frame) (wants form pairs) =
     ap frames_wanted (parts_same pairs file o ready is) ∙ frames_of_wants (all_parts form pairs) ∙ ap (map (λ (w : Want). w.frame)) (wants_are form pairs) in
-    let kept : order r ≡ [] = ap frames_in ready.kept_is in
+    let held : order r ≡ [] = ap frames_in ready.held_is in
     let decoded : decoded_of (order r) (frames_wanted (its_parts pairs o)) r.capacity ≡ decoded_of [] (map (λ (w : Want). w.frame) (wants form pairs)) 16 =
-    ap (λ l. decoded_of l (frames_wanted (its_parts pairs o)) r.capacity) kept
+    ap (λ l. decoded_of l (frames_wanted (its_parts pairs o)) r.capacity) held
     ∙ ap (λ l. decoded_of [] l r.capacity) frames ∙ ap (decoded_of [] (map (λ (w : Want). w.frame) (wants form pairs))) ready.capacity_is in
     let stored : stored_bytes r (decoded_of (order r) (frames_wanted (its_parts pairs o)) r.capacity) ≡ bytes_read file form pairs =
     ap (stored_bytes r) decoded

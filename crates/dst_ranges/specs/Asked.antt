@@ -8,6 +8,6 @@ use Rattle.dsdiff_spec.specs.Ranges.{wants, decoded_of}
 abbrev pub groups_asked : List (ℕ × ℕ) → ℕ
 groups_asked pairs = sum (map (λ p. p.1) pairs)
 
--- the bytes of the frames that are read for them, where the sounds of sixteen frames are kept
+-- the bytes of the frames that are read for them, where the sounds of sixteen frames are held
 abbrev pub bytes_read : List ℕ → Form → List (ℕ × ℕ) → ℕ
 bytes_read file form pairs = sum (map (λ k. (entry (entries file form) k).size) (decoded_of [] (map (λ w. w.frame) (wants form pairs)) 16))

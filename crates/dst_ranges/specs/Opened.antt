@@ -19,7 +19,7 @@ pub record IsReady (pairs : List (ℕ × ℕ)) (o : OpenedParts) : Type 0 where
   pub some : 0 < sound_bytes o.reader.shape
   pub buffer_is : length o.buffer.items ≡ sound_bytes o.reader.shape
   pub capacity_is : o.reader.capacity ≡ 16
-  pub kept_is : o.reader.kept ≡ []
+  pub held_is : o.reader.held ≡ []
   pub size_most : o.reader.size ≤ 112896000000
   pub inside : AreInside o.reader o.channels.channels pairs
 

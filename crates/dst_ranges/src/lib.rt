@@ -2,7 +2,7 @@
 //!
 //! A part is asked for by a pair, its first group and its number of groups, a group being eight samples of each channel. All pairs are held
 //! against the size of the sound before a frame is decoded; then they are written one after the other. The sounds of the sixteen frames that
-//! were wanted last are kept, so that a frame that is wanted again soon costs nothing.
+//! were wanted last are held, so that a frame that is wanted again soon costs nothing.
 //!
 //! ```text
 //! match range_out(alloc, &mut source, &mut sink, &[(44_100, 1_000), (0, 10)]) {

@@ -15,7 +15,7 @@ use dst_streams::Source;
 use frame_cache::RangeReader;
 use std::alloc::Global;
 
-/// How many sounds of frames are kept.
+/// How many sounds of frames are held.
 const KEPT_FRAMES: u32 = 16;
 
 /// The reader of a file's sound, with a buffer for that of one frame.

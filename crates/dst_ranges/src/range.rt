@@ -33,7 +33,7 @@ pub struct RangeWritten {
 /// being eight samples of each channel.
 ///
 /// The first pair that asks past the last group is refused before any frame is decoded. A frame that a part touches and that is refused is
-/// told by its first fault; all that stands before its own bytes is written then. Where no bytes are asked for no call is made on the sink.
+/// answered by its first fault; all that stands before its own bytes is written then. Where no bytes are asked for no call is made on the sink.
 pub fn range_out<S: Source, K: Sink>(
     alloc: Global,
     source: &mut S,
@@ -51,7 +51,7 @@ pub fn range_out<S: Source, K: Sink>(
     ensures settled { OnOk result (0 < groups_asked pairs.now → K.settled sink.new ≡ true) }
     ensures no_call { groups_asked pairs.now ≡ 0 → sink.new ≡ sink.old }
     ensures no_write { groups_asked pairs.now ≡ 0 → result ≡ Err DecodeFault.Write → ⊥ }
-    // a frame that is kept isn't read again
+    // a frame that is held isn't read again
     ensures given { OnOk result ((file : List ℕ) → S.bytes source.old ≡ Some file → S.given source.old < 2 ^ 63 →
         S.given source.new ≤ S.given source.old + 48208948 + bytes_read file (accepted file) pairs.now) }
     // a refused file, before anything is written

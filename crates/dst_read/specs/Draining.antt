@@ -11,7 +11,7 @@ use Rattle.dst_read.specs.declared.drain.SoundWriter.{SoundWriter}
 use Rattle.dst_read.specs.declared.drain.TailSum.{TailSum}
 use Rattle.dst_commands.specs.Writing.{Adds, Stops}
 
--- a refused frame is told by its number and its fault
+-- a refused frame is answered by its number and its fault
 pub record IsRefusedAs (job : Job) (k : ℕ) (fault : FrameFault) : Type 0 where
   pub number : k ≡ job.number
   pub answer : job.answer ≡ Err fault

@@ -1,4 +1,4 @@
--- Jobs: the buffers that a frame is worked in, told by one number, and what the work leaves in them.
+-- Jobs: the buffers that a frame is worked in, described by one number, and what the work leaves in them.
 use Rattle.std.specs.Prelude.{◌≡◌, ℕ, ◌+◌, ◌*◌, ◌<◌, ◌≤◌, Bool, not, ◌&&◌, ◌==◌, if◌then◌else◌, List, All, length, take, MatchResult, vec_capacity}
 use Rattle.dst_spec.specs.Sample.{Shape, IsShape, sound_bytes}
 use Rattle.dst_spec.specs.Means.{MeansWithTail}

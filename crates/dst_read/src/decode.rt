@@ -28,7 +28,7 @@ use std::thread::Threads;
 /// Decodes a coded file: writes the plain file whose sound its frames mean.
 ///
 /// Batches of frames are read, decoded by so many workers, 1 to 16, and written in order. What is answered and written is
-/// what one worker answers and writes. A file or a frame that is refused is told by its first fault.
+/// what one worker answers and writes. A file or a frame that is refused is answered by its first fault.
 pub fn decode_file<R: Threads + Sync, S: Source, K: Sink, G: Gate>(
     rt: &R,
     alloc: Global,

@@ -25,7 +25,7 @@ use Rattle.dst_commands.specs.declared.opened.FoundFrame.{FoundFrame}
 use Rattle.dsdiff_chunks.specs.Forms.{coded_seen}
 use Rattle.dsdiff_chunks.proofs.LawfulForms.{sound_inside}
 use Rattle.dst_read.proofs.Framing.{lent_whole}
-use Rattle.dst_show.specs.OneFrame.{IsSoundOf, HasNoSound, FindsNoSound}
+use Rattle.dst_show.specs.Frame.{IsSoundOf, HasNoSound, FindsNoSound}
 use Rattle.dst_read.specs.declared.faults.DecodeFault.{DecodeFault}
 use Rattle.dst_read.specs.declared.faults.DecodeFault.TheVariants.{Source, Write, Frame}
 use Rattle.dsdiff_chunks.specs.declared.open.OpenFault.TheVariants.{Read, Memory, File}

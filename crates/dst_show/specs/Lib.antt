@@ -1,3 +1,3 @@
 pub mod LineByLine
 pub mod Reporting
-pub mod OneFrame
+pub mod Frame

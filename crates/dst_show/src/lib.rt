@@ -15,12 +15,12 @@
 #![tactic(auto)]
 
 mod faults;
-mod listing;
-mod one_frame;
+mod frame;
+mod index;
 mod show;
 mod summary;
 
 pub use faults::{FrameWritten, ListFault, Reported, ShowFault};
-pub use listing::index_file;
-pub use one_frame::frame_out;
+pub use frame::frame_out;
+pub use index::index_file;
 pub use show::show_file;

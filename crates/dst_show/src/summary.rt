@@ -9,7 +9,7 @@ ghost use Rattle.dst_commands.specs.Writing.{Adds, Stops};
 ghost use Rattle.dst_show.specs.LineByLine.{GoesByLines, fed};
 ghost use Rattle.dst_show.specs.Reporting.{summary_of};
 
-use crate::listing::report_lines;
+use crate::index::report_lines;
 use dsdiff_chunks::{ChunkHead, CodedForm, PlainForm};
 use dst_commands::{WalkedForm, sound_size};
 use dst_lines::lines::{self, Line};
@@ -84,7 +84,7 @@ fn lines_of(summary: &Summary) -> [Line; 5]
     ensures { map (λ l. l.bytes) result ≡ fed (summary_of summary.now) }
 {
     [
-        lines::with_word("kind ", summary.kind),
+        lines::with_text("kind ", summary.kind),
         lines::with_number("channels ", summary.channels.count() as u64),
         lines::with_bytes("sound ", summary.sound),
         lines::with_number("frames ", u64::from(summary.frames)),
@@ -103,14 +103,14 @@ fn report_stored<T: Sink>(report: &mut T, walked: &WalkedForm) -> Result<(), Fai
     let form = &walked.form;
     let lines = [
         lines::with_bytes("stored ", stored_bytes(&walked.index)),
-        lines::with_word("index ", yes_or_no(has_index(form.heads.as_slice()))),
-        lines::with_word("kept ", yes_or_no(form.origin.is_some())),
+        lines::with_text("index ", yes_or_no(has_index(form.heads.as_slice()))),
+        lines::with_text("kept ", yes_or_no(form.origin.is_some())),
     ];
     report_lines(report, &lines)
 }
 
 fn yes_or_no(holds: bool) -> &'static str
-    ensures word { result.now ≡ reports.yes_or_no holds }
+    ensures text { result.now ≡ reports.yes_or_no holds }
     ensures short { length result.now ≤ 3 }
 {
     if holds { "yes" } else { "no" }

@@ -25,8 +25,8 @@ written_over-front xs piece place room fits within =
     let front : take place xs ≡ take place ys = ap (take place) (sym split) ∙ take-append-le place ys zs (omega arith) in
     let back : drop (place + length piece) xs ≡ drop (place + length piece) ys ++ zs =
     ap (drop (place + length piece)) (sym split) ∙ drop-append-le (place + length piece) ys zs (omega arith) in
-    let head : List ℕ = take place ys ++ piece in
-    let tail : List ℕ = drop (place + length piece) ys in
-    let long : length (head ++ tail) ≡ room =
-    omega (arith, length-append head tail, length-append (take place ys) piece, length-take place ys, length-drop (place + length piece) ys) in
-    rw (front, back, sym (append_assoc head tail zs)) (take_at (head ++ tail) zs room long)
+    let before : List ℕ = take place ys ++ piece in
+    let after : List ℕ = drop (place + length piece) ys in
+    let long : length (before ++ after) ≡ room =
+    omega (arith, length-append before after, length-append (take place ys) piece, length-take place ys, length-drop (place + length piece) ys) in
+    rw (front, back, sym (append_assoc before after zs)) (take_at (before ++ after) zs room long)

@@ -18,22 +18,22 @@ and_then-more old xs done more =
 pub cut_later : (old mid new : Option (List ℕ)) (xs : List ℕ) (done more all : ℕ) → done + more ≤ all → all ≤ length xs →
     mid ≡ and_then old (take done xs) → IsCutShort mid (take more (drop done xs)) new → IsCutShort old (take all xs) new
 cut_later old mid new xs done more all le fits is cut =
-    let short : cut.kept ≤ more = omega (arith, cut.within, length-take more (drop done xs)) in
-    let same : done + cut.kept ≤ all = omega arith in
+    let short : cut.taken ≤ more = omega (arith, cut.within, length-take more (drop done xs)) in
+    let same : done + cut.taken ≤ all = omega arith in
     record {
-      kept = done + cut.kept;
+      taken = done + cut.taken;
       within = omega (arith, length-take all xs);
       written =
           cut.written
-          ∙ rw (take-take cut.kept more (drop done xs) short) (rw is (and_then-more old xs done cut.kept))
-          ∙ ap (and_then old) (sym (take-take (done + cut.kept) all xs same));
+          ∙ rw (take-take cut.taken more (drop done xs) short) (rw is (and_then-more old xs done cut.taken))
+          ∙ ap (and_then old) (sym (take-take (done + cut.taken) all xs same));
     }
 
 -- so many bytes of a range, and no more
 pub cut_there : (old new : Option (List ℕ)) (xs : List ℕ) (done all : ℕ) → done ≤ all → all ≤ length xs →
     new ≡ and_then old (take done xs) → IsCutShort old (take all xs) new
 cut_there old new xs done all le fits is = record {
-  kept = done;
+  taken = done;
   within = omega (arith, length-take all xs);
   written = is ∙ ap (and_then old) (sym (take-take done all xs le));
 }

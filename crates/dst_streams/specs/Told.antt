@@ -12,9 +12,9 @@ and_then (Some bytes) piece = Some (bytes ++ piece)
 
 -- what is told after a piece is added and cut short: a prefix of the piece is there
 pub record IsCutShort (old : Option (List ℕ)) (piece : List ℕ) (new : Option (List ℕ)) : Type 0 where
-  pub kept : ℕ
-  pub within : kept ≤ length piece
-  pub written : new ≡ and_then old (take kept piece)
+  pub taken : ℕ
+  pub within : taken ≤ length piece
+  pub written : new ≡ and_then old (take taken piece)
 
 -- the first count bytes of out are those from place on
 abbrev pub HoldsFrom : Option (List ℕ) → ℕ → ℕ → List ℕ → Type 0

@@ -83,9 +83,9 @@ coded_whole : (asks : ℕ → Command) (plain : List ℕ → List ℕ) → Codes
 coded_whole asks plain codes (Err fault) level picker bytes old new is accepts written frames stored = tt {0}
 coded_whole asks plain codes (Ok e) level picker bytes old new is accepts written frames stored = λ file told.
     let out = coded_of plain level file in
-    let kept : e.bytes ≡ stored_of plain level file = stored file told ∙ ap (λ n. stored_of plain n file) is in
+    let bytes_are : e.bytes ≡ stored_of plain level file = stored file told ∙ ap (λ n. stored_of plain n file) is in
     let line : done_line (asks level) (of_encoded e) ≡ coded_line (accepted (plain file)).frames (stored_of plain level file) =
-    codes.line level (of_encoded e) ∙ ap (λ n. coded_line n e.bytes) (frames file told) ∙ ap (λ n. coded_line (accepted (plain file)).frames n) kept in (
+    codes.line level (of_encoded e) ∙ ap (λ n. coded_line n e.bytes) (frames file told) ∙ ap (λ n. coded_line (accepted (plain file)).frames n) bytes_are in (
       out,
       subst (λ l. OutcomeOf (asks level) file (done out (l ∷ []))) (sym line) (codes.outcome level file (accepts file told level)),
       codes.whole level out old new (λ nothing. written file told nothing ∙ ap (λ n. and_then old (coded_of plain n file)) is),
@@ -127,7 +127,7 @@ part_of_coding asks plain codes level picker file old new is refused unfinished 
 -- ---- the run
 pub run_of_coding : {asks : ℕ → Command} {plain : List ℕ → List ℕ} {d : Result Encoded EncodeFault} {r : Result Numbers Fault} {a : Command}
     {level picker result : ℕ} {bytes : Option (List ℕ)} {source sink counts given : Counts} {written : Held} {told : Told}
-    {Same Settled Unread Kept Silent : Type 0} →
+    {Same Settled Unread Stays Silent : Type 0} →
     CodesPlainForm asks plain → picker ≡ level → a ≡ asks level → IsToldAs of_encoded of_encode to_encode d r → OfTold bytes AreBytes →
     (Same → written.new ≡ written.old) → IfOk d (λ e. OfTold bytes (λ file. (n : ℕ) → refusal (asks n) file ≡ None)) →
     IfOk d (λ e. OfTold bytes (λ file. HoldsNothing written.old → written.new ≡ and_then written.old (coded_of plain picker file))) →
@@ -138,21 +138,21 @@ pub run_of_coding : {asks : ℕ → Command} {plain : List ℕ → List ℕ} {d 
     ((d ≡ Err (to_encode Read)) ⊎ (d ≡ Err (to_encode Write)) →
     OfTold bytes (λ file. HoldsNothing written.old → HoldsUnfinished (place_of plain file) (coded_of plain picker file) written.new)) →
     (d ≡ Err (to_encode Write) → OfTold bytes (λ file. (n : ℕ) → refusal (asks n) file ≡ None)) →
-    Kept → (source.before ≤ source.now) × (sink.before ≤ sink.now) →
+    Stays → (source.before ≤ source.now) × (sink.before ≤ sink.now) →
     (d ≡ Err (to_encode Read) → Rose source.before source.now) → (d ≡ Err (to_encode Write) → Rose sink.before sink.now) →
     (d ≡ Err (to_encode Write) → OfTold bytes (λ file. (n : ℕ) → written.room ≡ Some n → length (coded_of plain picker file) ≤ n → ⊥)) →
     ((refused : AllocError) → d ≡ Err (to_encode (Memory refused)) → Same) → ((fault : FileFault) → d ≡ Err (to_encode (File fault)) → Same) →
     OnOk d Settled → TellsLine (status_of r) (line_of (asks level) r) result counts told →
-    IsRun a result bytes source sink counts given written told Same Settled Unread Kept Silent
+    IsRun a result bytes source sink counts given written told Same Settled Unread Stays Silent
 run_of_coding {asks} {plain} {d} {r} {a} {level} {picker} {result} {bytes} {source} {sink} {counts} {given} {written} {told} codes is same says are
-    as_written accepts coded frames stored file refused unfinished write_accepted kept later read write sure memory untouched settled line =
+    as_written accepts coded frames stored file refused unfinished write_accepted stays later read write sure memory untouched settled line =
     let kind = codes.kind level in
     run_of_file same says write_is_no_report kind.0 kind.1 kind.2 are as_written
     (coded_whole asks plain codes d level picker bytes written.old written.new is accepts coded frames stored) (λ fault h xs e. file fault h xs e level)
     (λ k fault other. write_is_no_frame k fault other)
     (λ h xs e. part_of_coding asks plain codes level picker xs written.old written.new is
     (λ fault q. as_written (refused xs e level fault q)) (unfinished h xs e))
-    kept later read write
+    stays later read write
     (λ h xs e o outcome n room fits.
     let one = command_has_one_outcome (asks level) xs kind.0 (are xs e) in
     let out = coded_out asks plain codes level picker xs o is (write_accepted h xs e level) outcome one in

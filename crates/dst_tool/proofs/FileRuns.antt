@@ -59,7 +59,7 @@ always_writes {A} {E} {c} {d} somewhere no_frame settled = record {
 -- ---- the run
 pub run_of_file : {A E : Type 0} {f : A → Numbers} {h : E → Fault} {back : Fault → E} {d : Result A E} {r : Result Numbers Fault} {a c : Command}
     {result : ℕ} {bytes : Option (List ℕ)} {source sink counts given : Counts} {written : Held} {told : Told}
-    {Same Settled Unread Kept Silent : Type 0} →
+    {Same Settled Unread Stays Silent : Type 0} →
     a ≡ c → IsToldAs f h back d r → (h (back Report) ≢ Report) → HasOutcome c → TellsOneLine c → (ReadsNothing c → ⊥) →
     OfTold bytes AreBytes → (Same → written.new ≡ written.old) →
     IfOk d (λ s. OfTold bytes (λ file. IsWhole c (f s) file written.old written.new)) →
@@ -67,16 +67,16 @@ pub run_of_file : {A E : Type 0} {f : A → Numbers} {h : E → Fault} {back : F
     ((k : ℕ) (fault : FrameFault) → h (back (Frame k fault)) ≡ Frame k fault → d ≡ Err (back (Frame k fault)) →
     OfTold bytes (λ file. IsRefusedBehind c file k fault written.old written.new)) →
     ((d ≡ Err (back Read)) ⊎ (d ≡ Err (back Write)) → OfTold bytes (λ file. IsPartly c file written.old written.new)) →
-    Kept → (source.before ≤ source.now) × (sink.before ≤ sink.now) →
+    Stays → (source.before ≤ source.now) × (sink.before ≤ sink.now) →
     (d ≡ Err (back Read) → Rose source.before source.now) → (d ≡ Err (back Write) → Rose sink.before sink.now) →
     (d ≡ Err (back Write) → OfTold bytes (λ file. (o : Answer) → OutcomeOf c file o → (n : ℕ) → written.room ≡ Some n → length o.out ≤ n → ⊥)) →
     ((refused : AllocError) → d ≡ Err (back (Memory refused)) → Same) → ((fault : FileFault) → d ≡ Err (back (File fault)) → Same) →
     OfTold bytes (λ file. (fault : FileFault) → refusal c file ≡ Some fault → Same) →
     ActsInCases c d (back Write) bytes given Same Settled → TellsLine (status_of r) (line_of c r) result counts told →
-    IsRun a result bytes source sink counts given written told Same Settled Unread Kept Silent
-run_of_file {A} {E} {f} {h} {back} {d} {r} {a} {c} {result} {bytes} {source} {sink} {counts} {given} {written} {told} {Same} {Settled} {Unread} {Kept}
-    {Silent} same says no_report reads one not_made are as_written whole file frame_is partly kept later read write sure memory untouched refused acts line =
-    same_run same (run_of_answer c r result bytes source sink counts given written told Same Settled Unread Kept Silent reads one are
+    IsRun a result bytes source sink counts given written told Same Settled Unread Stays Silent
+run_of_file {A} {E} {f} {h} {back} {d} {r} {a} {c} {result} {bytes} {source} {sink} {counts} {given} {written} {told} {Same} {Settled} {Unread} {Stays}
+    {Silent} same says no_report reads one not_made are as_written whole file frame_is partly stays later read write sure memory untouched refused acts line =
+    same_run same (run_of_answer c r result bytes source sink counts given written told Same Settled Unread Stays Silent reads one are
     (λ xs e. record {
       finished = subst (λ q. IfOk q (λ s. IsWhole c s xs written.old written.new)) (sym says.is)
           (if_answered f h d (λ s. IsWhole c s xs written.old written.new)
@@ -90,7 +90,7 @@ run_of_file {A} {E} {f} {h} {back} {d} {r} {a} {c} {result} {bytes} {source} {si
     })
     (λ w. absurd (not_made w))
     (record {
-      bytes_stay = kept;
+      bytes_stay = stays;
       later_source = later.0;
       later_sink = later.1;
       read = λ q. read (own_fault says Read q);
@@ -104,8 +104,8 @@ run_of_file {A} {E} {f} {h} {back} {d} {r} {a} {c} {result} {bytes} {source} {si
       unread = λ w. absurd (not_made w);
       no_file = λ w. absurd (not_made w);
       settled = λ w s q.
-          let kept_there : WritesFile c → Settled = if_done f h d s (sym says.is ∙ q) acts.settled in
-          kept_there w;
+          let stays_there : WritesFile c → Settled = if_done f h d s (sym says.is ∙ q) acts.settled in
+          stays_there w;
       by_index = acts.by_index;
       any_source = acts.any_source;
       no_report = never_told says Report no_report;

@@ -166,8 +166,8 @@ decoded_sound {start} {frames} {f} {coded} h = ap (λ w. size_of_sound (accepted
 pub line_of_run : {start frames : ℕ} {f : Shape} {coded : List ℕ} → HoldsCoded start frames f coded → (stored restored : ℕ) →
     stored ≡ stored_at 2 (made_file start frames f) (accepted (made_file start frames f)) → restored ≡ frames * sound_bytes f →
     run_line frames (made_file start frames f) ≡ made_run_line frames (frames * sound_bytes f) stored restored
-line_of_run {start} {frames} {f} {coded} h stored restored kept back =
+line_of_run {start} {frames} {f} {coded} h stored restored stays back =
     let file = made_file start frames f in
     let sound = file_sound start frames f h.few h.shape in
     ap₂ (λ (a b : ℕ). made_run_line frames a (stored_at 2 file (accepted file)) b) sound (coded_sound start frames f h.few h.shape h.bytes)
-    ∙ ap₂ (λ (a b : ℕ). made_run_line frames (frames * sound_bytes f) a b) (sym kept) (sym back)
+    ∙ ap₂ (λ (a b : ℕ). made_run_line frames (frames * sound_bytes f) a b) (sym stays) (sym back)

@@ -49,18 +49,18 @@ sink_failed none f (inr b) = f b
 
 -- ---- the run
 pub run_of_making : {a c : Command} {result : ℕ} {bytes : Option (List ℕ)} {source sink counts given : Counts} {written : Held} {told : Told}
-    {Same Settled Unread Kept Silent : Type 0} (r : Result Numbers Fault) →
+    {Same Settled Unread Stays Silent : Type 0} (r : Result Numbers Fault) →
     a ≡ c → HasOutcome c → TellsOneLine c → (TakesFrame c → ⊥) → ((file : List ℕ) → refusal c file ≡ None) → OfTold bytes AreBytes →
     (Same → written.new ≡ written.old) →
     ((fault : Fault) → IsNotOfMaking fault → r ≡ Err fault → ⊥) → ((file : List ℕ) → IfOk r (λ s. IsWhole c s file written.old written.new)) →
-    (r ≡ Err Write → (file : List ℕ) → IsPartly c file written.old written.new) → Kept → Unread → source.before ≤ source.now →
+    (r ≡ Err Write → (file : List ℕ) → IsPartly c file written.old written.new) → Stays → Unread → source.before ≤ source.now →
     sink.before ≤ sink.now → (r ≡ Err Write → Rose sink.before sink.now) →
     (r ≡ Err Write → OfTold bytes (λ file. (o : Answer) → OutcomeOf c file o → (n : ℕ) → written.room ≡ Some n → length o.out ≤ n → ⊥)) →
     ((refused : AllocError) → r ≡ Err (Memory refused) → Same) → (WritesNowhere c → Same) → (WritesNowhere c → r ≡ Err Write → ⊥) →
     (WritesFile c → (s : Numbers) → r ≡ Ok s → Settled) → TellsLine (status_of r) (line_of c r) result counts told →
-    IsRun a result bytes source sink counts given written told Same Settled Unread Kept Silent
-run_of_making {a} {c} {result} {bytes} {source} {sink} {counts} {given} {written} {told} {Same} {Settled} {Unread} {Kept} {Silent} r same reads one no_frame
-    accepts are as_written none finished partly kept unread later_source later_sink write sure memory idle no_write settled line =
+    IsRun a result bytes source sink counts given written told Same Settled Unread Stays Silent
+run_of_making {a} {c} {result} {bytes} {source} {sink} {counts} {given} {written} {told} {Same} {Settled} {Unread} {Stays} {Silent} r same reads one no_frame
+    accepts are as_written none finished partly stays unread later_source later_sink write sure memory idle no_write settled line =
     let answer : (file : List ℕ) → IsAnswer c r file written.old written.new = λ file. record {
       finished = finished file;
       file_is = λ fault q. absurd (none (File fault) tt q);
@@ -70,10 +70,10 @@ run_of_making {a} {c} {result} {bytes} {source} {sink} {counts} {given} {written
       memory = λ refused q. as_written (memory refused q);
       no_report = none Report tt;
     } in
-    same_run same (run_of_answer c r result bytes source sink counts given written told Same Settled Unread Kept Silent reads one are (λ file e. answer file)
+    same_run same (run_of_answer c r result bytes source sink counts given written told Same Settled Unread Stays Silent reads one are (λ file e. answer file)
     (λ w. answer [])
     (record {
-      bytes_stay = kept;
+      bytes_stay = stays;
       later_source = later_source;
       later_sink = later_sink;
       read = λ q. absurd (none Read tt q);

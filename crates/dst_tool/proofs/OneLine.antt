@@ -183,8 +183,8 @@ IsNoFileFault r =
     (r ≡ Err Read → ⊥) × ((fault : FileFault) → r ≡ Err (File fault) → ⊥) × ((k : ℕ) (fault : FrameFault) → r ≡ Err (Frame k fault) → ⊥)
 
 pub record HasCauses (c : Command) (r : Result Numbers Fault) (bytes : Option (List ℕ)) (source sink given : Counts) (written : Held)
-    (Same Settled Unread Kept : Type 0) : Type 0 where
-  pub bytes_stay : Kept
+    (Same Settled Unread Stays : Type 0) : Type 0 where
+  pub bytes_stay : Stays
   pub later_source : source.before ≤ source.now
   pub later_sink : sink.before ≤ sink.now
   pub read : r ≡ Err Read → Rose source.before source.now
@@ -204,20 +204,20 @@ pub record HasCauses (c : Command) (r : Result Numbers Fault) (bytes : Option (L
 
 -- a read fault and a write fault of an answer have their cause
 caused : (c : Command) (r : Result Numbers Fault) (bytes : Option (List ℕ)) (source sink given : Counts) (written : Held)
-    (Same Settled Unread Kept : Type 0) → HasCauses c r bytes source sink given written Same Settled Unread Kept →
+    (Same Settled Unread Stays : Type 0) → HasCauses c r bytes source sink given written Same Settled Unread Stays →
     IsCaused (status_of r) source.before source.now sink.before sink.now
-caused c r bytes source sink given written Same Settled Unread Kept h = record {
+caused c r bytes source sink given written Same Settled Unread Stays h = record {
   read = λ e. h.read (status_is_read r e);
   write = λ e. h.write (status_is_write r e);
 }
 
 pub run_of_answer : (c : Command) (r : Result Numbers Fault) (result : ℕ) (bytes : Option (List ℕ)) (source sink counts given : Counts)
-    (written : Held) (told : Told) (Same Settled Unread Kept Silent : Type 0) → HasOutcome c → TellsOneLine c →
+    (written : Held) (told : Told) (Same Settled Unread Stays Silent : Type 0) → HasOutcome c → TellsOneLine c →
     ((file : List ℕ) → bytes ≡ Some file → AreBytes file) → ((file : List ℕ) → bytes ≡ Some file → IsAnswer c r file written.old written.new) →
     (ReadsNothing c → IsAnswer c r [] written.old written.new) →
-    HasCauses c r bytes source sink given written Same Settled Unread Kept → TellsLine (status_of r) (line_of c r) result counts told →
-    IsRun c result bytes source sink counts given written told Same Settled Unread Kept Silent
-run_of_answer c r result bytes source sink counts given written told Same Settled Unread Kept Silent reads one are answer made h t = record {
+    HasCauses c r bytes source sink given written Same Settled Unread Stays → TellsLine (status_of r) (line_of c r) result counts told →
+    IsRun c result bytes source sink counts given written told Same Settled Unread Stays Silent
+run_of_answer c r result bytes source sink counts given written told Same Settled Unread Stays Silent reads one are answer made h t = record {
   ends = λ file e. ends_so file (answer file e);
   made = λ w. ends_so [] (made w);
   read = λ e. h.read (status_is_read r (status 2 (omega arith) e));
@@ -263,7 +263,7 @@ run_of_answer c r result bytes source sink counts given written told Same Settle
       status_of r,
       line_of c r ∷ [],
       answer_ends c r file written.old written.new a,
-      caused c r bytes source sink given written Same Settled Unread Kept h,
+      caused c r bytes source sink given written Same Settled Unread Stays h,
       reports_line (status_of r) result (line_of c r) told.old told.new told.before told.now t.reported t.whole t.cut_short t.added t.stopped,
     )
 
@@ -276,10 +276,10 @@ run_of_answer c r result bytes source sink counts given written told Same Settle
 
 -- a run of one command is a run of the same one
 pub same_run : {a c : Command} {result : ℕ} {bytes : Option (List ℕ)} {source sink counts given : Counts} {written : Held} {told : Told}
-    {Same Settled Unread Kept Silent : Type 0} → a ≡ c → IsRun c result bytes source sink counts given written told Same Settled Unread Kept Silent →
-    IsRun a result bytes source sink counts given written told Same Settled Unread Kept Silent
-same_run {a} {c} {result} {bytes} {source} {sink} {counts} {given} {written} {told} {Same} {Settled} {Unread} {Kept} {Silent} e h =
-    subst (λ c. IsRun c result bytes source sink counts given written told Same Settled Unread Kept Silent) (sym e) h
+    {Same Settled Unread Stays Silent : Type 0} → a ≡ c → IsRun c result bytes source sink counts given written told Same Settled Unread Stays Silent →
+    IsRun a result bytes source sink counts given written told Same Settled Unread Stays Silent
+same_run {a} {c} {result} {bytes} {source} {sink} {counts} {given} {written} {told} {Same} {Settled} {Unread} {Stays} {Silent} e h =
+    subst (λ c. IsRun c result bytes source sink counts given written told Same Settled Unread Stays Silent) (sym e) h
 
 -- one that takes one frame
 abbrev pub TakesFrame : Command → Type 0
@@ -294,7 +294,7 @@ pub nothing_added : (old : Option (List ℕ)) → old ≡ and_then old []
 nothing_added old = sym (and_then-nothing old)
 
 pub nothing_cut : (old : Option (List ℕ)) (bytes : List ℕ) → IsCutShort old bytes old
-nothing_cut old bytes = record { kept = 0; within = omega arith; written = nothing_added old }
+nothing_cut old bytes = record { taken = 0; within = omega arith; written = nothing_added old }
 
 -- a finished command that writes nothing
 pub finished_alone : (c : Command) (r : Result Numbers Fault) (old : Option (List ℕ)) (file : List ℕ) →

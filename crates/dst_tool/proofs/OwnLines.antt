@@ -227,16 +227,16 @@ at_most r result (inr e) = omega arith
 at_most r result (inl e) = let most = status_is_at_most r in omega arith
 
 run_of_listing : (c : Command) (r : Result Numbers Fault) (result : ℕ) (bytes : Option (List ℕ)) (source sink counts middle given : Counts)
-    (written : Held) (told mid : Told) (Same Settled Unread Kept Silent : Type 0) → HasOutcome c → WritesNowhere c → (ReadsNothing c → ⊥) →
+    (written : Held) (told mid : Told) (Same Settled Unread Stays Silent : Type 0) → HasOutcome c → WritesNowhere c → (ReadsNothing c → ⊥) →
     ((k : ℕ) → c ≡ frame k true → ⊥) →
-    ((file : List ℕ) → bytes ≡ Some file → AreBytes file) → written.old ≡ written.new → Same → sink.before ≤ sink.now → Kept → mid.new ≡ told.new →
+    ((file : List ℕ) → bytes ≡ Some file → AreBytes file) → written.old ≡ written.new → Same → sink.before ≤ sink.now → Stays → mid.new ≡ told.new →
     middle.now ≡ counts.now → mid.now ≡ told.now →
     ((file : List ℕ) → bytes ≡ Some file → IsListing c r file told mid) → Lists r source counts middle told mid →
     TellsFault r result middle mid → IsSure r c bytes told →
     (c ≡ index → (file : List ℕ) → bytes ≡ Some file → (accepted file).frames ≡ 0 → (s : Numbers) → r ≡ Ok s → Silent) →
-    IsRun c result bytes source sink counts given written told Same Settled Unread Kept Silent
-run_of_listing c r result bytes source sink counts middle given written told mid Same Settled Unread Kept Silent reads nowhere reading not_by_index are
-    still same later_sink kept last_told last_count last_added listing h t sure silent = record {
+    IsRun c result bytes source sink counts given written told Same Settled Unread Stays Silent
+run_of_listing c r result bytes source sink counts middle given written told mid Same Settled Unread Stays Silent reads nowhere reading not_by_index are
+    still same later_sink stays last_told last_count last_added listing h t sure silent = record {
       ends = λ file e.
           let ends = listing_ends c r result file written.old source sink counts middle told mid nowhere last_told last_added (listing file e) h t in
           (ends.0, ends.1, subst (λ w. EndsBy (OutcomeOf c file) (Some c) file ⊤ ends.0 ends.1 written.old w) still ends.2, ends.3, ends.4);
@@ -246,7 +246,7 @@ run_of_listing c r result bytes source sink counts middle given written told mid
       sure_sink = λ file e o is n room fits three. h.no_write (status_is_write r (status_told (status_of r) result 3 t.reported three (omega arith)));
       sure_report = λ file e o is no_read no_write n room least fits seven. listing_fits c r result n bytes file written.old o source counts middle told
           mid reads (are file e) e is (listing file e) h t sure no_read room least fits seven;
-      bytes_stay = kept;
+      bytes_stay = stays;
       later_source = h.later.0;
       later_sink = later_sink;
       later_report = let first = h.later.1 in let then = t.later in let last = last_count in omega arith;
@@ -283,7 +283,7 @@ report_is_no_frame k fault e = absurd cc
 
 -- The report is `old` before, `mid` behind the command's lines, and `new` behind the line of its fault.
 pub run_of_own_lines : {A E R : Type 0} {f : A → Numbers} {h : E → Fault} {back : Fault → E} {d : Result A E} {r : Result Numbers Fault} {a c : Command}
-    {result : ℕ} {bytes : Option (List ℕ)} {source sink given : Counts} {held : Held} {Same Settled Unread Kept : Type 0}
+    {result : ℕ} {bytes : Option (List ℕ)} {source sink given : Counts} {held : Held} {Same Settled Unread Stays : Type 0}
     (written : R → Option (List ℕ)) (faults appended : R → ℕ) (room : R → Option ℕ) (old mid new : R) →
     a ≡ c → IsToldAs f h back d r → (h (back Write) ≢ Write) → h (back Report) ≡ Report → HasOutcome c → WritesNowhere c → (ReadsNothing c → ⊥) →
     OfTold bytes AreBytes → held.old ≡ held.new → Same → sink.before ≤ sink.now →
@@ -295,7 +295,7 @@ pub run_of_own_lines : {A E R : Type 0} {f : A → Numbers} {h : E → Fault} {b
     × IsCutShort (written old) (report lines) (written mid))) →
     IfOk d (λ s. OfTold bytes (λ file. (o : Answer) → OutcomeOf c file o → AddsLines o.lines (appended old) (appended mid))) →
     (d ≡ Err (back Report) → OfTold bytes (λ file. (o : Answer) → OutcomeOf c file o → StopsAtALine o.lines (appended old) (appended mid))) →
-    Kept → (source.before ≤ source.now) × (faults old ≤ faults mid) → (d ≡ Err (back Read) → Rose source.before source.now) →
+    Stays → (source.before ≤ source.now) × (faults old ≤ faults mid) → (d ≡ Err (back Read) → Rose source.before source.now) →
     (d ≡ Err (back Report) → Rose (faults old) (faults mid)) → ((x : E) → d ≡ Err x → (x ≢ back Report) → mid ≡ old) →
     (d ≡ Err (back Report) →
     OfTold bytes (λ file. (o : Answer) → OutcomeOf c file o → (n : ℕ) → room old ≡ Some n → length (report o.lines) ≤ n → ⊥)) →
@@ -310,16 +310,16 @@ pub run_of_own_lines : {A E R : Type 0} {f : A → Numbers} {h : E → Fault} {b
     ((fault : Fault) → r ≡ Err fault → fault ≢ Report → result ≡ 7 →
     (n : ℕ) → room mid ≡ Some n → length (report (fault_line fault ∷ [])) ≤ n → ⊥) →
     IsRun a result bytes source sink (record { before = faults old; now = faults new }) given held
-    (record { old = written old; new = written new; room = room old; before = appended old; now = appended new }) Same Settled Unread Kept (new ≡ old)
-run_of_own_lines {A} {E} {R} {f} {h} {back} {d} {r} {a} {c} {result} {bytes} {source} {sink} {given} {held} {Same} {Settled} {Unread} {Kept} written faults
-    appended room old mid new same says no_write report_again reads nowhere reading are still free later_sink lines file frame_is cut_short added stopped kept
+    (record { old = written old; new = written new; room = room old; before = appended old; now = appended new }) Same Settled Unread Stays (new ≡ old)
+run_of_own_lines {A} {E} {R} {f} {h} {back} {d} {r} {a} {c} {result} {bytes} {source} {sink} {given} {held} {Same} {Settled} {Unread} {Stays} written faults
+    appended room old mid new same says no_write report_again reads nowhere reading are still free later_sink lines file frame_is cut_short added stopped stays
     later read reported untouched sure silent t_reported t_done t_failed t_whole t_cut_short t_added t_stopped t_cause t_later t_sure =
     let told : Told = record { old = written old; new = written new; room = room old; before = appended old; now = appended new } in
     let there : Told = record { old = written mid; new = written new; room = room mid; before = appended mid; now = appended new } in
     let counts : Counts = record { before = faults old; now = faults new } in
     let middle : Counts = record { before = faults mid; now = faults new } in
-    same_run same (run_of_listing c r result bytes source sink counts middle given held told there Same Settled Unread Kept (new ≡ old) reads nowhere reading
-    (λ k e. subst WritesNowhere e nowhere) are still free later_sink kept refl refl refl
+    same_run same (run_of_listing c r result bytes source sink counts middle given held told there Same Settled Unread Stays (new ≡ old) reads nowhere reading
+    (λ k e. subst WritesNowhere e nowhere) are still free later_sink stays refl refl refl
     (λ xs e. record {
       lines = subst (λ q. IfOk q (λ s. (ls : List Line) × OutcomeOf c xs (done [] ls) × (written mid ≡ and_then (written old) (report ls)))) (sym says.is)
           (if_answered f h d _ (at_file d (λ s ys. (ls : List Line) × OutcomeOf c ys (done [] ls)

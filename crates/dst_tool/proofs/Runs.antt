@@ -61,11 +61,11 @@ Headline words file result old new told_old told_new = (result ≡ 4)
     ⊎ ((lines : List Line) × EndsAs words file result lines old new × (told_new ≡ and_then told_old (report lines)))
 
 pub run_headline : (words : List Word) (c : Command) (file : List ℕ) (result : ℕ) (bytes : Option (List ℕ)) (source sink counts given : Counts)
-    (written : Held) (told : Told) (Same Settled Unread Kept Silent : Type 0) → command_of words ≡ Some c →
-    IsRun c result bytes source sink counts given written told Same Settled Unread Kept Silent → bytes ≡ Some file →
+    (written : Held) (told : Told) (Same Settled Unread Stays Silent : Type 0) → command_of words ≡ Some c →
+    IsRun c result bytes source sink counts given written told Same Settled Unread Stays Silent → bytes ≡ Some file →
     DidNotRise source.before source.now → DidNotRise sink.before sink.now → DidNotRise counts.before counts.now →
     Headline words file result written.old written.new told.old told.new
-run_headline words c file result bytes source sink counts given written told Same Settled Unread Kept Silent e r is no_read no_write no_report =
+run_headline words c file result bytes source sink counts given written told Same Settled Unread Stays Silent e r is no_read no_write no_report =
     go (r.ends file is).0 (r.ends file is).1 (r.ends file is).2 (r.ends file is).4
   where
     go : (status : ℕ) (lines : List Line) → EndsBy (OutcomeOf c file) (Some c) file ⊤ status lines written.old written.new →
@@ -112,10 +112,10 @@ refused_file c file o None e (inl s) five = let six = ap (λ (a : Answer). a.sta
 refused_file c file o None e (inr h) five = let zero_status = done_is_0 c file (accepted file) o h.1 in absurd (omega arith)
 
 pub run_refused : (words : List Word) (c : Command) (file : List ℕ) (result : ℕ) (bytes : Option (List ℕ)) (source sink counts given : Counts)
-    (written : Held) (told : Told) (Same Settled Unread Kept Silent : Type 0) → command_of words ≡ Some c →
-    IsRun c result bytes source sink counts given written told Same Settled Unread Kept Silent → bytes ≡ Some file → result ≡ 5 →
+    (written : Held) (told : Told) (Same Settled Unread Stays Silent : Type 0) → command_of words ≡ Some c →
+    IsRun c result bytes source sink counts given written told Same Settled Unread Stays Silent → bytes ≡ Some file → result ≡ 5 →
     (fault : FileFault) × IsRefused words file fault × (told.new ≡ and_then told.old (report (file_line fault ∷ [])))
-run_refused words c file result bytes source sink counts given written told Same Settled Unread Kept Silent e r is five =
+run_refused words c file result bytes source sink counts given written told Same Settled Unread Stays Silent e r is five =
     go (r.ends file is).0 (r.ends file is).1 (r.ends file is).2 (r.ends file is).4
   where
     go : (status : ℕ) (lines : List Line) → EndsBy (OutcomeOf c file) (Some c) file ⊤ status lines written.old written.new →
@@ -168,10 +168,10 @@ FrameIsTold words file written told =
     × (told.new ≡ and_then told.old (report (frame_fault_line k fault ∷ [])))
 
 pub run_refused_frame : (words : List Word) (c : Command) (file : List ℕ) (result : ℕ) (bytes : Option (List ℕ)) (source sink counts given : Counts)
-    (written : Held) (told : Told) (Same Settled Unread Kept Silent : Type 0) → command_of words ≡ Some c →
-    IsRun c result bytes source sink counts given written told Same Settled Unread Kept Silent → bytes ≡ Some file → result ≡ 6 →
+    (written : Held) (told : Told) (Same Settled Unread Stays Silent : Type 0) → command_of words ≡ Some c →
+    IsRun c result bytes source sink counts given written told Same Settled Unread Stays Silent → bytes ≡ Some file → result ≡ 6 →
     FrameIsTold words file written told
-run_refused_frame words c file result bytes source sink counts given written told Same Settled Unread Kept Silent e r is six =
+run_refused_frame words c file result bytes source sink counts given written told Same Settled Unread Stays Silent e r is six =
     go (r.ends file is).0 (r.ends file is).1 (r.ends file is).2 (r.ends file is).4
   where
     go : (status : ℕ) (lines : List Line) → EndsBy (OutcomeOf c file) (Some c) file ⊤ status lines written.old written.new →

@@ -149,9 +149,9 @@ pub record Told : Type 0 where
   pub now : ℕ
 
 -- What one command leaves over a source that may tell its bytes: `Same` says that the sink is what it was, `Settled` that all it holds is
--- where it keeps it for good, `Unread` that the source is what it was, `Kept` that its bytes are, and `Silent` that the report is what it was.
+-- where it keeps it for good, `Unread` that the source is what it was, `Stays` that its bytes are, and `Silent` that the report is what it was.
 pub record IsRun (c : Command) (status : ℕ) (bytes : Option (List ℕ)) (source sink report_counts given : Counts) (written : Held)
-    (told : Told) (Same Settled Unread Kept Silent : Type 0) : Type 0 where
+    (told : Told) (Same Settled Unread Stays Silent : Type 0) : Type 0 where
   pub ends : (file : List ℕ) → bytes ≡ Some file →
       (wanted : ℕ) × (lines : List Line) × EndsBy (OutcomeOf c file) (Some c) file ⊤ wanted lines written.old written.new
       × IsCaused wanted source.before source.now sink.before sink.now × Reports wanted lines status told.old told.new told.before told.now
@@ -162,7 +162,7 @@ pub record IsRun (c : Command) (status : ℕ) (bytes : Option (List ℕ)) (sourc
   pub sure_report : (file : List ℕ) → bytes ≡ Some file → (o : Answer) → OutcomeOf c file o → DidNotRise source.before source.now →
       DidNotRise sink.before sink.now →
       (n : ℕ) → told.room ≡ Some n → 7 ≤ n → length (report o.lines) ≤ n → status ≡ 7 → ⊥
-  pub bytes_stay : Kept
+  pub bytes_stay : Stays
   pub later_source : source.before ≤ source.now
   pub later_sink : sink.before ≤ sink.now
   pub later_report : report_counts.before ≤ report_counts.now

@@ -122,7 +122,7 @@ pub fn dst_run<E: Threads + Sync, S: Source, K: Sink, R: Sink>(
     )
 }
 
-// How many processors this program may use, or more than any words ask for where the system doesn't tell.
+// How many processors this program may use, or more than any words ask for where the system doesn't say.
 fn processors<E: Threads>(rt: &E) -> u32
     ensures { 0 < result }
 {

@@ -18,7 +18,7 @@ use std::thread::Threads;
 /// Runs the command of these words as [`dst_run`](crate::dst_run) does, with no more workers than so many, which pass this gate, each once for
 /// each of its jobs.
 ///
-/// What it leaves is told by the command that the words are, and all that `dst_run` promises follows from it. A test finds by the
+/// What it leaves is said of the command that the words are, and all that `dst_run` promises follows from it. A test finds by the
 /// gate which frames are worked at once.
 pub fn dst_run_by<E: Threads + Sync, S: Source, K: Sink, R: Sink, G: Gate>(
     rt: &E,

@@ -34,9 +34,9 @@ pub enum Command {
     },
     /// `check IN [--workers W]`: decode all frames and compare the index, writing nothing.
     Check,
-    /// `show IN`: tell what the file is.
+    /// `show IN`: say what the file is.
     Show,
-    /// `show IN K`: tell the header of one frame.
+    /// `show IN K`: say the header of one frame.
     ShowFrame {
         frame: u32,
     },
@@ -49,7 +49,7 @@ pub enum Command {
         frames: u32,
         channels: Channels,
     },
-    /// `make START --run FRAMES CHANNELS [--rate Q]`: make it in memory, code it and decode it, and tell the sizes; frames are
+    /// `make START --run FRAMES CHANNELS [--rate Q]`: make it in memory, code it and decode it, and report the sizes; frames are
     /// 0 to 100.
     MakeRun {
         start: u32,

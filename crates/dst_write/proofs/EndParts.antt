@@ -31,8 +31,8 @@ module _ (sizes : List ℕ) (file : List ℕ) (seen : PlainForm) (n : ℕ) (with
     abbrev index : List ℕ
     index = index_at (first_place (coded_before file form))
 
-    abbrev kept : List ℕ
-    kept = origin_of_plain form
+    abbrev origin : List ℕ
+    origin = origin_of_plain form
 
     abbrev IsSideLength : ℕ → Type 0
     IsSideLength side = (file : List ℕ) → seen.end ≤ length file → side ≡ length (before file form)
@@ -46,28 +46,28 @@ module _ (sizes : List ℕ) (file : List ℕ) (seen : PlainForm) (n : ℕ) (with
     pub stopped_in_index : (side : ℕ) {old new : Option (List ℕ)} {room : Option ℕ} → IsSideLength side →
         Stops (Unit {0}) (index_at (16 + side + 12 + 18)) old new room → Stops BySink (end sizes file form) old new room
     stopped_in_index side {old} {new} {room} is h =
-        stops_first BySink (index ++ kept) (behind file form) old new room
-        (stops_first BySink index kept old new room
+        stops_first BySink (index ++ origin) (behind file form) old new room
+        (stops_first BySink index origin old new room
         (stops_for (Unit {0}) BySink index old new room (λ e. tt {0})
         (stops_same (Unit {0}) (index_at (16 + side + 12 + 18)) index old new room (index_is side is) h)))
 
-    pub stopped_in_kept : (side : ℕ) {old mid new : Option (List ℕ)} {room half : Option ℕ} → IsSideLength side →
-        Adds (index_at (16 + side + 12 + 18)) old mid room half → Stops (Unit {0}) kept mid new half → Stops BySink (end sizes file form) old new room
-    stopped_in_kept side {old} {mid} {new} {room} {half} is a h =
-        stops_first BySink (index ++ kept) (behind file form) old new room
-        (stops_then BySink index kept old mid new room half
+    pub stopped_in_origin : (side : ℕ) {old mid new : Option (List ℕ)} {room half : Option ℕ} → IsSideLength side →
+        Adds (index_at (16 + side + 12 + 18)) old mid room half → Stops (Unit {0}) origin mid new half → Stops BySink (end sizes file form) old new room
+    stopped_in_origin side {old} {mid} {new} {room} {half} is a h =
+        stops_first BySink (index ++ origin) (behind file form) old new room
+        (stops_then BySink index origin old mid new room half
         (adds_same (index_at (16 + side + 12 + 18)) index old mid room half (index_is side is) a)
-        (stops_for (Unit {0}) BySink kept mid new half (λ e. tt {0}) h))
+        (stops_for (Unit {0}) BySink origin mid new half (λ e. tt {0}) h))
 
     -- by the last call
     pub end_by : {T : Type 0} (result : Result T CopyFault) (side : ℕ) {old mid last : Option (List ℕ)} (new : Option (List ℕ))
         {room half less : Option ℕ} (left : Option ℕ) →
-        IsSideLength side → Adds (index_at (16 + side + 12 + 18)) old mid room half → Adds kept mid last half less →
+        IsSideLength side → Adds (index_at (16 + side + 12 + 18)) old mid room half → Adds origin mid last half less →
         MatchResult result (λ _. Adds (behind file form) last new less left) (λ fault. Stops (fault ≡ CopyFault.Write) (behind file form) last new less) →
         MatchResult result (λ _. Adds (end sizes file form) old new room left)
         (λ fault. Stops (fault ≡ CopyFault.Write) (end sizes file form) old new room)
     end_by result side {old} {mid} {last} new {room} {half} {less} left is a b h =
-        side_then result (index ++ kept) (behind file form) old last new room less left
-        (adds_then index kept old mid last room half less
+        side_then result (index ++ origin) (behind file form) old last new room less left
+        (adds_then index origin old mid last room half less
         (adds_same (index_at (16 + side + 12 + 18)) index old mid room half (index_is side is) a) b)
         h

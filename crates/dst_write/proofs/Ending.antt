@@ -98,8 +98,8 @@ module _ (frames : List (List ℕ)) (file : List ℕ) (form : Form) (count : len
         ∙ sym (unsized_is frames file form)
 
     -- ---- what isn't finished
-    prefix : (kept : ℕ) → kept ≤ length (unsized frames file form) → IsUnfinished (sound_place file form) out (take kept (unsized frames file form))
-    prefix kept le = inl (kept, omega (arith, same_length), ap (take kept) (sym both_zero))
+    prefix : (taken : ℕ) → taken ≤ length (unsized frames file form) → IsUnfinished (sound_place file form) out (take taken (unsized frames file form))
+    prefix taken le = inl (taken, omega (arith, same_length), ap (take taken) (sym both_zero))
 
     sound_open : (held : List ℕ) → IsSameOutside (sound_place file form) 8 (unsized frames file form) held → IsUnfinished (sound_place file form) out held
     sound_open held h =
@@ -151,9 +151,9 @@ module _ (frames : List (List ℕ)) (file : List ℕ) (form : Form) (count : len
     stopped_short P old new room h = record {
       unfinished = λ nothing.
           subst (λ place. HoldsUnfinished place out new) (place_is file form)
-          (of_nothing (λ old. new ≡ and_then old (take h.cut.kept (unsized frames file form)) → HoldsUnfinished (sound_place file form) out new)
+          (of_nothing (λ old. new ≡ and_then old (take h.cut.taken (unsized frames file form)) → HoldsUnfinished (sound_place file form) out new)
           (λ e. subst (HoldsUnfinished (sound_place file form) out) (sym e) (tt {0}))
-          (λ e. subst (HoldsUnfinished (sound_place file form) out) (sym e) (prefix h.cut.kept h.cut.within))
+          (λ e. subst (HoldsUnfinished (sound_place file form) out) (sym e) (prefix h.cut.taken h.cut.within))
           old nothing h.cut.written);
       lacks = λ p n e fits. h.lacks p n e (omega (arith, same_length));
     }

@@ -1,4 +1,4 @@
--- Jobs: the buffers that a frame is stored in, told by one number, and what the work leaves in them.
+-- Jobs: the buffers that a frame is stored in, described by one number, and what the work leaves in them.
 use Rattle.std.specs.Prelude.{◌≡◌, ℕ, ◌+◌, ◌<◌, ◌≤◌, if◌then◌else◌, List, All, length, take}
 use Rattle.dst_spec.specs.Sample.{Shape, IsShape, sound_bytes}
 use Rattle.dst_spec.specs.Spell.{stored}

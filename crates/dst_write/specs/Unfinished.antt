@@ -27,7 +27,7 @@ zero_at place out = take place out ++ replicate 8 0 ++ drop (place + 8) out
 -- that of the form is written. A field that is being written may hold anything.
 abbrev pub IsUnfinished : ℕ → List ℕ → List ℕ → Type 0
 IsUnfinished place out held =
-    ((kept : ℕ) × (kept ≤ length out) × (held ≡ take kept (zero_at form_size_place (zero_at place out))))
+    ((taken : ℕ) × (taken ≤ length out) × (held ≡ take taken (zero_at form_size_place (zero_at place out))))
     ⊎ IsSameOutside place 8 (zero_at form_size_place out) held
     ⊎ IsSameOutside form_size_place 8 out held
 

@@ -65,7 +65,7 @@ fn write_sound_opening<K: Sink>(sink: &mut K, frames: u32) -> Result<(), Failed>
     write_frte(sink, frames)
 }
 
-/// Writes what stands behind the frames, of which each stored one has so many bytes: the index, what is kept of the plain file,
+/// Writes what stands behind the frames, of which each stored one has so many bytes: the index, what is said of the plain file,
 /// the chunks behind the sound.
 pub(crate) fn write_end<S: Source, K: Sink>(
     source: &mut S,
@@ -94,7 +94,7 @@ pub(crate) fn write_end<S: Source, K: Sink>(
     let Ok(()) = write_index(sink, first, sizes) else {
         return Err(CopyFault::Write);
     };
-    let Ok(()) = write_kept(sink, form) else {
+    let Ok(()) = write_origin_chunk(sink, form) else {
         return Err(CopyFault::Write);
     };
     write_side(source, sink, form, Side::Behind, buffer)
@@ -124,7 +124,7 @@ fn write_index<K: Sink>(sink: &mut K, first: u64, sizes: &[u32]) -> Result<(), F
 }
 
 // Writes `KEPT`: what it says of the plain file.
-fn write_kept<K: Sink>(sink: &mut K, form: &PlainForm) -> Result<(), Failed>
+fn write_origin_chunk<K: Sink>(sink: &mut K, form: &PlainForm) -> Result<(), Failed>
     ensures cause { HasCause (K.faults sink.old) (K.faults sink.new) result }
     ensures appended { OnOk result (K.appended sink.old ≤ K.appended sink.new) }
     ensures written { MatchResult result

@@ -1,4 +1,4 @@
-// The sizes of a coded file, and the two fields that tell them.
+// The sizes of a coded file, and the two fields that say them.
 ghost use Rattle.std.specs.Prelude.{◌≡◌, ◌+◌, ◌≤◌, ◌^◌, ℕ, List, length, sum, true, Some, IsOk, OnOk};
 ghost use Rattle.dsdiff_spec.specs.Coded.{origin_of_plain};
 ghost use Rattle.dst_streams.specs.Causes.{HasCause};
@@ -55,11 +55,11 @@ pub(crate) fn form_size(form: &PlainForm, sizes: &[u32]) -> u64
     let before = side_length(form, Side::Before);
     let behind = side_length(form, Side::Behind);
     let index = 12 + 12 * sizes.len() as u64;
-    4 + before + (12 + sound_size(sizes)) + index + kept_size(form) + behind
+    4 + before + (12 + sound_size(sizes)) + index + origin_size(form) + behind
 }
 
 // Bytes of `KEPT`.
-fn kept_size(form: &PlainForm) -> u64
+fn origin_size(form: &PlainForm) -> u64
     ensures size { result ≡ length (origin_of_plain (plain_seen form.now)) }
     ensures most { result ≤ 2 ^ 18 }
 {

@@ -68,16 +68,16 @@ pub fn chunk(alloc: Global, id: &[u8; 4], parts: &[&[u8]], pad: u8) -> Result<Ve
     joined(alloc, &[id, &size, &body, pad])
 }
 
-/// A coded file: what stands in `DST ` behind the head of frames, and the chunks behind `DST `.
+/// A coded file: what stands in `DST ` behind `FRTE`, and the chunks behind `DST `.
 pub fn coded(
     alloc: Global,
     count: u32,
     frames: &[&[u8]],
     behind: &[u8],
 ) -> Result<Vec<u8>, AllocError> {
-    let head = chunk(alloc, b"FRTE", &[&count.to_be_bytes(), b"\0\x4b"], 0)?;
+    let frte = chunk(alloc, b"FRTE", &[&count.to_be_bytes(), b"\0\x4b"], 0)?;
     let frames = joined(alloc, frames)?;
-    let sound = chunk(alloc, b"DST ", &[&head, &frames], 0)?;
+    let sound = chunk(alloc, b"DST ", &[&frte, &frames], 0)?;
     chunk(
         alloc,
         b"FRM8",
@@ -139,7 +139,7 @@ pub fn odd_plain(alloc: Global) -> Result<Vec<u8>, AllocError> {
     plain(alloc, &sound, 7)
 }
 
-/// The coded file of that plain file: two frames in the plain form, an index, and the size and the pad byte kept.
+/// The coded file of that plain file: two frames in the plain form, an index, and what `KEPT` says of the plain one.
 pub fn two_frames(alloc: Global) -> Result<Vec<u8>, AllocError> {
     let sound = counting(alloc, 4704)?;
     let filling = vec![in alloc; 0x69; 4703]?;
@@ -159,9 +159,9 @@ pub fn two_frames(alloc: Global) -> Result<Vec<u8>, AllocError> {
 
 /// The coded file of the plain file without sound and these bytes behind it: no frame, an empty index, and `KEPT`, which begins
 /// with `front`.
-pub fn coded_silent(alloc: Global, front: &[u8], tail: &[u8]) -> Result<Vec<u8>, AllocError> {
-    let kept = chunk(alloc, b"KEPT", &[front, PLAIN_CMPR, tail], 0)?;
-    let behind = joined(alloc, &[b"DSTI\0\0\0\0\0\0\0\0", &kept])?;
+pub fn coded_silent(alloc: Global, front: &[u8], behind: &[u8]) -> Result<Vec<u8>, AllocError> {
+    let origin = chunk(alloc, b"KEPT", &[front, PLAIN_CMPR, behind], 0)?;
+    let behind = joined(alloc, &[b"DSTI\0\0\0\0\0\0\0\0", &origin])?;
     coded(alloc, 0, &[], &behind)
 }
 

@@ -10,30 +10,30 @@ CHNL\0\0\0\0\0\0\0\x06\0\x01C000\
 CMPR\0\0\0\0\0\0\0\x10DST \x0bDST Encoded";
 
 // A chunk's id, place, size and pad byte.
-type Told = ([u8; 4], u64, usize, Option<u8>);
+type Seen = ([u8; 4], u64, usize, Option<u8>);
 
-fn told(chunk: Option<ChunkView<'_>>) -> Option<Told> {
+fn seen(chunk: Option<ChunkView<'_>>) -> Option<Seen> {
     match chunk {
         Some(view) => Some((view.id, view.place, view.body.len(), view.pad)),
         None => None,
     }
 }
 
-// What is told of each of the first four chunks.
-fn told_of(bytes: &[u8]) -> Result<[Option<Told>; 4], Overrun> {
+// What is seen of each of the first four chunks.
+fn seen_of(bytes: &[u8]) -> Result<[Option<Seen>; 4], Overrun> {
     let mut chunks = split_chunks(bytes)?;
     Ok([
-        told(chunks.next()),
-        told(chunks.next()),
-        told(chunks.next()),
-        told(chunks.next()),
+        seen(chunks.next()),
+        seen(chunks.next()),
+        seen(chunks.next()),
+        seen(chunks.next()),
     ])
 }
 
 #[test]
 fn chunks_are_lent_in_order(rt: HostRuntime) {
     let odd = b"odd \0\0\0\0\0\0\0\x01ApNONE\0\0\0\0\0\0\0\0";
-    let found = [told_of(b""), told_of(LOCAL), told_of(odd)];
+    let found = [seen_of(b""), seen_of(LOCAL), seen_of(odd)];
     let local = [
         Some((*b"FS  ", 0, 4, None)),
         Some((*b"CHNL", 16, 6, None)),

@@ -11,7 +11,7 @@ const PLAIN_FRONT: [u8; 98] =
 const CODED_FRONT: [u8; 82] =
     *b"FVER\0\0\0\0\0\0\0\x04\x01\x05\0\0PROP\0\0\0\0\0\0\0\x36SND FS  \0\0\0\0\0\0\0\x04\0\x2b\x11\0CHNL\0\0\0\0\0\0\0\x06\0\x01C   CMPR\0\0\0\0\0\0\0\x04DST ";
 
-// A coded sound of no frames, and what is kept of a plain file without sound.
+// A coded sound of no frames, and what `KEPT` says of a plain file without sound.
 const NO_FRAMES: [u8; 30] = *b"DST \0\0\0\0\0\0\0\x12FRTE\0\0\0\0\0\0\0\x06\0\0\0\0\0\x4b";
 
 const KEPT: [u8; 42] =

@@ -1,4 +1,4 @@
--- What the code of a step makes of a run, in its words: the value that is added, the moved values, the error behind them, and that they are a run again.
+-- What the code of a step makes of a run, in its numbers: the value that is added, the moved values, the error behind them, and that they are a run again.
 use Rattle.std.proofs.Common.{◌≡◌, ℕ, ◌+◌, ◌^◌, ◌<◌, ◌≤◌, ℤ, pos, ◌≤ℤ◌, nat_abs, to_z, of_z, List, length, take, length-take, ap, sym, ◌∙◌, arith}
 use mir.Syntax.{w64, w128}
 use Rattle.std.proofs.lemmas.Int.{ints}
@@ -12,7 +12,7 @@ error-held s run = let least = run.positive in let most = run.most in omega (ari
 value-held : (F : ℤ) → nat_abs F < 2 ^ 24 → to_z w64 (of_z w64 (to_z w128 (of_z w128 F))) ≡ F
 value-held F small = omega (arith, ints)
 
--- by the error in its word
+-- by the error in its type
 abbrev pub IsReflection : List ℤ → State → ℤ → Type 0
 IsReflection lags s F = F ≡ reflection lags (record { error = to_z w64 (of_z w64 s.error); values = s.values }) (length s.values + 1)
 

@@ -53,11 +53,11 @@ row-made lags s F error size steps next past correlations run long same is e les
     let fell = fallen-held s F error run small falls least most in
     let held = moved-held s F steps next small long moves in
     let first = lags-most lags 0 correlations in
-    let kept = same_64 (get_or lags 0 (pos 0)) (omega arith) in
+    let same = same_64 (get_or lags 0 (pos 0)) (omega arith) in
     let greater : List ℤ → Bool = list_any (λ b. nat_lt (2 ^ 32) (nat_abs b)) in
     let tested = test
     ∙ ap (λ e. int_lt e (to_z w64 (of_z w64 (get_or lags 0 (pos 0)))) || greater (take (steps + 1) next)) fell
-    ∙ ap (λ z. int_lt (fallen s.error F) z || greater (take (steps + 1) next)) kept
+    ∙ ap (λ z. int_lt (fallen s.error F) z || greater (take (steps + 1) next)) same
     ∙ ap (λ v. int_lt (fallen s.error F) (get_or lags 0 (pos 0)) || greater v) held in
     rw (fell, held) (row-step-by_test lags s F past (reflection-held lags s F run is) small tested)
 

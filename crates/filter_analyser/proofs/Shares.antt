@@ -33,7 +33,7 @@ lags-most lags k h =
     let o = h.others k in
     omega (arith, ints)
 
--- the first correlation of some channels has few bits, and its word holds it
+-- the first correlation of some channels has few bits, and its type holds it
 pub first-held : (f : Shape) (sound : List ℕ) (first count : ℕ) (r0 : ℤ) → IsShape f → 1 ≤ count → first + count ≤ f.channels →
     r0 ≡ lag (correlations f sound (range_with_len first count)) 0 → (to_z w64 (of_z w64 r0) ≡ r0) × (nat_abs (to_z w64 (of_z w64 r0)) ≤ 2 ^ 20)
 first-held f sound first count r0 shape some within is =

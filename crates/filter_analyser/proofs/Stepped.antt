@@ -97,45 +97,45 @@ map-same F G a (suc n) h =
     ap (λ x. x ∷ map F (range_with_len (a + 1) n)) (h a (omega arith)) ∙ ap (λ t. G a ∷ t) rest
 
 -- a step by sums and a gradient that are those of the filter
-pub moved-is : (f : Shape) (sound channels : List ℕ) (coefs : List ℤ) (r0 sp pp : ℤ) (kept : List State) (g : ℕ → ℤ)
+pub moved-is : (f : Shape) (sound channels : List ℕ) (coefs : List ℤ) (r0 sp pp : ℤ) (states : List State) (g : ℕ → ℤ)
     → r0 ≡ lag (correlations f sound channels) 0 →
-    kept ≡ rows (correlations f sound channels) 128 → sp ≡ agreement (total f sound channels coefs) (wrong f sound channels coefs)
+    states ≡ rows (correlations f sound channels) 128 → sp ≡ agreement (total f sound channels coefs) (wrong f sound channels coefs)
     → pp ≡ power (total f sound channels coefs) →
     ((j : ℕ) → j < 128 → g j ≡ gradient f sound (λ c t. weight (total f sound channels coefs) (wrong f sound channels coefs) (place f sound c coefs t)
     (is_wrong f sound c coefs t))
-    (length coefs) channels j) → moved_by r0 kept sp pp g coefs ≡ next_filter f sound channels coefs
+    (length coefs) channels j) → moved_by r0 states sp pp g coefs ≡ next_filter f sound channels coefs
 unfolding next_filter moved_by
-moved-is f sound channels coefs r0 sp pp kept g a b d e h =
+moved-is f sound channels coefs r0 sp pp states g a b d e h =
     let T = total f sound channels coefs in
     let W = wrong f sound channels coefs in
     let lags = correlations f sound channels in
     let G : ℕ → ℤ = gradient f sound (λ c t. weight T W (place f sound c coefs t) (is_wrong f sound c coefs t)) (length coefs) channels in
     ap (λ ys. cond (int_le (sp *ℤ pos (2 ^ 13)) pp) None
-    (elim (solved kept ys) as (λ _. Option (List ℤ)) [ None ↦ None | Some d ↦ Some (fitted kept (target coefs d)) ]))
+    (elim (solved states ys) as (λ _. Option (List ℤ)) [ None ↦ None | Some d ↦ Some (fitted states (target coefs d)) ]))
     (map-same (λ j. pull r0 sp pp (g j) (get_or coefs j (pos 0))) (λ j. pull r0 sp pp (G j) (get_or coefs j (pos 0))) 0 128
     (λ j l. ap (λ z. pull r0 sp pp z (get_or coefs j (pos 0))) (h j (omega arith))))
-    ∙ ap (λ r. moved_by r kept sp pp G coefs) a ∙ ap (λ k. moved_by (lag lags 0) k sp pp G coefs) b
+    ∙ ap (λ r. moved_by r states sp pp G coefs) a ∙ ap (λ k. moved_by (lag lags 0) k sp pp G coefs) b
     ∙ ap (λ x. moved_by (lag lags 0) (rows lags 128) x pp G coefs) d ∙ ap (λ x. moved_by (lag lags 0) (rows lags 128) (agreement T W) x G coefs) e
 
-pub moved-none : (r0 : ℤ) (kept : List State) (sp pp : ℤ) (g : ℕ → ℤ) (coefs : List ℤ) → int_le (sp *ℤ pos (2 ^ 13)) pp ≡ true
-    → moved_by r0 kept sp pp g coefs ≡ None
+pub moved-none : (r0 : ℤ) (states : List State) (sp pp : ℤ) (g : ℕ → ℤ) (coefs : List ℤ) → int_le (sp *ℤ pos (2 ^ 13)) pp ≡ true
+    → moved_by r0 states sp pp g coefs ≡ None
 unfolding moved_by
-moved-none r0 kept sp pp g coefs h =
-    ap (λ b. cond b None (elim (solved kept (map (λ j. pull r0 sp pp (g j) (get_or coefs j (pos 0))) (range_with_len 0 128))) as (λ _. Option (List ℤ)) [
+moved-none r0 states sp pp g coefs h =
+    ap (λ b. cond b None (elim (solved states (map (λ j. pull r0 sp pp (g j) (get_or coefs j (pos 0))) (range_with_len 0 128))) as (λ _. Option (List ℤ)) [
       | None ↦ None
-      | Some d ↦ Some (fitted kept (target coefs d))
+      | Some d ↦ Some (fitted states (target coefs d))
     ])) h
 
-moved-solved : (r0 : ℤ) (kept : List State) (sp pp : ℤ) (g : ℕ → ℤ) (coefs y : List ℤ) (answer : Option (List ℤ)) → int_le (sp *ℤ pos (2 ^ 13)) pp ≡ false →
-    y ≡ map (λ j. pull r0 sp pp (g j) (get_or coefs j (pos 0))) (range_with_len 0 128) → solved kept y ≡ answer →
-    moved_by r0 kept sp pp g coefs ≡ (elim answer as (λ _. Option (List ℤ)) [ None ↦ None | Some d ↦ Some (fitted kept (target coefs d)) ])
+moved-solved : (r0 : ℤ) (states : List State) (sp pp : ℤ) (g : ℕ → ℤ) (coefs y : List ℤ) (answer : Option (List ℤ)) → int_le (sp *ℤ pos (2 ^ 13)) pp ≡ false →
+    y ≡ map (λ j. pull r0 sp pp (g j) (get_or coefs j (pos 0))) (range_with_len 0 128) → solved states y ≡ answer →
+    moved_by r0 states sp pp g coefs ≡ (elim answer as (λ _. Option (List ℤ)) [ None ↦ None | Some d ↦ Some (fitted states (target coefs d)) ])
 unfolding moved_by
-moved-solved r0 kept sp pp g coefs y answer h e is =
-    ap (λ b. cond b None (elim (solved kept (map (λ j. pull r0 sp pp (g j) (get_or coefs j (pos 0))) (range_with_len 0 128))) as (λ _. Option (List ℤ)) [
+moved-solved r0 states sp pp g coefs y answer h e is =
+    ap (λ b. cond b None (elim (solved states (map (λ j. pull r0 sp pp (g j) (get_or coefs j (pos 0))) (range_with_len 0 128))) as (λ _. Option (List ℤ)) [
       | None ↦ None
-      | Some d ↦ Some (fitted kept (target coefs d))
+      | Some d ↦ Some (fitted states (target coefs d))
     ])) h
-    ∙ ap (λ a. elim a as (λ _. Option (List ℤ)) [ None ↦ None | Some d ↦ Some (fitted kept (target coefs d)) ]) (ap (solved kept) (sym e) ∙ is)
+    ∙ ap (λ a. elim a as (λ _. Option (List ℤ)) [ None ↦ None | Some d ↦ Some (fitted states (target coefs d)) ]) (ap (solved states) (sym e) ∙ is)
 
 -- values behind the answered ones are 0
 pub target-cut : (coefs moves : List ℤ) (n : ℕ) → ((j : ℕ) → n ≤ j → get_or moves j (pos 0) ≡ pos 0) → target coefs (take n moves) ≡ target coefs moves
@@ -170,26 +170,26 @@ weights-are f sound channels coefs counts weights h right wrongly c t =
     (wrongly p few ∙ ap (λ x. 256 - x) e)
 
 -- a step by what is made of a filter's counts, where they agree more than a little
-pub next-solved : (f : Shape) (sound channels : List ℕ) (coefs : List ℤ) (counts weights : List ℕ) (r0 sp pp : ℤ) (kept : List State)
+pub next-solved : (f : Shape) (sound channels : List ℕ) (coefs : List ℤ) (counts weights : List ℕ) (r0 sp pp : ℤ) (states : List State)
     (grad pulls : List ℤ) (answer : Option (List ℤ)) →
-    AreCounts f sound channels coefs counts → r0 ≡ lag (correlations f sound channels) 0 → kept ≡ rows (correlations f sound channels) 128 →
+    AreCounts f sound channels coefs counts → r0 ≡ lag (correlations f sound channels) 0 → states ≡ rows (correlations f sound channels) 128 →
     sp ≡ agreement (λ p. get_or counts p 0 + get_or counts (p + 64) 0) (λ p. get_or counts (p + 64) 0) →
     pp ≡ power (λ p. get_or counts p 0 + get_or counts (p + 64) 0) →
     ((p : ℕ) → p < 64 → get_or weights p 0 ≡ weight (λ p. get_or counts p 0 + get_or counts (p + 64) 0) (λ p. get_or counts (p + 64) 0) p false) →
     ((p : ℕ) → p < 64 → get_or weights (p + 64) 0 ≡ weight (λ p. get_or counts p 0 + get_or counts (p + 64) 0) (λ p. get_or counts (p + 64) 0) p true) →
     ((j : ℕ) → j < 128 → get_or grad j (pos 0) ≡ gradient f sound (λ c t. get_or weights (code_at f sound c coefs t) 0) (length coefs) channels j) →
     int_le (sp *ℤ pos (2 ^ 13)) pp ≡ false →
-    pulls ≡ map (λ j. pull r0 sp pp (get_or grad j (pos 0)) (get_or coefs j (pos 0))) (range_with_len 0 128) → solved kept pulls ≡ answer →
-    next_filter f sound channels coefs ≡ (elim answer as (λ _. Option (List ℤ)) [ None ↦ None | Some d ↦ Some (fitted kept (target coefs d)) ])
-next-solved f sound channels coefs counts weights r0 sp pp kept grad pulls answer h first row a p right wrongly g test is solution =
+    pulls ≡ map (λ j. pull r0 sp pp (get_or grad j (pos 0)) (get_or coefs j (pos 0))) (range_with_len 0 128) → solved states pulls ≡ answer →
+    next_filter f sound channels coefs ≡ (elim answer as (λ _. Option (List ℤ)) [ None ↦ None | Some d ↦ Some (fitted states (target coefs d)) ])
+next-solved f sound channels coefs counts weights r0 sp pp states grad pulls answer h first row a p right wrongly g test is solution =
     let G : ℕ → ℤ = λ j. get_or grad j (pos 0) in
     let V : ℕ → ℕ → ℕ = λ c t. get_or weights (code_at f sound c coefs t) 0 in
     let W : ℕ → ℕ → ℕ = λ c t.
     weight (total f sound channels coefs) (wrong f sound channels coefs) (place f sound c coefs t) (is_wrong f sound c coefs t) in
     let are = weights-are f sound channels coefs counts weights h right wrongly in
-    let step = moved-is f sound channels coefs r0 sp pp kept G first row (a ∙ agreement-is f sound channels coefs counts h)
+    let step = moved-is f sound channels coefs r0 sp pp states G first row (a ∙ agreement-is f sound channels coefs counts h)
     (p ∙ power-is f sound channels coefs counts h) (λ j k. g j k ∙ gradient-same f sound V W (length coefs) channels j are) in
-    sym step ∙ moved-solved r0 kept sp pp G coefs pulls answer test is solution
+    sym step ∙ moved-solved r0 states sp pp G coefs pulls answer test is solution
 
 -- a step of refining
 refine-none : (next : List ℤ → Option (List ℤ)) (sizes : List ℤ → ℕ) (n : ℕ) (r : Refined) → next r.last ≡ None → refine next sizes n r ≡ r

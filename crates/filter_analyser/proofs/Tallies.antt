@@ -2,7 +2,7 @@
 use Rattle.std.proofs.Common.{◌≡◌, ℕ, zero, suc, ◌+◌, ◌*◌, ◌<◌, ◌≤◌, ℤ, pos, ◌-ℤ◌, refl, ap, ◌∙◌, arith, add-suc}
 use Rattle.std.proofs.lemmas.Int.{ints}
 use Rattle.level_spec.specs.Correlation.{sum_over}
-use Rattle.filter_analyser.specs.Words.{tally}
+use Rattle.filter_analyser.specs.Stretches.{tally}
 
 pub tally-same : (F G : ℕ → ℕ) (first n : ℕ) → ((t : ℕ) → first ≤ t → t < first + n → F t ≡ G t) → tally F first n ≡ tally G first n
 unfolding tally

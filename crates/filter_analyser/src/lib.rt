@@ -18,7 +18,7 @@ mod recursion;
 mod refined;
 mod refining;
 mod scale;
-mod words;
+mod stretches;
 
 pub use counts::count_table;
 pub use lags::correlate;

@@ -65,13 +65,13 @@ fn refine_together(sound: &[u8], channels: Channels, predictions: &mut Predictio
     let mut solved = [[[0; 128]; 4]; 6];
     let mut lags = [0; 129];
     solve_channels(sound, channels, &mut solved, &mut lags);
-    let kept = keep_rows(&lags);
-    let first = fit(&kept.0, &kept.1);
+    let rows = keep_rows(&lags);
+    let first = fit(&rows.0, &rows.1);
     let all = Members {
         first: 0,
         count: channels.count(),
     };
-    refine(predictions, channels, all, lags[0], &kept.0, &first, 10)
+    refine(predictions, channels, all, lags[0], &rows.0, &first, 10)
 }
 
 // Refines a filter for each channel alone.
@@ -114,9 +114,9 @@ fn refine_alone(
 {
     let mut lags = [0; 129];
     correlate(sound, channels, c, &mut lags);
-    let kept = keep_rows(&lags);
+    let rows = keep_rows(&lags);
     let alone = Members { first: c, count: 1 };
-    refine(predictions, channels, alone, lags[0], &kept.0, first, 6).best
+    refine(predictions, channels, alone, lags[0], &rows.0, first, 6).best
 }
 
 // One filter and one table for all channels.

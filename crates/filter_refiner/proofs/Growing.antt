@@ -18,7 +18,7 @@ left-most values wanted n m small known few =
     (λ j _ _. product-most (value values (n - j)) (get_or wanted j (pos 0)) (2 ^ 32) (2 ^ 59) (small (n - j - 1)) (known j)) in
     omega (arith, ints)
 
--- a product of two words
+-- a product of two numbers
 pub product-is : (a b p : ℤ) → nat_abs a ≤ 2 ^ 62 → nat_abs b ≤ 2 ^ 62 → p ≡ to_z w64 (of_z w64 a) *ℤ to_z w64 (of_z w64 b) → p ≡ a *ℤ b
 product-is a b p h k e = e ∙ ap (λ z. z *ℤ to_z w64 (of_z w64 b)) (same_64 a h) ∙ ap (λ z. a *ℤ z) (same_64 b k)
 

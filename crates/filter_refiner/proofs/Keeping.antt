@@ -7,7 +7,7 @@ use Rattle.std.proofs.lemmas.List.FromFn.{length-map-range_with_len, get_or-map-
 use Rattle.std.specs.List.{range_with_len}
 use Rattle.level_spec.specs.Recursion.{State}
 use Rattle.level_spec.specs.Rows.{no_row}
-use Rattle.filter_refiner.specs.Kept.{states, IsKept, AreKept}
+use Rattle.filter_refiner.specs.SideBySide.{states, IsNthRow, AreRows}
 
 pub length-states : (errors : List ℤ) (values : List (List ℤ)) (n : ℕ) → length (states errors values n) ≡ n
 length-states errors values n = length-map-range_with_len (λ k. record { error = get_or errors k (pos 0); values = take k (get_or values k []) }) 0 n
@@ -40,28 +40,28 @@ states-push errors more values others n row h k e =
     ∙ ap (λ v. S (get_or errors p (pos 0)) (take p v)) (k p (omega arith))))
     ∙ ap (λ v. map F (range_with_len 0 n) ++ S (get_or more n (pos 0)) v ∷ []) e
 
-pub AreKept-push : (rows : List State) (s : State) → AreKept rows → IsKept (length rows) s → AreKept (rows ++ s ∷ [])
-AreKept-push rows s h last = record {
+pub AreRows-push : (rows : List State) (s : State) → AreRows rows → IsNthRow (length rows) s → AreRows (rows ++ s ∷ [])
+AreRows-push rows s h last = record {
   each = λ k inside.
       let long : length (rows ++ s ∷ []) ≡ length rows + 1 = omega (arith, length-append {A = State}) in
       elim (cases_lt k (length rows)) [
-        | inl less ↦ subst (IsKept k) (sym (get_or_append_left rows (s ∷ []) no_row k less)) (h.each k less)
+        | inl less ↦ subst (IsNthRow k) (sym (get_or_append_left rows (s ∷ []) no_row k less)) (h.each k less)
         | inr more ↦
             let is : k ≡ length rows = omega arith in
-            subst (λ j. IsKept j (get_or (rows ++ s ∷ []) j no_row)) (sym is) (subst (IsKept (length rows))
+            subst (λ j. IsNthRow j (get_or (rows ++ s ∷ []) j no_row)) (sym is) (subst (IsNthRow (length rows))
             (sym (get_or-append_right rows (s ∷ []) (length rows) (length rows) no_row refl (omega arith)
             ∙ (let z : length rows - length rows ≡ 0 = omega arith in
             ap (λ j. get_or (s ∷ []) j no_row) z))) last)
       ];
 }
 
--- a row that is kept, by the arrays
-pub row-of : (errors : List ℤ) (values : List (List ℤ)) {n k : ℕ} {rows : List State} → states errors values n ≡ rows → AreKept (states errors values n) →
+-- a row, by the arrays
+pub row-of : (errors : List ℤ) (values : List (List ℤ)) {n k : ℕ} {rows : List State} → states errors values n ≡ rows → AreRows (states errors values n) →
     k < length rows →
     (k < n) × (get_or rows k no_row ≡ record { error = get_or errors k (pos 0); values = take k (get_or values k []) })
-    × IsKept k (record { error = get_or errors k (pos 0); values = take k (get_or values k []) })
+    × IsNthRow k (record { error = get_or errors k (pos 0); values = take k (get_or values k []) })
 row-of errors values {n} {k} {rows} e h inside =
     let long = length-states errors values n in
     let less : k < n = omega (arith, ap length e) in
     let is = state-at errors values n k less in
-    (less, ap (λ r. get_or r k no_row) (sym e) ∙ is, subst (IsKept k) is (h.each k (omega arith)))
+    (less, ap (λ r. get_or r k no_row) (sym e) ∙ is, subst (IsNthRow k) is (h.each k (omega arith)))

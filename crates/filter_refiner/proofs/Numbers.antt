@@ -1,4 +1,4 @@
--- How great products, parts and sums are, and that they fit their words.
+-- How great products, parts and sums are, and that they fit their types.
 use Rattle.std.proofs.Common.{◌≡◌, ℕ, zero, suc, ◌+◌, ◌*◌, ◌^◌, ◌≤◌, ℤ, pos, negsuc}
 use Rattle.std.proofs.Common.{◌+ℤ◌, ◌*ℤ◌, nat_abs, to_z, of_z, List, [], ◌∷◌, get_or, replicate, refl, arith}
 use mir.Syntax.{w16, w32, w64, w128}

@@ -4,7 +4,7 @@ ghost use Rattle.level_spec.specs.Rows.{no_row};
 
 use std::marker::Model;
 
-/// The rows that are kept of a recursion: of each what is left to predict, and as many values as there are rows before it. There
+/// The rows of a recursion: of each what is left to predict, and as many values as there are rows before it. There
 /// are at most 128, with 24 fraction bits.
 #[derive(Drop)]
 pub struct Rows {
@@ -16,13 +16,13 @@ pub struct Rows {
 impl Model for Rows {
     ghost use Rattle.std.specs.Prelude.{List, ◌≤◌};
     ghost use Rattle.level_spec.specs.Recursion.{State};
-    ghost use Rattle.filter_refiner.specs.Kept.{states, AreKept};
+    ghost use Rattle.filter_refiner.specs.SideBySide.{states, AreRows};
 
     ghost Value = { List State };
 
     ghost view = { λ r. states r.errors r.values r.count };
 
-    ghost invariant = { λ r. (r.count ≤ 128) × AreKept (states r.errors r.values r.count) };
+    ghost invariant = { λ r. (r.count ≤ 128) × AreRows (states r.errors r.values r.count) };
 }
 
 impl Rows {

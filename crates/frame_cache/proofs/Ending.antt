@@ -15,7 +15,7 @@ use Rattle.dst_spec.proofs.SymbolsBefore.{range-more}
 use Rattle.dsdiff_spec.specs.Bytes.{bytes_at}
 use Rattle.dsdiff_spec.specs.Form.{Form, shape, sound_bytes_of}
 use Rattle.dsdiff_spec.specs.Walk.{entry, entries, frame_at}
-use Rattle.dsdiff_spec.specs.Ranges.{Sound, is_kept, touched}
+use Rattle.dsdiff_spec.specs.Ranges.{Sound, is_held, touched}
 use Rattle.frame_cache.specs.Reader.{Reader, HoldsTogether, order, wanted, frame_in, IsSame, IsReaderOf, KeepsSounds}
 use Rattle.frame_cache.specs.Reads.{HasWanted, IsPartWay, IsRefusedAt}
 use Rattle.frame_cache.proofs.Orders.{HasInFront, in_front_of, range-parts, few_decoded}
@@ -66,10 +66,10 @@ nothing_read sound out from len n =
 
 -- ---- one frame more
 pub front_is : (r r1 r2 : Reader) (k : ℕ) (ks : List ℕ) (n m : ℕ) (bytes bytes' : Option (List ℕ)) (g g' h h' : ℕ) → 0 < r.capacity →
-    HasWanted r r1 ks n bytes g g' → HasWanted r1 r2 (k ∷ []) m bytes' h h' → HasInFront r2.kept k
+    HasWanted r r1 ks n bytes g g' → HasWanted r1 r2 (k ∷ []) m bytes' h h' → HasInFront r2.held k
 front_is r r1 r2 k ks n m bytes bytes' g g' h h' some w w' =
     let capacity = ap (λ (x : Reader). x.capacity) w.same in
-    in_front_of r2.kept (order r1) k r1.capacity w'.order_is (omega (arith, capacity, some))
+    in_front_of r2.held (order r1) k r1.capacity w'.order_is (omega (arith, capacity, some))
 
 pub one_more_wanted : (r r1 r2 : Reader) (a k n m : ℕ) (bytes bytes' : Option (List ℕ)) (g g' g'' : ℕ) → a ≤ k → bytes' ≡ bytes →
     HasWanted r r1 (range_with_len a (k - a)) n bytes g g' → HasWanted r1 r2 (k ∷ []) m bytes' g' g'' →
@@ -85,11 +85,11 @@ one_more_wanted r r1 r2 a k n m bytes bytes' g g' g'' le same w w' =
 -- a part of the frame in front is that part of the whole sound
 pub front_part : (file : List ℕ) (form : Form) (sound s : List ℕ) (r r' : Reader) (k n end : ℕ) → IsReaderOf file form r → IsShape r.shape →
     Sound file form sound →
-    IsSame r r' → KeepsSounds file r' → (h : HasInFront r'.kept k) → s ≡ h.first.sound → k < length r.index → n ≡ sound_bytes r.shape → end ≤ r.size →
+    IsSame r r' → KeepsSounds file r' → (h : HasInFront r'.held k) → s ≡ h.first.sound → k < length r.index → n ≡ sound_bytes r.shape → end ≤ r.size →
     (i m : ℕ) → i + m ≤ n → k * n + i + m ≤ end → bytes_at sound (k * n + i) m ≡ bytes_at s i m
 front_part file form sound s r r' k n end of lawful whole same keeps h is l bytes most i m fits within =
-    let kept = subst (KeepsSounds file) same keeps in
-    let first = (subst (λ ks. KeepsSounds file (record r { kept = ks })) h.parts kept).0 in
+    let held = subst (KeepsSounds file) same keeps in
+    let first = (subst (λ ks. KeepsSounds file (record r { held = ks })) h.parts held).0 in
     let here : Means r.shape (frame_in file r k) h.first.sound = subst (λ j. Means r.shape (frame_in file r j) h.first.sound) h.frame_is first in
     let shaped : Means (shape form) (frame_at file (entry r.index k)) h.first.sound =
     subst (λ f. Means f (frame_in file r k) h.first.sound) (sym of.shape_is) here in
@@ -132,7 +132,7 @@ part_way r r1 r2 wants a e k n bytes g g' is le l w same =
     }
 
 pub refused_at : (r r1 r2 : Reader) (wants : List ℕ) (a e k n : ℕ) (bytes bytes' : Option (List ℕ)) (g g' : ℕ) (fault : FrameFault) →
-    wants ≡ range_with_len a e → a ≤ k → k - a < e → HasWanted r r1 (range_with_len a (k - a)) n bytes g g' → r2 ≡ r1 → is_kept (order r1) k ≡ false →
+    wants ≡ range_with_len a e → a ≤ k → k - a < e → HasWanted r r1 (range_with_len a (k - a)) n bytes g g' → r2 ≡ r1 → is_held (order r1) k ≡ false →
     bytes' ≡ bytes → ((file : List ℕ) → bytes' ≡ Some file → Offends r1.shape (frame_in file r1 k) fault) → IsRefusedAt r wants (order r2) bytes k fault
 refused_at r r1 r2 wants a e k n bytes bytes' g g' fault is le l w same none told offends =
     record {
@@ -140,7 +140,7 @@ refused_at r r1 r2 wants a e k n bytes bytes' g g' fault is le l w same none tol
       behind = range_with_len (k + 1) (e - (k - a) - 1);
       parts = wants_from wants a e k is le l;
       order_is = ap order same ∙ w.order_is;
-      not_kept = subst (λ (x : Reader). is_kept (order x) k ≡ false) (sym same) none;
+      not_held = subst (λ (x : Reader). is_held (order x) k ≡ false) (sym same) none;
       offends = λ file h. subst (λ (x : Reader). Offends x.shape (frame_in file x k) fault) w.same (offends file (told ∙ h));
       first = w.means;
     }

@@ -5,31 +5,31 @@ use Rattle.std.specs.List.{AllByRecursion, IsDistinct, cons_option}
 use Rattle.std.specs.Map.{keys_of, lookup_entry, remove_entry}
 use Rattle.lru.specs.LruCache.{promoted}
 use Rattle.frame_cache.specs.declared.slots.Slot.{Slot}
-use Rattle.frame_cache.specs.Slots.{Kept, kept, kept_in, found, others, moved, holds, slot_of, NoneBehind, AreFilledFirst, AreSlots}
+use Rattle.frame_cache.specs.Slots.{Held, held, held_in, found, others, moved, holds, slot_of, NoneBehind, AreFilledFirst, AreSlots}
 
-take-none : (n : ℕ) → take {A = Kept} n [] ≡ []
+take-none : (n : ℕ) → take {A = Held} n [] ≡ []
 take-none zero = refl
 take-none (suc n) = refl
 
 -- ---- the first slots
-pub kept-take : (n : ℕ) (es : List (ℕ × Slot)) → AreFilledFirst es → kept_in (take n es) ≡ take n (kept_in es)
-kept-take zero es filled = refl
-kept-take (suc n) [] filled = refl
-kept-take (suc n) (e ∷ es) filled = go e.1.frame filled.0 (kept-take n es filled.1)
+pub held-take : (n : ℕ) (es : List (ℕ × Slot)) → AreFilledFirst es → held_in (take n es) ≡ take n (held_in es)
+held-take zero es filled = refl
+held-take (suc n) [] filled = refl
+held-take (suc n) (e ∷ es) filled = go e.1.frame filled.0 (held-take n es filled.1)
   where
-    go : (o : Option ℕ) → NoneBehind o (kept_in es) → kept_in (take n es) ≡ take n (kept_in es) →
-        cons_option (option_map (λ k. kept k e.1.sound.items) o) (kept_in (take n es)) ≡ take
-        (suc n) (cons_option (option_map (λ k. kept k e.1.sound.items) o) (kept_in es))
+    go : (o : Option ℕ) → NoneBehind o (held_in es) → held_in (take n es) ≡ take n (held_in es) →
+        cons_option (option_map (λ k. held k e.1.sound.items) o) (held_in (take n es)) ≡ take
+        (suc n) (cons_option (option_map (λ k. held k e.1.sound.items) o) (held_in es))
     go None none more = more ∙ ap (take n) none ∙ take-none n ∙ sym (ap (take (suc n)) none)
-    go (Some k) t more = ap (λ ks. kept k e.1.sound.items ∷ ks) more
+    go (Some k) t more = ap (λ ks. held k e.1.sound.items ∷ ks) more
 
 pub filled-take : (n : ℕ) (es : List (ℕ × Slot)) → AreFilledFirst es → AreFilledFirst (take n es)
 filled-take zero es filled = tt
 filled-take (suc n) [] filled = tt
 filled-take (suc n) (e ∷ es) filled = (go e.1.frame filled.0, filled-take n es filled.1)
   where
-    go : (o : Option ℕ) → NoneBehind o (kept_in es) → NoneBehind o (kept_in (take n es))
-    go None none = kept-take n es filled.1 ∙ ap (take n) none ∙ take-none n
+    go : (o : Option ℕ) → NoneBehind o (held_in es) → NoneBehind o (held_in (take n es))
+    go None none = held-take n es filled.1 ∙ ap (take n) none ∙ take-none n
     go (Some k) t = tt
 
 -- ---- what is taken out of entries
@@ -85,8 +85,8 @@ pub record HasFound (es : List (ℕ × Slot)) (k s : ℕ) : Type 0 where
   pub entry : ℕ × Slot
   pub looked : lookup_entry (nat_eq s) es ≡ Some entry
   pub holding : entry.1.frame ≡ Some k
-  pub found_is : found (kept_in es) k ≡ Some (kept k entry.1.sound.items)
-  pub others_are : kept_in (remove_entry (nat_eq s) es) ≡ others (kept_in es) k
+  pub found_is : found (held_in es) k ≡ Some (held k entry.1.sound.items)
+  pub others_are : held_in (remove_entry (nat_eq s) es) ≡ others (held_in es) k
   pub filled : AreFilledFirst es → AreFilledFirst (remove_entry (nat_eq s) es)
 
 found_here : (f : ℕ × Slot) (es : List (ℕ × Slot)) (k j : ℕ) → f.1.frame ≡ Some j → (j == k) ≡ true → HasFound (f ∷ es) k f.0
@@ -97,7 +97,7 @@ found_here f es k j is test =
       entry = f;
       looked = rw own refl;
       holding = is ∙ ap (λ n. Some n) same;
-      found_is = rw (is, test) (ap (λ n. Some (kept n f.1.sound.items)) same);
+      found_is = rw (is, test) (ap (λ n. Some (held n f.1.sound.items)) same);
       others_are = rw (own, is, test) refl;
       filled = λ filled. rw own filled.1;
     }
@@ -123,7 +123,7 @@ found_later f es k s j is test apart h =
       looked = rw apart h.looked;
       holding = h.holding;
       found_is = rw (is, test) h.found_is;
-      others_are = rw (apart, is, test) (ap (λ ks. kept j f.1.sound.items ∷ ks) h.others_are);
+      others_are = rw (apart, is, test) (ap (λ ks. held j f.1.sound.items ∷ ks) h.others_are);
       filled = λ filled. rw (apart, is) (tt, h.filled filled.1);
     }
 
@@ -151,21 +151,21 @@ found_at (f ∷ es) k s h d = by_frame f.1.frame refl (found_at es k s)
         found_later_behind_none f es k s is (apart on) (more on d.1)
     by_frame (Some j) is more = by_test j (j == k) is refl more
 
-pub not_found : (es : List (ℕ × Slot)) (k : ℕ) → slot_of es k ≡ None → found (kept_in es) k ≡ None
+pub not_found : (es : List (ℕ × Slot)) (k : ℕ) → slot_of es k ≡ None → found (held_in es) k ≡ None
 not_found [] k h = refl
 not_found (f ∷ es) k h = by_frame f.1.frame refl (not_found es k)
   where
-    by_test : (j : ℕ) (b : Bool) → f.1.frame ≡ Some j → (j == k) ≡ b → (slot_of es k ≡ None → found (kept_in es) k ≡ None) → found (kept_in (f ∷ es)) k ≡ None
+    by_test : (j : ℕ) (b : Bool) → f.1.frame ≡ Some j → (j == k) ≡ b → (slot_of es k ≡ None → found (held_in es) k ≡ None) → found (held_in (f ∷ es)) k ≡ None
     by_test j true is test more = let h' = rw (is, test) at h in absurd cc
     by_test j false is test more = rw (is, test) (more (rw (is, test) at h))
 
-    by_frame : (o : Option ℕ) → f.1.frame ≡ o → (slot_of es k ≡ None → found (kept_in es) k ≡ None) → found (kept_in (f ∷ es)) k ≡ None
+    by_frame : (o : Option ℕ) → f.1.frame ≡ o → (slot_of es k ≡ None → found (held_in es) k ≡ None) → found (held_in (f ∷ es)) k ≡ None
     by_frame None is more = rw is (more (rw is at h))
     by_frame (Some j) is more = by_test j (j == k) is refl more
 
 -- ---- with that slot in front
-pub kept-promoted : (es : List (ℕ × Slot)) (k s : ℕ) → HasFound es k s → kept_in (promoted (nat_eq s) es) ≡ moved (kept_in es) k
-kept-promoted es k s h = rw (h.looked, h.found_is, h.holding) (ap (λ ks. kept k h.entry.1.sound.items ∷ ks) h.others_are)
+pub held-promoted : (es : List (ℕ × Slot)) (k s : ℕ) → HasFound es k s → held_in (promoted (nat_eq s) es) ≡ moved (held_in es) k
+held-promoted es k s h = rw (h.looked, h.found_is, h.holding) (ap (λ ks. held k h.entry.1.sound.items ∷ ks) h.others_are)
 
 pub slots-promoted : (n bytes : ℕ) (es : List (ℕ × Slot)) (k s : ℕ) → HasFound es k s → AreSlots n bytes es → AreSlots n bytes (promoted (nat_eq s) es)
 slots-promoted n bytes es k s h slots =
@@ -178,11 +178,11 @@ slots-promoted n bytes es k s h slots =
     })
 
 -- ---- the frame in front
-pub none_first : (es : List (ℕ × Slot)) (x : Kept) (xs : List Kept) → slice_get es 0 ≡ None → kept_in es ≡ x ∷ xs → ⊥
+pub none_first : (es : List (ℕ × Slot)) (x : Held) (xs : List Held) → slice_get es 0 ≡ None → held_in es ≡ x ∷ xs → ⊥
 none_first [] x xs none h = absurd cc
 none_first (e ∷ es) x xs none h = absurd cc
 
-pub sound_first : (es : List (ℕ × Slot)) (e : ℕ × Slot) (x : Kept) (xs : List Kept) → AreFilledFirst es → slice_get es 0 ≡ Some e → kept_in es ≡ x ∷ xs →
+pub sound_first : (es : List (ℕ × Slot)) (e : ℕ × Slot) (x : Held) (xs : List Held) → AreFilledFirst es → slice_get es 0 ≡ Some e → held_in es ≡ x ∷ xs →
     e.1.sound.items ≡ x.sound
 sound_first [] e x xs filled first h = absurd cc
 sound_first (f ∷ es) e x xs filled first h = subst (λ (e : ℕ × Slot). e.1.sound.items ≡ x.sound) same (by_frame f.1.frame filled.0 h)
@@ -190,10 +190,10 @@ sound_first (f ∷ es) e x xs filled first h = subst (λ (e : ℕ × Slot). e.1.
     same : f ≡ e
     same = cc
 
-    by_frame : (o : Option ℕ) → NoneBehind o (kept_in es) → cons_option (option_map (λ k. kept k f.1.sound.items) o) (kept_in es) ≡ x ∷ xs →
+    by_frame : (o : Option ℕ) → NoneBehind o (held_in es) → cons_option (option_map (λ k. held k f.1.sound.items) o) (held_in es) ≡ x ∷ xs →
         f.1.sound.items ≡ x.sound
     by_frame None none is = let empty : [] ≡ x ∷ xs = sym none ∙ is in absurd cc
-    by_frame (Some k) t is = let one : kept k f.1.sound.items ≡ x = cc in ap (λ y. y.sound) one
+    by_frame (Some k) t is = let one : held k f.1.sound.items ≡ x = cc in ap (λ y. y.sound) one
 
 pub first_is_long : (bytes : ℕ) (es : List (ℕ × Slot)) (e : ℕ × Slot) → AllByRecursion (λ e. length e.1.sound.items ≡ bytes) es → slice_get es 0 ≡ Some e →
     length e.1.sound.items ≡ bytes

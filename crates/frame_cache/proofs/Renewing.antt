@@ -7,8 +7,8 @@ use Rattle.dst_spec.proofs.Lists.{all_take}
 use Rattle.lru.specs.LruCache.{promoted, last_entry}
 use Rattle.lru.proofs.Pairs.{cut_end, take-cut, last_of_push}
 use Rattle.frame_cache.specs.declared.slots.Slot.{Slot}
-use Rattle.frame_cache.specs.Slots.{kept, kept_in, AreFilledFirst, AreSlots}
-use Rattle.frame_cache.proofs.Holding.{swapped, kept-take, filled-take}
+use Rattle.frame_cache.specs.Slots.{held, held_in, AreFilledFirst, AreSlots}
+use Rattle.frame_cache.proofs.Holding.{swapped, held-take, filled-take}
 
 -- the last entry, and those in front of it
 pub record HasLast (es : List (ℕ × Slot)) : Type 0 where
@@ -69,12 +69,12 @@ renewed us x slot h =
 front_is : (us : List (ℕ × Slot)) (x : ℕ × Slot) → us ≡ take (length us) (us ++ x ∷ [])
 front_is us x = sym (take-cut us (x ∷ []))
 
-pub kept-renewed : (n bytes : ℕ) (us : List (ℕ × Slot)) (x : ℕ × Slot) (slot : Slot) (k : ℕ) → AreSlots n bytes (us ++ x ∷ []) → slot.frame ≡ Some k →
-    kept_in ((x.0, slot) ∷ us) ≡ take n (kept k slot.sound.items ∷ kept_in (us ++ x ∷ []))
-kept-renewed n bytes us x slot k slots is =
+pub held-renewed : (n bytes : ℕ) (us : List (ℕ × Slot)) (x : ℕ × Slot) (slot : Slot) (k : ℕ) → AreSlots n bytes (us ++ x ∷ []) → slot.frame ≡ Some k →
+    held_in ((x.0, slot) ∷ us) ≡ take n (held k slot.sound.items ∷ held_in (us ++ x ∷ []))
+held-renewed n bytes us x slot k slots is =
     let count : n ≡ suc (length us) = omega (arith, slots.count_is, length-append us (x ∷ [])) in
-    let front : kept_in us ≡ take (length us) (kept_in (us ++ x ∷ [])) = ap kept_in (front_is us x) ∙ kept-take (length us) (us ++ x ∷ []) slots.filled in
-    rw (is, count) (ap (λ ks. kept k slot.sound.items ∷ ks) front)
+    let front : held_in us ≡ take (length us) (held_in (us ++ x ∷ [])) = ap held_in (front_is us x) ∙ held-take (length us) (us ++ x ∷ []) slots.filled in
+    rw (is, count) (ap (λ ks. held k slot.sound.items ∷ ks) front)
 
 pub slots-renewed : (n bytes : ℕ) (us : List (ℕ × Slot)) (x : ℕ × Slot) (slot : Slot) (k : ℕ) → AreSlots n bytes (us ++ x ∷ []) → slot.frame ≡ Some k →
     length slot.sound.items ≡ bytes → AreSlots n bytes ((x.0, slot) ∷ us)
@@ -94,7 +94,7 @@ last_is_long bytes (u ∷ us) x all = last_is_long bytes us x all.1
 -- ---- slots that are made one after the other
 pub record AreMade (n bytes : ℕ) (es : List (ℕ × Slot)) : Type 0 where
   pub slots : AreSlots n bytes es
-  pub none : kept_in es ≡ []
+  pub none : held_in es ≡ []
   pub keys : AllByRecursion (λ k. k < n) (keys_of es)
 
 pub none_above : (n : ℕ) (es : List (ℕ × Slot)) → AllByRecursion (λ k. k < n) (keys_of es) → lookup_entry (nat_eq n) es ≡ None

@@ -15,12 +15,12 @@ none_wanted r bytes given =
       order_is = refl;
       decoded_is = refl;
       given_is = λ small. omega arith;
-      keeps = λ file told kept. kept;
-      means = λ file told kept. tt;
+      keeps = λ file told held. held;
+      means = λ file told held. tt;
     }
 
 same_then : (r r' r'' : Reader) → IsSame r r' → IsSame r' r'' → IsSame r r''
-same_then r r' r'' a b = b ∙ ap (λ (x : Reader). record x { kept = r''.kept }) a
+same_then r r' r'' a b = b ∙ ap (λ (x : Reader). record x { held = r''.held }) a
 
 keys_same : (o o' ks : List ℕ) (n n' : ℕ) → o ≡ o' → n ≡ n' → keys_after o ks n ≡ keys_after o' ks n'
 keys_same o o' ks n n' e f = ap (λ l. keys_after l ks n) e ∙ ap (keys_after o' ks) f
@@ -57,8 +57,8 @@ wanted_then r r' r'' ks js n m bytes g g' g'' a b =
           let whole : stored_bytes r (decoded_of o (ks ++ js) cap) ≡ stored_bytes r here + stored_bytes r there =
           ap (stored_bytes r) all ∙ sum_of-append (λ k. (entry r.index k).size) here there in
           omega (arith, one, two, others, whole);
-      keeps = λ file told kept. b.keeps file told (a.keeps file told kept);
-      means = λ file told kept.
-          all_append (λ k. (sound : List ℕ) × Means r.shape (frame_in file r k) sound) ks js (a.means file told kept)
-          (mean_same file r r' js a.same (b.means file told (a.keeps file told kept)));
+      keeps = λ file told held. b.keeps file told (a.keeps file told held);
+      means = λ file told held.
+          all_append (λ k. (sound : List ℕ) × Means r.shape (frame_in file r k) sound) ks js (a.means file told held)
+          (mean_same file r r' js a.same (b.means file told (a.keeps file told held)));
     }

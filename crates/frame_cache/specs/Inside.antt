@@ -2,11 +2,11 @@
 use Rattle.std.specs.Prelude.{◌≡◌, ◌+◌, ◌*◌, length}
 use Rattle.dst_spec.specs.Sample.{sound_bytes}
 use Rattle.frame_cache.specs.declared.reader.RangeReader.TheInside.{Inside}
-use Rattle.frame_cache.specs.Slots.{kept_in, AreSlots}
+use Rattle.frame_cache.specs.Slots.{held_in, AreSlots}
 use Rattle.frame_cache.specs.Reader.{Reader, HoldsTogether}
 
 abbrev pub reader_seen : Inside → Reader
-reader_seen r = record { shape = r.channels; index = r.index; size = r.size; end = r.end; capacity = r.slots.cap; kept = kept_in r.slots.entries }
+reader_seen r = record { shape = r.channels; index = r.index; size = r.size; end = r.end; capacity = r.slots.cap; held = held_in r.slots.entries }
 
 pub record IsWhole (r : Inside) : Type 0 where
   pub together : HoldsTogether (reader_seen r)

@@ -6,7 +6,7 @@ use Rattle.dst_spec.specs.Means.{Means}
 use Rattle.dsdiff_spec.specs.Form.{Form, shape, size_of_sound}
 use Rattle.dsdiff_spec.specs.Walk.{Entry, entry, entries, frame_at}
 use Rattle.dsdiff_spec.specs.Ranges.{touched}
-use Rattle.frame_cache.specs.Slots.{Kept, frames_in}
+use Rattle.frame_cache.specs.Slots.{Held, frames_in}
 
 -- The frames of a file and where they stand, the bytes of its sound, the place behind its form; how many sounds of frames the
 -- reader has room for, and those that it keeps, the one that was wanted last in front.
@@ -16,20 +16,20 @@ pub record Reader : Type 0 where
   pub size : ℕ
   pub end : ℕ
   pub capacity : ℕ
-  pub kept : List Kept
+  pub held : List Held
 
 -- a reader of a form with these frames, before its first read
 abbrev pub fresh_reader : Form → List Entry → ℕ → Reader
 fresh_reader form index capacity =
-    record { shape = shape form; index = index; size = size_of_sound form; end = form.end; capacity = capacity; kept = [] }
+    record { shape = shape form; index = index; size = size_of_sound form; end = form.end; capacity = capacity; held = [] }
 
--- the frames that are kept
+-- the frames that are held
 abbrev pub order : Reader → List ℕ
-order r = frames_in r.kept
+order r = frames_in r.held
 
 -- the same reader, but for what it keeps
 abbrev pub IsSame : Reader → Reader → Type 0
-IsSame old new = new ≡ record old { kept = new.kept }
+IsSame old new = new ≡ record old { held = new.held }
 
 -- the frames that some bytes from a place on touch
 abbrev pub wanted : Reader → ℕ → ℕ → List ℕ
@@ -49,9 +49,9 @@ pub record IsReaderOf (file : List ℕ) (form : Form) (r : Reader) : Type 0 wher
   pub entries_are : entries file form ≡ r.index
   pub size_is : size_of_sound form ≡ r.size
 
--- what is kept of a frame is the sound that it means in the file
+-- what is held of a frame is the sound that it means in the file
 abbrev pub KeepsSounds : List ℕ → Reader → Type 0
-KeepsSounds file r = AllByRecursion (λ x. Means r.shape (frame_in file r x.frame) x.sound) r.kept
+KeepsSounds file r = AllByRecursion (λ x. Means r.shape (frame_in file r x.frame) x.sound) r.held
 
 -- ---- what holds of each reader
 pub record HoldsTogether (r : Reader) : Type 0 where

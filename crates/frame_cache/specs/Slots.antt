@@ -4,49 +4,49 @@ use Rattle.std.specs.List.{AllByRecursion, filter_map}
 use Rattle.frame_cache.specs.declared.slots.Slot.{Slot}
 
 -- a frame and its sound
-pub record Kept : Type 0 where
+pub record Held : Type 0 where
   pub frame : ℕ
   pub sound : List ℕ
 
-abbrev pub kept : ℕ → List ℕ → Kept
-kept k sound = record { frame = k; sound = sound }
+abbrev pub held : ℕ → List ℕ → Held
+held k sound = record { frame = k; sound = sound }
 
--- the frames that are kept
-abbrev pub frames_in : List Kept → List ℕ
+-- the frames that are held
+abbrev pub frames_in : List Held → List ℕ
 frames_in ks = map (λ k. k.frame) ks
 
--- what is kept of a frame, and the others
-abbrev pub found : List Kept → ℕ → Option Kept
+-- what is held of a frame, and the others
+abbrev pub found : List Held → ℕ → Option Held
 found [] k = None
 found (x ∷ xs) k = if x.frame == k then Some x else found xs k
 
-abbrev pub others : List Kept → ℕ → List Kept
+abbrev pub others : List Held → ℕ → List Held
 others [] k = []
 others (x ∷ xs) k = if x.frame == k then xs else x ∷ others xs k
 
--- a frame that is kept moves to the front
-abbrev pub in_front : Option Kept → List Kept → ℕ → List Kept
+-- a frame that is held moves to the front
+abbrev pub in_front : Option Held → List Held → ℕ → List Held
 in_front None ks k = ks
 in_front (Some x) ks k = x ∷ others ks k
 
-abbrev pub moved : List Kept → ℕ → List Kept
+abbrev pub moved : List Held → ℕ → List Held
 moved ks k = in_front (found ks k) ks k
 
 -- ---- what slots hold, in their order
-abbrev pub kept_of : ℕ × Slot → Option Kept
-kept_of e = option_map (λ k. kept k e.1.sound.items) e.1.frame
+abbrev pub held_of : ℕ × Slot → Option Held
+held_of e = option_map (λ k. held k e.1.sound.items) e.1.frame
 
-abbrev pub kept_in : List (ℕ × Slot) → List Kept
-kept_in es = filter_map kept_of es
+abbrev pub held_in : List (ℕ × Slot) → List Held
+held_in es = filter_map held_of es
 
 -- behind a slot that holds no frame none holds one
-abbrev pub NoneBehind : Option ℕ → List Kept → Type 0
+abbrev pub NoneBehind : Option ℕ → List Held → Type 0
 NoneBehind None ks = ks ≡ []
 NoneBehind (Some k) ks = Unit {0}
 
 abbrev pub AreFilledFirst : List (ℕ × Slot) → Type 0
 AreFilledFirst [] = Unit {0}
-AreFilledFirst (e ∷ es) = NoneBehind e.1.frame (kept_in es) × AreFilledFirst es
+AreFilledFirst (e ∷ es) = NoneBehind e.1.frame (held_in es) × AreFilledFirst es
 
 -- so many slots, each with room for so many bytes
 pub record AreSlots (count bytes : ℕ) (es : List (ℕ × Slot)) : Type 0 where

@@ -9,11 +9,11 @@ ghost use Rattle.dst_streams.specs.Told.{counted};
 ghost use Rattle.dsdiff_spec.specs.Bytes.{bytes_at};
 ghost use Rattle.dsdiff_spec.specs.Form.{Form, size_of_sound};
 ghost use Rattle.dsdiff_spec.specs.Walk.{entry, frame_at};
-ghost use Rattle.dsdiff_spec.specs.Ranges.{Sound, is_kept, keys_after, decoded_of};
+ghost use Rattle.dsdiff_spec.specs.Ranges.{Sound, is_held, keys_after, decoded_of};
 ghost use Rattle.dsdiff_chunks.specs.Forms.{coded_seen};
 ghost use Rattle.frame_index.specs.Entries.{entry_seen};
 ghost use Rattle.frame_index.specs.Fitting.{IsIndexOf};
-ghost use Rattle.frame_cache.specs.Slots.{Kept};
+ghost use Rattle.frame_cache.specs.Slots.{Held};
 ghost use Rattle.frame_cache.specs.Reader.{HoldsTogether, fresh_reader, order, wanted, stored_bytes, frame_in, IsSame, IsReaderOf, KeepsSounds};
 ghost use Rattle.frame_cache.specs.Reads.{HasWanted, MeanSounds, IsPartWay, IsRefusedAt};
 
@@ -41,14 +41,14 @@ pub enum RangeFault {
     /// The source failed.
     #[error("read fault")]
     Read,
-    /// The first frame of the part that isn't kept and is refused.
+    /// The first frame of the part that isn't held and is refused.
     #[error("frame {frame} refused: {fault}")]
     Frame { frame: u32, fault: FrameFault },
 }
 
 /// Reads parts of the sound of a coded file, and keeps the sounds of the frames that were wanted last.
 ///
-/// It has no source of its own: with one source for all reads each part is that of the source's sound, whatever is kept.
+/// It has no source of its own: with one source for all reads each part is that of the source's sound, whatever is held.
 #[derive(Drop)]
 pub struct RangeReader {
     channels: Channels,
@@ -126,9 +126,9 @@ impl RangeReader {
 
     /// Fills `out` with the bytes of the sound from a place on.
     ///
-    /// The frames that `out` touches are wanted one after the other. One that isn't kept is read and decoded; it is kept then, in the
+    /// The frames that `out` touches are wanted one after the other. One that isn't held is read and decoded; it is held then, in the
     /// place of the frame that was wanted longest ago. The first one that is refused is answered. After a fault nothing is said of
-    /// `out`, and the frames that were wanted before it are kept.
+    /// `out`, and the frames that were wanted before it are held.
     pub fn read<S: Source>(
         &mut self,
         source: &mut S,
@@ -146,7 +146,7 @@ impl RangeReader {
         ensures sound { OnOk result ((file : List ℕ) (form : Form) (sound : List ℕ) → S.bytes source.old ≡ Some file → KeepsSounds file self.old → IsReaderOf file form self.old →
             Sound file form sound → out.new ≡ bytes_at sound from (length out.old)) }
         ensures means { OnOk result ((file : List ℕ) → S.bytes source.old ≡ Some file → KeepsSounds file self.old → MeanSounds file self.old (wanted self.old from (length out.old))) }
-        // which frames are kept then, how many were decoded, and that the source gave their bytes and no others
+        // which frames are held then, how many were decoded, and that the source gave their bytes and no others
         ensures order { OnOk result (order self.new ≡ keys_after (order self.old) (wanted self.old from (length out.old)) self.old.capacity) }
         ensures decoded { IfOk result (λ r. r.decoded ≡ length (decoded_of (order self.old) (wanted self.old from (length out.old)) self.old.capacity)) }
         ensures given { OnOk result (S.given source.old < 2 ^ 64 → S.given source.new ≡ counted (S.given source.old)
@@ -184,14 +184,14 @@ impl RangeReader {
 
     // The sound of the frame in front.
     fn front(&self) -> &[u8]
-        requires some { (x : Kept) × (xs : List Kept) × (self.now.kept ≡ x ∷ xs) }
-        ensures sound { (x : Kept) (xs : List Kept) → self.now.kept ≡ x ∷ xs → result.now ≡ x.sound }
+        requires some { (x : Held) × (xs : List Held) × (self.now.held ≡ x ∷ xs) }
+        ensures sound { (x : Held) (xs : List Held) → self.now.held ≡ x ∷ xs → result.now ≡ x.sound }
         ensures long { length result.now ≡ sound_bytes self.now.shape }
     {
         newest(&self.slots)
     }
 
-    // Has a frame in front, decoded where it isn't kept, and says how many frames were decoded for it.
+    // Has a frame in front, decoded where it isn't held, and says how many frames were decoded for it.
     fn bring<S: Source>(&mut self, source: &mut S, frame: u64) -> Result<u32, RangeFault>
         requires frame { frame < length self.old.index }
         requires size { (n : ℕ) × (S.known source.old ≡ Some n) × (self.old.end ≤ n) }
@@ -200,7 +200,7 @@ impl RangeReader {
         ensures later { S.faults source.old ≤ S.faults source.new }
         ensures wanted { IfOk result (λ n. HasWanted self.old self.new (frame ∷ []) n (S.bytes source.old) (S.given source.old) (S.given source.new)) }
         ensures unchanged { OnErr result (self.new ≡ self.old) }
-        ensures not_kept { OnErr result (is_kept (order self.old) frame ≡ false) }
+        ensures not_held { OnErr result (is_held (order self.old) frame ≡ false) }
         ensures fault { (k : ℕ) (fault : FrameFault) → result ≡ Err (RangeFault.Frame k fault) → (k ≡ frame) × ((file : List ℕ) → S.bytes source.old ≡ Some file → Offends self.old.shape (frame_in file self.old frame) fault) }
         ensures read { result ≡ Err RangeFault.Read → Rose (S.faults source.old) (S.faults source.new) }
         ensures quiet { OnOk result (S.faults source.new ≡ S.faults source.old) }

@@ -2,7 +2,7 @@
 ghost use Rattle.std.specs.Prelude.{◌≡◌, ◌<◌, ℕ, List, [], ◌∷◌, length, take, nat_eq, slice_get, is_some, IsSome, IfOk, IfSome, Some};
 ghost use Rattle.std.specs.Map.{lookup, set_value};
 ghost use Rattle.lru.specs.LruCache.{promoted};
-ghost use Rattle.frame_cache.specs.Slots.{Kept, kept, kept_in, frames_in, found, moved, slot_of, AreSlots};
+ghost use Rattle.frame_cache.specs.Slots.{Held, held, held_in, frames_in, found, moved, slot_of, AreSlots};
 
 use lru::LruCache;
 use std::alloc::{AllocError, Global};
@@ -25,7 +25,7 @@ pub(crate) fn fresh_slots(
     requires some { 0 < capacity }
     ensures capacity { IfOk result (λ slots. slots.cap ≡ capacity) }
     ensures slots { IfOk result (λ slots. AreSlots capacity bytes slots.entries) }
-    ensures none { IfOk result (λ slots. kept_in slots.entries ≡ []) }
+    ensures none { IfOk result (λ slots. held_in slots.entries ≡ []) }
 {
     let Some(most) = NonZeroUsize::new(capacity as usize) else {
         unreachable!();
@@ -40,7 +40,7 @@ pub(crate) fn fresh_slots(
 
 /// The frame at a place of the order.
 pub(crate) fn key_at(slots: &LruCache<u32, Slot>, place: u32) -> Option<u32>
-    ensures { result ≡ slice_get (frames_in (kept_in slots.now.entries)) place }
+    ensures { result ≡ slice_get (frames_in (held_in slots.now.entries)) place }
 {
     let mut left = place;
     for (_, slot) in slots.iter() {
@@ -66,10 +66,10 @@ fn slot_of(slots: &LruCache<u32, Slot>, frame: u32) -> Option<u32>
     None
 }
 
-/// Has a frame in front where it is kept, and says whether it is.
+/// Has a frame in front where it is held, and says whether it is.
 pub(crate) fn move_to_front(slots: &mut LruCache<u32, Slot>, frame: u32) -> bool
-    ensures found { result ≡ is_some (found (kept_in slots.old.entries) frame) }
-    ensures kept { kept_in slots.new.entries ≡ moved (kept_in slots.old.entries) frame }
+    ensures found { result ≡ is_some (found (held_in slots.old.entries) frame) }
+    ensures held { held_in slots.new.entries ≡ moved (held_in slots.old.entries) frame }
     ensures slots { (count bytes : ℕ) → AreSlots count bytes slots.old.entries → AreSlots count bytes slots.new.entries }
     ensures capacity { slots.new.cap ≡ slots.old.cap }
 {
@@ -83,7 +83,7 @@ pub(crate) fn move_to_front(slots: &mut LruCache<u32, Slot>, frame: u32) -> bool
 /// Has the last slot in front, holding a frame with the sound in `spare`. The room that it had is spare then.
 pub(crate) fn renew_last(slots: &mut LruCache<u32, Slot>, spare: &mut Vec<u8>, frame: u32)
     requires some { 0 < length slots.old.entries }
-    ensures kept { (count bytes : ℕ) → AreSlots count bytes slots.old.entries → kept_in slots.new.entries ≡ take count (kept frame spare.old.items ∷ kept_in slots.old.entries) }
+    ensures held { (count bytes : ℕ) → AreSlots count bytes slots.old.entries → held_in slots.new.entries ≡ take count (held frame spare.old.items ∷ held_in slots.old.entries) }
     ensures slots { (count bytes : ℕ) → AreSlots count bytes slots.old.entries → length spare.old.items ≡ bytes → AreSlots count bytes slots.new.entries }
     ensures spare { (count bytes : ℕ) → AreSlots count bytes slots.old.entries → length spare.new.items ≡ bytes }
     ensures capacity { slots.new.cap ≡ slots.old.cap }
@@ -112,9 +112,9 @@ fn renew(slots: &mut LruCache<u32, Slot>, spare: &mut Vec<u8>, number: u32, fram
 
 /// The sound of the frame in front.
 pub(crate) fn newest(slots: &LruCache<u32, Slot>) -> &[u8]
-    requires some { (x : Kept) × (xs : List Kept) × (kept_in slots.now.entries ≡ x ∷ xs) }
+    requires some { (x : Held) × (xs : List Held) × (held_in slots.now.entries ≡ x ∷ xs) }
     requires slots { (count : ℕ) × (bytes : ℕ) × AreSlots count bytes slots.now.entries }
-    ensures sound { (x : Kept) (xs : List Kept) → kept_in slots.now.entries ≡ x ∷ xs → result.now ≡ x.sound }
+    ensures sound { (x : Held) (xs : List Held) → held_in slots.now.entries ≡ x ∷ xs → result.now ≡ x.sound }
     ensures long { (count bytes : ℕ) → AreSlots count bytes slots.now.entries → length result.now ≡ bytes }
 {
     let Some((_, slot)) = slots.peek_mru() else {

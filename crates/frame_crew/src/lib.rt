@@ -18,7 +18,7 @@
 //! clause says what is in it, so what is promised of a job doesn't hang on the jobs that its worker worked before.
 //!
 //! `fill` and `drain` are called by the caller's own thread alone. Each worker is lent its own scratch and its own run
-//! of the batch's jobs, without a lock, a channel or a shared word: the return of the batch is the one event between
+//! of the batch's jobs, without a lock, a channel or a shared flag: the return of the batch is the one event between
 //! threads. Where a thread can't be started, the caller does its work. Neither call takes memory of its own: the jobs
 //! and the scratches are the caller's.
 //!

@@ -81,9 +81,9 @@ same_passes file form found none read ok =
     ∙ none_differs (indexed file form) 0 found
     (λ k lt. let at : 0 + k ≡ k = omega arith in ap (indexed file form) at ∙ sym (read.entries k (omega (arith, lt, read.count))))
 
-pub first_is_told : (file : List ℕ) (form : Form) (index found : List Entry) (k : ℕ) → index_fault form form.frames ≡ None → IsRead file form index →
+pub first_is_refused : (file : List ℕ) (form : Form) (index found : List Entry) (k : ℕ) → index_fault form form.frames ≡ None → IsRead file form index →
     walk file form ≡ Ok found → DifferFirstAt k index found → check_index_fault file form ≡ Some (IndexBad k)
-first_is_told file form index found k none read ok first =
+first_is_refused file form index found k none read ok first =
     let walked = found_are (walk_fault file form) (entries file form) found ok in
     let count : length found ≡ form.frames =
     ap length (sym walked.1) ∙ length-map (frame_heads file form) entry_of ∙ count_is_right file form walked.0 in

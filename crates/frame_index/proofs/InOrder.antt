@@ -34,8 +34,8 @@ farther form place next es le p = record {
 }
 
 -- ---- one entry more
-kept : (es : List Entry) (e : Entry) (k : ℕ) → k < length es → entry (es ++ e ∷ []) k ≡ entry es k
-kept es e k lt = get_or_append_left es (e ∷ []) none k lt
+still : (es : List Entry) (e : Entry) (k : ℕ) → k < length es → entry (es ++ e ∷ []) k ≡ entry es k
+still es e k lt = get_or_append_left es (e ∷ []) none k lt
 
 last : (es : List Entry) (e : Entry) (k : ℕ) → k ≡ length es → entry (es ++ e ∷ []) k ≡ e
 last es e k there = subst (λ i. entry (es ++ e ∷ []) i ≡ e) (sym there) (get_or-append_seam es e [] none)
@@ -43,7 +43,7 @@ last es e k there = subst (λ i. entry (es ++ e ∷ []) i ≡ e) (sym there) (ge
 each_more : (P : Entry → Type 0) (es : List Entry) (e : Entry) → ((k : ℕ) → k < length es → P (entry es k)) → P e →
     (k : ℕ) → k < length (es ++ e ∷ []) → P (entry (es ++ e ∷ []) k)
 each_more P es e each new k lt = elim (cases_lt k (length es)) [
-  | inl before ↦ subst P (sym (kept es e k before)) (each k before)
+  | inl before ↦ subst P (sym (still es e k before)) (each k before)
   | inr behind ↦ subst P (sym (last es e k (omega (arith, length-append es (e ∷ []), lt, behind)))) new
 ]
 
@@ -58,11 +58,11 @@ one_in_order : (form : Form) (place next : ℕ) (es : List Entry) (e : Entry) �
 one_in_order form place next es e p new behind within le = record {
   inside = each_more (IsInside form) es e p.inside new;
   order = λ k lt. elim (cases_lt (k + 1) (length es)) [
-    | inl before ↦ same_behind _ _ _ _ (kept es e k (omega (arith, before))) (kept es e (k + 1) before) (p.order k before)
+    | inl before ↦ same_behind _ _ _ _ (still es e k (omega (arith, before))) (still es e (k + 1) before) (p.order k before)
     | inr past ↦
         let here : k < length es = omega (arith, length-append es (e ∷ []), lt) in
         let there : k + 1 ≡ length es = omega (arith, here, past) in
-        same_behind _ _ _ _ (kept es e k here) (last es e (k + 1) there) (omega (arith, p.before k here, behind))
+        same_behind _ _ _ _ (still es e k here) (last es e (k + 1) there) (omega (arith, p.before k here, behind))
   ];
   before = each_more (λ x. x.offset + x.size ≤ next) es e (λ k lt. omega (arith, p.before k lt, le)) within;
 }

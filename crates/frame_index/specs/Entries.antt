@@ -3,7 +3,7 @@ use Rattle.std.specs.Prelude.{ℕ, ◌*◌, ◌+◌, ◌/◌, List, length, map}
 use Rattle.std.specs.List.{range_with_len}
 use Rattle.dsdiff_spec.specs.Bytes.{number_at}
 use Rattle.dsdiff_spec.specs.Walk.{Entry}
-use Rattle.frame_index.specs.declared.index.Entry as kept
+use Rattle.frame_index.specs.declared.index.Entry as index
 
 abbrev pub entry_at : List ℕ → ℕ → Entry
 entry_at bytes k = record { offset = number_at bytes (12 * k) 8; size = number_at bytes (12 * k + 8) 4 }
@@ -16,5 +16,5 @@ pub record Gathered : Type 0 where
   pub entries : List Entry
   pub room : ℕ
 
-abbrev pub entry_seen : kept.Entry → Entry
+abbrev pub entry_seen : index.Entry → Entry
 entry_seen e = record { offset = e.offset; size = e.size }

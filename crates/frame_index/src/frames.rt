@@ -26,7 +26,7 @@ const MOST_FRAMES: u32 = 1_000_000;
 /// The first fault is answered. At a chunk, in this order: `TooManyChunks`, where 4,000,000 others stand before it; `Overrun`,
 /// where its head or its body passes the end of `DST ` (the last pad byte may be missing); `FrameTooLong`, where it is a
 /// frame of more than `2 * (f + 1)` bytes, f being the bytes of a frame's sound; `TooManyFrames`, where 1,000,000 frames
-/// stand before this one. Behind the last chunk: `CountDiffers`, where `FRTE` tells another number of frames.
+/// stand before this one. Behind the last chunk: `CountDiffers`, where `FRTE` says another number of frames.
 pub fn walk<S: Source>(alloc: Global, source: &mut S, form: &CodedForm) -> Result<Index, OpenFault>
     requires size { (n : ℕ) × (S.known source.old ≡ Some n) × (form.now.end ≤ n) }
     ensures bytes { S.bytes source.new ≡ S.bytes source.old }
@@ -131,7 +131,7 @@ fn pass_chunk(
     requires room { entries.old.room ≡ form.now.frames }
     requires within { head.place + 12 + head.size < 2 ^ 64 }
     ensures count { IfOk result (λ n. (found : List walks.Entry) → length found ≡ frames → length (found_with (head_seen head) found) ≡ n) }
-    ensures kept { OnOk result ((found : List walks.Entry) → length found ≡ frames → entries.old.entries ≡ take form.now.frames found → entries.new.entries ≡ take form.now.frames (found_with (head_seen head) found)) }
+    ensures listed { OnOk result ((found : List walks.Entry) → length found ≡ frames → entries.old.entries ≡ take form.now.frames found → entries.new.entries ≡ take form.now.frames (found_with (head_seen head) found)) }
     ensures room { entries.new.room ≡ entries.old.room }
     ensures faultless { OnOk result (((head_seen head).id is "DSTF") ≡ true → walks.frame_fault (coded_seen form.now) (frames, head_seen head) ≡ None) }
     ensures frame { (fault : FileFault) → result ≡ Err fault → ((head_seen head).id is "DSTF") ≡ true }

@@ -17,7 +17,7 @@ pub struct Entry {
     pub size: u32,
 }
 
-/// The frames of a form in order, as contracts see it a list of entries. Each entry is kept in the twelve bytes that it
+/// The frames of a form in order, as contracts see it a list of entries. Each entry stands in the twelve bytes that it
 /// has in a chunk `DSTI`.
 #[derive(Drop)]
 pub struct Index {

@@ -10,7 +10,7 @@ ghost use Rattle.frame_index.specs.Lookup.{index_fault, IsRead, DifferFirstAt};
 /// size is a fault, and so is the first entry that differs.
 pub fn index_beside_walk()
     ensures missing { (file : List ℕ) (form : Form) → index_fault form form.frames ≡ Some IndexMissing → check_index_fault file form ≡ None }
-    ensures size { (file : List ℕ) (form : Form) (told : ℕ) → index_fault form form.frames ≡ Some (IndexBad told) → check_index_fault file form ≡ Some (IndexBad told) }
+    ensures size { (file : List ℕ) (form : Form) (size : ℕ) → index_fault form form.frames ≡ Some (IndexBad size) → check_index_fault file form ≡ Some (IndexBad size) }
     ensures same { (file : List ℕ) (form : Form) (found : List Entry) → index_fault form form.frames ≡ None → IsRead file form found → walk file form ≡ Ok found → check_index_fault file form ≡ None }
     ensures differ { (file : List ℕ) (form : Form) (index found : List Entry) (k : ℕ) → index_fault form form.frames ≡ None → IsRead file form index → walk file form ≡ Ok found → DifferFirstAt k index found → check_index_fault file form ≡ Some (IndexBad k) }
 {}

@@ -2,9 +2,9 @@
 //!
 //! [`walk`] goes from chunk to chunk through `DST ` (DSDIFF 1.5). Each `DSTF` is the next frame, and all other chunks, as
 //! the checksums `DSTC`, are passed over. Twelve bytes of each chunk are read and no body. The [`Index`] that it gives has
-//! an [`Entry`] for each frame, kept in twelve bytes.
+//! an [`Entry`] for each frame, in twelve bytes.
 //!
-//! A file may have such an index of its own, the chunk `DSTI`. [`read_index`] reads it, [`compare`] tells where it differs
+//! A file may have such an index of its own, the chunk `DSTI`. [`read_index`] reads it, [`compare`] finds where it differs
 //! from the walk, and [`locate_by_index`] finds one frame by its entry alone, from 24 bytes. [`laws`] ties what they answer
 //! to the rules of checking a file.
 //!

@@ -19,9 +19,9 @@ use dst_streams::{Failed, Source};
 use std::alloc::Global;
 
 /// Reads the index of a coded form, its first chunk `DSTI` (DSDIFF 1.5), whole. Whether its entries are those of frames
-/// isn't asked; [`compare`](crate::compare) tells where it differs from a walk.
+/// isn't asked; [`compare`](crate::compare) finds where it differs from a walk.
 ///
-/// `IndexMissing`, where the form has no `DSTI`; `IndexBad`, of the number of frames that `FRTE` tells, where the size of
+/// `IndexMissing`, where the form has no `DSTI`; `IndexBad`, of the number of frames that `FRTE` says, where the size of
 /// `DSTI` isn't twelve bytes for each of them.
 pub fn read_index<S: Source>(
     alloc: Global,
@@ -206,7 +206,7 @@ fn lies_inside(form: &CodedForm, entry: Entry) -> bool
         && u64::from(entry.size) <= end - entry.offset
 }
 
-// Whether a chunk is a frame of the size that an entry tells.
+// Whether a chunk is a frame of the size that an entry says.
 fn is_head_of(head: ChunkHead, entry: Entry) -> bool
     ensures { result ≡ ((head_seen head).id is "DSTF" && (head_seen head).size == entry.size) }
 {

@@ -1,4 +1,4 @@
--- The rows of codes that are kept for a sound.
+-- The rows of codes of a sound.
 use Rattle.std.specs.Prelude.{◌≡◌, ℕ, ◌*◌, ◌<◌, ◌≤◌, List, length, get_or, All}
 use Rattle.dst_spec.specs.Sample.{Shape, IsShape, samples, sound_bytes}
 use Rattle.frame_predictions.specs.Codes.{codes}

@@ -5,7 +5,7 @@ ghost use Rattle.dst_spec.specs.Header.{Params};
 ghost use Rattle.dst_spec.specs.Guess.{filter_of, probs_of, probability, as_guessed};
 ghost use Rattle.frame_predictions.specs.Codes.{code_at, codes};
 
-/// What the code of a sample tells: whether it is as guessed by parameters that give its channel the filter, and its
+/// What the code of a sample says: whether it is as guessed by parameters that give its channel the filter, and its
 /// probability by theirs.
 pub fn code_tells()
     ensures guess { (f : Shape) (P : Params) (sound : List ℕ) (c t : ℕ)

@@ -4,7 +4,7 @@
 //! they come to. Each filter is followed through the sound once.
 //!
 //! ```text
-//! let mut predictions = Predictions::new(alloc, channels)?;  // kept from frame to frame
+//! let mut predictions = Predictions::new(alloc, channels)?;  // used again from frame to frame
 //! predictions.begin(&sound);
 //! let row = predictions.row(0, &filter);                     // of the first channel
 //! for code in predictions.codes(row) {

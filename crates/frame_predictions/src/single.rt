@@ -1,4 +1,4 @@
-// The codes of a channel's samples, kept nowhere else.
+// The codes of a channel's samples, held nowhere else.
 ghost use Rattle.std.specs.Prelude.{◌≡◌, ◌<◌, ◌≤◌, length};
 ghost use Rattle.dst_spec.specs.Sample.{samples, sound_bytes};
 ghost use Rattle.frame_predictions.specs.Codes.{codes as codes_of};

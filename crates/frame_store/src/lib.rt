@@ -2,7 +2,7 @@
 //! is stored is the shortest of their spellings and the plain form, and so never longer than the plain form.
 //!
 //! ```text
-//! let mut scratch = StoreScratch::new(alloc, channels)?;   // kept from frame to frame
+//! let mut scratch = StoreScratch::new(alloc, channels)?;   // used again from frame to frame
 //! store_frame(&picker, &sound, channels, &mut scratch);
 //! scratch.stored();                                        // the stored frame
 //!

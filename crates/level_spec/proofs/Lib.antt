@@ -13,6 +13,6 @@ pub mod Maps
 pub mod RowSteps
 pub mod Refined
 pub mod RefinedPicks
-pub mod KeptRows
+pub mod RowSizes
 pub mod Lawful
 pub mod Longer

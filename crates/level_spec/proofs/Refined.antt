@@ -63,21 +63,22 @@ abbrev pub IfThere : {A : Type 0} → (A → Type 0) → Option A → Type 0
 IfThere P None = Unit
 IfThere P (Some a) = P a
 
-moved-by_answer : (kept : List State) (coefs : List ℤ) (answer : Option (List ℤ)) → IfThere (IsTable filter_kind)
-    (elim answer as (λ _. Option (List ℤ)) [ None ↦ None | Some d ↦ Some (fitted kept (target coefs d)) ])
-moved-by_answer kept coefs None = tt
-moved-by_answer kept coefs (Some d) =
+moved-by_answer : (states : List State) (coefs : List ℤ) (answer : Option (List ℤ)) → IfThere (IsTable filter_kind)
+    (elim answer as (λ _. Option (List ℤ)) [ None ↦ None | Some d ↦ Some (fitted states (target coefs d)) ])
+moved-by_answer states coefs None = tt
+moved-by_answer states coefs (Some d) =
     let long : length (target coefs d) ≡ 128 = length-map-range_with_len (λ j. get_or coefs j (pos 0) *ℤ pos (2 ^ 24) +ℤ get_or d j (pos 0)) 0 128 in
-    IsTable-fitted kept (target coefs d) (omega arith) (omega arith)
+    IsTable-fitted states (target coefs d) (omega arith) (omega arith)
 
-pub IsTable-moved_by : (r0 : ℤ) (kept : List State) (sp pp : ℤ) (g : ℕ → ℤ) (coefs : List ℤ) → IfThere (IsTable filter_kind) (moved_by r0 kept sp pp g coefs)
+pub IsTable-moved_by : (r0 : ℤ) (states : List State) (sp pp : ℤ) (g : ℕ → ℤ) (coefs : List ℤ) →
+    IfThere (IsTable filter_kind) (moved_by r0 states sp pp g coefs)
 unfolding moved_by
-IsTable-moved_by r0 kept sp pp g coefs =
-    let answer = solved kept (map (λ j. pull r0 sp pp (g j) (get_or coefs j (pos 0))) (range_with_len 0 128)) in
+IsTable-moved_by r0 states sp pp g coefs =
+    let answer = solved states (map (λ j. pull r0 sp pp (g j) (get_or coefs j (pos 0))) (range_with_len 0 128)) in
     elim (int_le (sp *ℤ pos (2 ^ 13)) pp) as (λ b. IfThere (IsTable filter_kind) (cond b None
-    (elim answer as (λ _. Option (List ℤ)) [ None ↦ None | Some d ↦ Some (fitted kept (target coefs d)) ]))) [
+    (elim answer as (λ _. Option (List ℤ)) [ None ↦ None | Some d ↦ Some (fitted states (target coefs d)) ]))) [
       | true ↦ tt
-      | false ↦ moved-by_answer kept coefs answer
+      | false ↦ moved-by_answer states coefs answer
     ]
 
 pub IsTable-next_filter : (f : Shape) (sound channels : List ℕ) (coefs : List ℤ) → IfThere (IsTable filter_kind) (next_filter f sound channels coefs)

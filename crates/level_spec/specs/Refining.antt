@@ -53,11 +53,11 @@ target coefs d = map (λ j. get_or coefs j (pos 0) *ℤ pos (2 ^ 24) +ℤ get_or
 -- From a filter to the next one: solving takes as many of the 128 as there are rows. Refining ends where the guesses agree too
 -- little, or solving has no answer.
 unfoldable pub moved_by : ℤ → List State → ℤ → ℤ → (ℕ → ℤ) → List ℤ → Option (List ℤ)
-moved_by r0 kept sp pp g coefs =
+moved_by r0 states sp pp g coefs =
     if int_le (sp *ℤ pos (2 ^ 13)) pp then None
-    else (elim (solved kept (map (λ j. pull r0 sp pp (g j) (get_or coefs j (pos 0))) (range_with_len 0 128))) [
+    else (elim (solved states (map (λ j. pull r0 sp pp (g j) (get_or coefs j (pos 0))) (range_with_len 0 128))) [
       | None ↦ None
-      | Some d ↦ Some (fitted kept (target coefs d))
+      | Some d ↦ Some (fitted states (target coefs d))
     ])
 
 -- the next filter of channels together

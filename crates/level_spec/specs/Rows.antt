@@ -1,4 +1,4 @@
--- The recursion by which filters are refined: it begins with a little more than R(0), a ridge, and each of its states is kept.
+-- The recursion by which filters are refined: it begins with a little more than R(0), a ridge, and each of its states is a row.
 use Rattle.std.specs.Prelude.{ℕ, zero, suc, ◌+◌, ◌-◌, ◌^◌, min, ℤ, pos, ◌*ℤ◌, int_lt, nat_abs, Bool, ◌||◌, nat_lt, nat_le, if◌then◌else◌}
 use Rattle.std.specs.Prelude.{List, [], ◌++◌, length, map, replicate, get_or}
 use Rattle.std.specs.List.{range_with_len, list_any}

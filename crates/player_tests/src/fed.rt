@@ -59,7 +59,7 @@ fn feed_two(decoder: &mut PushDecoder, cut: usize, tape: &mut Tape) -> Result<bo
     }
 }
 
-// What is told of the first event of the file: the bytes that were taken, the channels, their rate and the frames.
+// What is seen of the first event of the file: the bytes that were taken, the channels, their rate and the frames.
 fn head_of_file(decoder: &mut PushDecoder) -> (usize, u32, u32, u32) {
     let (count, step) = match decoder.take(FILE) {
         Ok(taken) => taken,
@@ -130,7 +130,7 @@ const CUT_OFF: [(usize, FileFault); 3] = [
 ];
 
 #[test]
-fn a_stream_that_is_cut_off_is_told_by_its_chunk(rt: HostRuntime) {
+fn a_stream_that_is_cut_off_is_refused_by_its_chunk(rt: HostRuntime) {
     for &(length, fault) in &CUT_OFF {
         let wanted = (Ok(false), 0, Err(fault));
         assert_eq!(rt; cut_off(rt.alloc(), length), Ok(wanted));
@@ -143,9 +143,9 @@ type Head = ((usize, u32, u32, u32), [bool; 2]);
 fn head(alloc: Global) -> Result<Head, AllocError> {
     let mut decoder = PushDecoder::new(alloc)?;
     let file = FILE.as_slice();
-    let told = head_of_file(&mut decoder);
+    let seen = head_of_file(&mut decoder);
     let is_version = decoder.version() == [1, 5, 0, 0].as_slice();
-    Ok((told, [is_version, decoder.prop() == &file[44..110]]))
+    Ok((seen, [is_version, decoder.prop() == &file[44..110]]))
 }
 
 #[test]

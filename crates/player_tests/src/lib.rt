@@ -5,7 +5,7 @@
 #[cfg(test)]
 mod fed;
 #[cfg(test)]
-mod kept;
+mod held;
 #[cfg(test)]
 mod pipes;
 #[cfg(test)]

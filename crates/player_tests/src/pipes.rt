@@ -3,7 +3,7 @@ use dst_streams::{MemoryFlow, MemorySink};
 use pipe_tool::dst_pipe;
 use std::alloc::{AllocError, Global};
 
-// One frame FC 00 00 05 FF F8 of one channel, in 158 bytes: 4,704 bytes of sound behind 126 bytes of head.
+// One frame FC 00 00 05 FF F8 of one channel, in 158 bytes: 4,704 bytes of sound behind 126 bytes.
 const FILE: &[u8; 158] = b"FRM8\0\0\0\0\0\0\0\x92DSD \
 FVER\0\0\0\0\0\0\0\x04\x01\x05\0\0\
 PROP\0\0\0\0\0\0\0\x42SND FS  \0\0\0\0\0\0\0\x04\0\x2b\x11\0\
@@ -74,7 +74,7 @@ fn made(alloc: Global, stream: Stream) -> Result<Vec<u8>, AllocError> {
 }
 
 // The status, how many bytes are written, and whether the report is this line.
-type Told = (u8, usize, bool);
+type Seen = (u8, usize, bool);
 
 fn piped(
     alloc: Global,
@@ -82,7 +82,7 @@ fn piped(
     stream: &[u8],
     pieces: &[usize],
     line: &str,
-) -> Result<Told, AllocError> {
+) -> Result<Seen, AllocError> {
     let words = split(alloc, text)?;
     let mut flow = MemoryFlow::new(stream, pieces, &[]);
     let mut sink = MemorySink::new(alloc, 10_000, &[])?;
@@ -93,9 +93,9 @@ fn piped(
 }
 
 // The same in pieces of several sizes.
-type AllTold = [Result<Told, AllocError>; 4];
+type AllSeen = [Result<Seen, AllocError>; 4];
 
-fn all_piped(alloc: Global, text: &str, stream: Stream, line: &str) -> Result<AllTold, AllocError> {
+fn all_piped(alloc: Global, text: &str, stream: Stream, line: &str) -> Result<AllSeen, AllocError> {
     let stream = made(alloc, stream)?;
     Ok([
         piped(alloc, text, &stream, &[], line),
@@ -140,8 +140,8 @@ const ROWS: [(&str, Stream, u8, usize, &str); 8] = [
 #[test]
 fn a_stream_is_decoded_in_pieces_of_any_size(rt: HostRuntime) {
     for &(text, stream, status, length, line) in &ROWS {
-        let told = all_piped(rt.alloc(), text, stream, line);
+        let seen = all_piped(rt.alloc(), text, stream, line);
         let wanted = [Ok((status, length, true)); 4];
-        assert_eq!(rt; told, Ok(wanted), "{text}: {line}");
+        assert_eq!(rt; seen, Ok(wanted), "{text}: {line}");
     }
 }

@@ -13,7 +13,7 @@ const THREE_FRAMES: [u8; 182] =
     *b"FRM8\0\0\0\0\0\0\0\xaaDSD FVER\0\0\0\0\0\0\0\x04\x01\x05\0\0PROP\0\0\0\0\0\0\0\x36SND FS  \0\0\0\0\0\0\0\x04\0\x2b\x11\0CHNL\0\0\0\0\0\0\0\x06\0\x01C   CMPR\0\0\0\0\0\0\0\x04DST DST \0\0\0\0\0\0\0\x48FRTE\0\0\0\0\0\0\0\x06\0\0\0\x03\0\x4bDSTF\0\0\0\0\0\0\0\x06\xfc\0\0\x05\xff\xf8DSTF\0\0\0\0\0\0\0\x06\xfc\0\x01\x05\xff\xf8DSTF\0\0\0\0\0\0\0\x06\xfc\x01\xff\x05\xff\xf8";
 
 // What writing parts of a file answers, and whether these bytes are written.
-type Told = (Result<RangeWritten, DecodeFault>, bool);
+type Seen = (Result<RangeWritten, DecodeFault>, bool);
 
 // The sink holds so many bytes, and of its calls these fail.
 fn parts(
@@ -23,7 +23,7 @@ fn parts(
     fails: &[u64],
     pairs: &[(u32, u32)],
     wanted: &[u8],
-) -> Result<Told, AllocError>
+) -> Result<Seen, AllocError>
     requires { length pairs.now ≤ 16 }
 {
     let mut source = HonestSource::new(file);
@@ -36,27 +36,27 @@ fn parts(
 fn parts_are_written_pair_by_pair(rt: HostRuntime) {
     let pairs = [(9_407, 2), (4_703, 2), (14_110, 2), (0, 1)];
     let wanted = [0, 0xaa, 0xff, 0, 0xaa, 0xaa, 0xff];
-    let told = parts(rt.alloc(), &THREE_FRAMES, 7, &[], &pairs, &wanted);
-    assert_eq!(rt; told, Ok((Ok(RangeWritten { bytes: 7 }), true)));
+    let seen = parts(rt.alloc(), &THREE_FRAMES, 7, &[], &pairs, &wanted);
+    assert_eq!(rt; seen, Ok((Ok(RangeWritten { bytes: 7 }), true)));
 }
 
 #[test]
 fn a_pair_past_the_end_is_refused(rt: HostRuntime) {
     let pairs = [(0, 1), (14_111, 2)];
-    let told = parts(rt.alloc(), &THREE_FRAMES, 9, &[], &pairs, &[]);
+    let seen = parts(rt.alloc(), &THREE_FRAMES, 9, &[], &pairs, &[]);
     let fault = FileFault::RangePast {
         end: 14_113,
         groups: 14_112,
     };
     let refused = DecodeFault::Source(OpenFault::File(fault));
-    assert_eq!(rt; told, Ok((Err(refused), true)));
+    assert_eq!(rt; seen, Ok((Err(refused), true)));
 }
 
 #[test]
 fn no_call_is_made_for_no_bytes(rt: HostRuntime) {
     let pairs = [(4_704, 0), (14_112, 0)];
-    let told = parts(rt.alloc(), &THREE_FRAMES, 0, &[0], &pairs, &[]);
-    assert_eq!(rt; told, Ok((Ok(RangeWritten { bytes: 0 }), true)));
+    let seen = parts(rt.alloc(), &THREE_FRAMES, 0, &[0], &pairs, &[]);
+    assert_eq!(rt; seen, Ok((Ok(RangeWritten { bytes: 0 }), true)));
 }
 
 #[test]
@@ -64,13 +64,13 @@ fn a_refused_frame_stops_in_front_of_its_part(rt: HostRuntime) {
     let mut file = THREE_FRAMES;
     file[158] = 0xe0;
     let pairs = [(9_408, 1), (4_703, 2)];
-    let told = parts(rt.alloc(), &file, 9, &[], &pairs, &[0xaa, 0xff]);
+    let seen = parts(rt.alloc(), &file, 9, &[], &pairs, &[0xaa, 0xff]);
     let fault = FrameFault {
         reason: Reason::MultiSegment,
         bit: 3,
     };
     let refused = DecodeFault::Frame { frame: 1, fault };
-    assert_eq!(rt; told, Ok((Err(refused), true)));
+    assert_eq!(rt; seen, Ok((Err(refused), true)));
 }
 
 // What writing a part of four bytes into a sink of one byte answers.

@@ -7,7 +7,7 @@ use Rattle.dsdiff_spec.specs.Faults.{◌otherwise◌}
 use Rattle.dsdiff_spec.specs.Chunks.{Head, head_at, body_place, body_end, next_place, body_of}
 use Rattle.dsdiff_spec.specs.Streams.{Stream, Came, nothing_but, stopped, missing, chunk_head_fault, in_form, up_to}
 use Rattle.dsdiff_spec.specs.Streams.{later_head_fault, prop_head_fault, plain_head_fault, sound_head_fault, version_head_fault}
-use Rattle.dsdiff_spec.specs.Streams.{kept, ending_at_head, came_with, in_sound, in_form_chunk, whole_end, version_body_fault, prop_body_fault}
+use Rattle.dsdiff_spec.specs.Streams.{unless, ending_at_head, came_with, in_sound, in_form_chunk, whole_end, version_body_fault, prop_body_fault}
 use Rattle.dsdiff_spec.specs.Rules.{local_fault}
 use Rattle.dsdiff_spec.specs.declared.faults.FileFault.{FileFault}
 use Rattle.dsdiff_spec.specs.declared.faults.FileFault.TheVariants.{Overrun, TooManyChunks}
@@ -152,9 +152,10 @@ pub prop_is_refused : (w : List ℕ) (end : ℕ) (came : Came) (version : List �
     in_form_chunk w end came h later ≡ nothing_but (stopped fault)
 prop_is_refused w end came version h fault later v p there is_fault =
     reaches w h.place (body_end h) _ there
-    ∙ ap {A = Option (List ℕ)} (λ o. kept (elim o [ None ↦ version_body_fault w h | Some x ↦ prop_body_fault w h ]) (up_to w h.place (whole_end end h) later)) v
-    ∙ ap {A = Bool} (λ b. kept (if b then local_fault (body_place h) (body_of w h) else None) (up_to w h.place (whole_end end h) later)) p
-    ∙ ap (λ f. kept f (up_to w h.place (whole_end end h) later)) is_fault
+    ∙ ap {A = Option (List ℕ)} (λ o. unless (elim o [ None ↦ version_body_fault w h | Some x ↦ prop_body_fault w h ])
+    (up_to w h.place (whole_end end h) later)) v
+    ∙ ap {A = Bool} (λ b. unless (if b then local_fault (body_place h) (body_of w h) else None) (up_to w h.place (whole_end end h) later)) p
+    ∙ ap (λ f. unless f (up_to w h.place (whole_end end h) later)) is_fault
 
 pub prop_is_taken : (w : List ℕ) (end most : ℕ) (version : List ℕ) (prop : Option (List ℕ)) (h : Head) (body : List ℕ) →
     (h.id is "PROP") ≡ true → body_end h ≤ length w → body_of w h ≡ body → local_fault (body_place h) body ≡ None →
@@ -166,8 +167,8 @@ prop_is_taken w end most version prop h body p there is_body no_fault =
     let taken : Came = record { version = Some version; prop = Some body } in
     let later = up_to w h.place (whole_end end h) (in_form w end most (came_with w came h) (next_place h)) in
     reaches w h.place (body_end h) _ there
-    ∙ ap {A = Bool} (λ b. kept (if b then local_fault (body_place h) (body_of w h) else None) later) p
-    ∙ ap (λ f. kept f later) (ap (local_fault (body_place h)) is_body ∙ no_fault)
+    ∙ ap {A = Bool} (λ b. unless (if b then local_fault (body_place h) (body_of w h) else None) later) p
+    ∙ ap (λ f. unless f later) (ap (local_fault (body_place h)) is_body ∙ no_fault)
     ∙ ap {A = Bool} (λ b. up_to w h.place (whole_end end h)
     (in_form w end most (record { version = Some version; prop = if b then Some (body_of w h) else prop }) (next_place h))) p
     ∙ ap (λ x. up_to w h.place (whole_end end h) (in_form w end most (record { version = Some version; prop = Some x }) (next_place h))) is_body

@@ -67,9 +67,9 @@ part_in stage n part frame prop version taken more answered has le whole = recor
       ∙ sym (has.part looked);
 }
 
-frame_kept : (b : Bool) (P : Type 0) → (b ≡ true → P) → (b ≡ false → P) → P
-frame_kept true P then_is else_is = then_is refl
-frame_kept false P then_is else_is = else_is refl
+frame_stays : (b : Bool) (P : Type 0) → (b ≡ true → P) → (b ≡ false → P) → P
+frame_stays true P then_is else_is = then_is refl
+frame_stays false P then_is else_is = else_is refl
 
 pub moved : (stage next : Stage) (n : ℕ) (part part' frame frame' prop prop' : Gathered) (version version' taken : List ℕ) (answered : Answered) →
     HasRead (reading stage n part frame version prop) taken answered → part_start stage ≤ n → n ≡ part_end stage →
@@ -82,15 +82,15 @@ pub moved : (stage next : Stage) (n : ℕ) (part part' frame frame' prop prop' :
     (is_frame stage ≡ true → (is_looked_at next ≡ false) × (part_start next ≡ part_start stage)) →
     part'.bytes ≡ [] → (is_frame stage ≡ true → frame'.bytes ≡ frame.bytes) → (is_frame stage ≡ false → frame'.bytes ≡ []) →
     HasRead (reading next n part' frame' version' prop') taken answered
-moved stage next n part part' frame frame' prop prop' version version' taken answered has le whole v p goes tells at fresh same none kept cleared =
+moved stage next n part part' frame frame' prop prop' version version' taken answered has le whole v p goes tells at fresh same none stays cleared =
     let dropped : drop (part_end stage) taken ≡ [] = drop_all (part_end stage) taken (omega (arith, whole, has.count)) in
     record {
       count = has.count;
-      part = λ looked. frame_kept (is_frame stage) _
+      part = λ looked. frame_stays (is_frame stage) _
           (λ held. (let unlooked : is_looked_at next ≡ false = (same held).0 in absurd cc))
           (λ lost. none ∙ sym dropped ∙ ap (λ i. drop i taken) (sym ((fresh lost).part looked)));
-      frame = λ framed. frame_kept (is_frame stage) _
-          (λ held. kept held ∙ has.frame held ∙ ap (λ i. drop i taken) (sym (same held).1))
+      frame = λ framed. frame_stays (is_frame stage) _
+          (λ held. stays held ∙ has.frame held ∙ ap (λ i. drop i taken) (sym (same held).1))
           (λ lost. cleared lost ∙ sym dropped ∙ ap (λ i. drop i taken) (sym ((fresh lost).frame framed)));
       tells = rw p (tells prop.bytes has.tells);
       at_stage = at answered has.at_stage;

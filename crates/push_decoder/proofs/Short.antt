@@ -6,7 +6,7 @@ use Rattle.std.proofs.lemmas.List.{length-take, length-drop, take_all}
 use Rattle.std.proofs.Math.Seq.{take-add}
 use Rattle.dsdiff_spec.specs.Chunks.{head_at}
 use Rattle.dsdiff_spec.specs.Parts.{form_end}
-use Rattle.dsdiff_spec.specs.Streams.{Stream, cut_off, nothing_but, kept, form_head_fault, nothing_came, stream, in_form, frames_from}
+use Rattle.dsdiff_spec.specs.Streams.{Stream, cut_off, nothing_but, unless, form_head_fault, nothing_came, stream, in_form, frames_from}
 use Rattle.dsdiff_spec.specs.Streams.{chunk_head_fault, frame_head_fault}
 use Rattle.dsdiff_spec.specs.declared.faults.FileFault.TheVariants.{NotForm, Overrun}
 use Rattle.dsdiff_spec.proofs.StreamSteps.{falls_short, head_is_cut, form_ends_at_head, sound_ends_at_head}
@@ -22,7 +22,7 @@ use Rattle.push_decoder.proofs.Due.{due_is_ending}
 at_length : Bool → List ℕ → Stream
 at_length b w = elim b [
   | true ↦ nothing_but (cut_off NotForm)
-  | false ↦ kept (form_head_fault w) (in_form w (form_end w) 1024 nothing_came 16)
+  | false ↦ unless (form_head_fault w) (in_form w (form_end w) 1024 nothing_came 16)
 ]
 
 start_short : (w : List ℕ) → length w < 16 → stream w ≡ nothing_but (cut_off NotForm)
@@ -44,7 +44,8 @@ still_short (Opened sound place) version prop w lawful lacking lt = absurd cc
 still_short (SoundHead sound place) version prop w lawful lacking lt =
     let more : 4000000 - sound.chunks ≡ suc (3999999 - sound.chunks) = omega (arith, lawful.1) in
     ap (λ n. frames_from w sound.channels sound.frame_count sound.end n sound.found place) more
-    ∙ sound_ends_at_head w sound.channels sound.frame_count sound.end (3999999 - sound.chunks) sound.found place (cut_off (Overrun place)) (omega (arith, lawful.2))
+    ∙ sound_ends_at_head w sound.channels sound.frame_count sound.end (3999999 - sound.chunks) sound.found place (cut_off (Overrun place))
+    (omega (arith, lawful.2))
     (head_is_cut w sound.end place (frame_head_fault sound.channels sound.frame_count sound.end sound.found (head_at w place)) lawful.2 lt)
 still_short (FrameBody sound head) version prop w lawful lacking lt = falls_short w head.place (head.place + 12 + head.size) _ lt
 still_short (SoundRest sound place end) version prop w lawful lacking lt = falls_short w place end _ lt

@@ -8,7 +8,7 @@ use Rattle.dsdiff_spec.specs.Bytes.{bytes_at, number_at, ◌is◌, ◌above◌}
 use Rattle.dsdiff_spec.specs.Faults.{◌when◌, ◌otherwise◌}
 use Rattle.dsdiff_spec.specs.Chunks.{Head, head_at, body_place, body_end, next_place, body_of}
 use Rattle.dsdiff_spec.specs.Rules.{is_frte}
-use Rattle.dsdiff_spec.specs.Streams.{Stream, Came, Front, nothing_but, stopped, with_front, with_frame, kept, ending_at_head, frame_head_fault, up_to}
+use Rattle.dsdiff_spec.specs.Streams.{Stream, Came, Front, nothing_but, stopped, with_front, with_frame, unless, ending_at_head, frame_head_fault, up_to}
 use Rattle.dsdiff_spec.specs.Streams.{found_with, counted, frames_from, whole_end, shape_in, frte_fault_at, in_sound}
 use Rattle.dsdiff_spec.specs.declared.faults.FileFault.{FileFault}
 use Rattle.dsdiff_spec.specs.declared.faults.FileFault.TheVariants.{Overrun, TooManyChunks, FrameRate, TooManyFrames}
@@ -144,7 +144,7 @@ pub frte_is_refused : (w frte : List ℕ) (came : Came) (h : Head) (fault : File
 unfolding opened_with front_with
 frte_is_refused w frte came h fault le at there is_fault =
     reaches w (body_place h) (body_place h + 18) _ there
-    ∙ ap (λ x. kept x (opened_with w (body_end h) (body_place h + 18) came.version came.prop (number_at w (body_place h + 12) 4)))
+    ∙ ap (λ x. unless x (opened_with w (body_end h) (body_place h + 18) came.version came.prop (number_at w (body_place h + 12) 4)))
     (same_rules w frte h le (sym at) ∙ is_fault)
 
 pub frte_is_taken : (w frte : List ℕ) (came : Came) (version prop : List ℕ) (h : Head) (count : ℕ) (f : Shape) → 18 ≤ h.size →
@@ -156,7 +156,7 @@ pub frte_is_taken : (w frte : List ℕ) (came : Came) (version prop : List ℕ) 
 unfolding opened_with front_with
 frte_is_taken w frte came version prop h count f le at there no_fault is_told v p is_shape =
     reaches w (body_place h) (body_place h + 18) _ there
-    ∙ ap (λ x. kept x (opened_with w (body_end h) (body_place h + 18) came.version came.prop (number_at w (body_place h + 12) 4)))
+    ∙ ap (λ x. unless x (opened_with w (body_end h) (body_place h + 18) came.version came.prop (number_at w (body_place h + 12) 4)))
     (same_rules w frte h le (sym at) ∙ no_fault)
     ∙ ap (opened_with w (body_end h) (body_place h + 18) came.version came.prop) (sym (is_told ∙ told_in_part w frte (body_place h) (sym at)))
     ∙ ap (λ x. opened_with w (body_end h) (body_place h + 18) x came.prop count) v

@@ -7,7 +7,7 @@
 //! of the stream isn't known beforehand, and nothing is asked of the bytes behind `DST `.
 //!
 //! A player feeds it in a loop of a few lines (`src/uses.rt` has this loop, proved), and decodes each frame by `dst_frames` with the
-//! channels that the head tells:
+//! channels that the head says:
 //!
 //! ```
 //! let mut rest = piece;
@@ -22,7 +22,7 @@
 //! }
 //! ```
 //!
-//! Behind the last piece [`PushDecoder::close`] tells whether the stream ended behind its last frame. A contract says what a decoder stands for:
+//! Behind the last piece [`PushDecoder::close`] says whether the stream ended behind its last frame. A contract says what a decoder stands for:
 //! the bytes that were taken and the events that were answered (`specs/Decoder.antt`); what is due of them is a function of these bytes alone
 //! (`specs/Events.antt`, which stands on the definition of a stream in `dsdiff_spec`). So the frames that were lent are those of the stream, in order,
 //! for every list of pieces: that is a law of [`laws`].

@@ -56,7 +56,7 @@ impl Model for Reader {
     ghost invariant = { λ r. IsReader (record { stage = r.stage; taken = r.taken; part = r.part; frame = r.frame; version = r.version; prop = r.prop }) };
 }
 
-// Gathers bytes of a stage's part where they are kept.
+// Gathers bytes of a stage's part where they are gathered.
 fn keep(stage: &Stage, bytes: &[u8], part: &mut Gathered, frame: &mut Gathered)
     requires part { is_looked_at stage.now ≡ true → length part.old.bytes + length bytes.now ≤ part.old.room }
     requires frame { is_frame stage.now ≡ true → length frame.old.bytes + length bytes.now ≤ frame.old.room }
@@ -290,7 +290,7 @@ impl Reader {
         self.taken
     }
 
-    /// The same, with a fault told apart.
+    /// The same, with a fault set apart.
     pub fn take(&mut self, piece: &[u8]) -> Result<(usize, Answer), FileFault>
         ensures inside { IfOk result (λ r. Lies r.1 r.0 (length piece.now)) }
         ensures within { IfOk result (λ r. r.0 ≤ length piece.now) }

@@ -10,7 +10,7 @@ pub struct FormSoFar {
     pub end: u64,
     /// How many chunks came; the first is `FVER`.
     pub chunks: u32,
-    /// What `PROP` tells, where it came.
+    /// What `PROP` says, where it came.
     pub properties: Option<PropFields>,
 }
 

@@ -22,12 +22,12 @@ still = record { u = pos 0; w = pos 0 }
 -- the samples of some channels and of one channel more
 abbrev pub with_channel : ℕ → ℕ → Wave → Made → Made
 with_channel t c wave past =
-    let word = pcg32 past.generator in
-    let sample = sample_of wave (dither word.0) in
+    let random = pcg32 past.generator in
+    let sample = sample_of wave (dither random.0) in
     record {
       samples = past.samples ++ sample ∷ [];
       waves = past.waves ++ next_wave wave (height t c) (level_of sample) ∷ [];
-      generator = word.1;
+      generator = random.1;
     }
 
 pub one_channel_more : (t c : ℕ) (waves : List Wave) (wave : Wave) (g : Lcg) →
@@ -37,14 +37,14 @@ one_channel_more t c [] wave g =
     let place : c ≡ c + 0 = omega arith in
     ap (λ k. with_channel t k wave (record { samples = []; waves = []; generator = g })) place
 one_channel_more t c (first ∷ waves) wave g =
-    let word = pcg32 g in
-    let sample = sample_of first (dither word.0) in
+    let random = pcg32 g in
+    let sample = sample_of first (dither random.0) in
     let place : c + 1 + length waves ≡ c + suc (length waves) = omega arith in
     ap (λ (m : Made). record {
       samples = sample ∷ m.samples;
       waves = next_wave first (height t c) (level_of sample) ∷ m.waves;
       generator = m.generator;
-    }) (one_channel_more t (c + 1) waves wave word.1 ∙ ap (λ k. with_channel t k wave (at_time t (c + 1) waves word.1)) place)
+    }) (one_channel_more t (c + 1) waves wave random.1 ∙ ap (λ k. with_channel t k wave (at_time t (c + 1) waves random.1)) place)
 
 pub length-samples : (t c : ℕ) (waves : List Wave) (g : Lcg) → length (at_time t c waves g).samples ≡ length waves
 unfolding at_time
@@ -57,20 +57,20 @@ length-waves t c [] g = refl
 length-waves t c (wave ∷ waves) g = ap suc (length-waves t (c + 1) waves (pcg32 g).1)
 
 -- what a channel's step adds
-pub channel_added : (t c word sample : ℕ) (ws : List Wave) (g0 g new : Lcg) (wave next : Wave) (h : ℤ) → c < length ws → wave ≡ get_or ws c still →
-    g ≡ (at_time t 0 (take c ws) g0).generator → (word, new) ≡ pcg32 g → sample ≡ sample_of wave (dither word) → h ≡ height t c →
+pub channel_added : (t c random sample : ℕ) (ws : List Wave) (g0 g new : Lcg) (wave next : Wave) (h : ℤ) → c < length ws → wave ≡ get_or ws c still →
+    g ≡ (at_time t 0 (take c ws) g0).generator → (random, new) ≡ pcg32 g → sample ≡ sample_of wave (dither random) → h ≡ height t c →
     next ≡ next_wave wave h (level_of sample) →
     at_time t 0 (take (c + 1) ws) g0 ≡ record {
       samples = (at_time t 0 (take c ws) g0).samples ++ sample ∷ [];
       waves = (at_time t 0 (take c ws) g0).waves ++ next ∷ [];
       generator = new;
     }
-channel_added t c word sample ws g0 g new wave next h inside is_wave is_g is_word is_sample is_h is_next =
+channel_added t c random sample ws g0 g new wave next h inside is_wave is_g is_random is_sample is_h is_next =
     let past = at_time t 0 (take c ws) g0 in
     let first = get_or ws c still in
     let place : 0 + length (take c ws) ≡ c = omega (arith, length-take-le c ws (omega arith)) in
-    let drawn : pcg32 past.generator ≡ (word, new) = sym (is_word ∙ ap pcg32 is_g) in
-    let shown : sample_of first (dither word) ≡ sample = ap (λ w. sample_of w (dither word)) (sym is_wave) ∙ sym is_sample in
+    let drawn : pcg32 past.generator ≡ (random, new) = sym (is_random ∙ ap pcg32 is_g) in
+    let shown : sample_of first (dither random) ≡ sample = ap (λ w. sample_of w (dither random)) (sym is_wave) ∙ sym is_sample in
     let moved : next_wave first (height t c) (level_of sample) ≡ next =
     ap (λ w. next_wave w (height t c) (level_of sample)) (sym is_wave) ∙ ap (λ k. next_wave wave k (level_of sample)) (sym is_h) ∙ sym is_next in
     ap (λ xs. at_time t 0 xs g0) (take_more ws c still inside)
@@ -109,17 +109,17 @@ at_time-of_period : (t c : ℕ) (waves : List Wave) (g : Lcg) → at_time t c wa
 unfolding at_time
 at_time-of_period t c [] g = refl
 at_time-of_period t c (wave ∷ waves) g =
-    let word = pcg32 g in
-    let sample = sample_of wave (dither word.0) in
+    let random = pcg32 g in
+    let sample = sample_of wave (dither random.0) in
     ap (λ (m : Made). record {
       samples = sample ∷ m.samples;
       waves = next_wave wave (height t c) (level_of sample) ∷ m.waves;
       generator = m.generator;
-    }) (at_time-of_period t (c + 1) waves word.1)
+    }) (at_time-of_period t (c + 1) waves random.1)
     ∙ ap (λ h. record {
-      samples = sample ∷ (at_time (t % 6400) (c + 1) waves word.1).samples;
-      waves = next_wave wave h (level_of sample) ∷ (at_time (t % 6400) (c + 1) waves word.1).waves;
-      generator = (at_time (t % 6400) (c + 1) waves word.1).generator;
+      samples = sample ∷ (at_time (t % 6400) (c + 1) waves random.1).samples;
+      waves = next_wave wave h (level_of sample) ∷ (at_time (t % 6400) (c + 1) waves random.1).waves;
+      generator = (at_time (t % 6400) (c + 1) waves random.1).generator;
     }) (height-of_period t c)
 
 -- ---- a run of times

@@ -1,4 +1,4 @@
--- Steps of made sound that no short piece of it reaches: bounds that bound, the new u in w, and the ends of what a random word gives.
+-- Steps of made sound that no short piece of it reaches: bounds that bound, the new u in w, and the ends of what a random number gives.
 use Rattle.std.proofs.Common.{◌≡◌, ℤ, pos, [], ◌∷◌, map, refl}
 use Rattle.std.specs.Prelude.{neg_ℤ}
 use Rattle.dsdiff_spec.specs.Made.{Wave, bounded, dither, phase, sample_of, level_of, next_wave}
@@ -28,8 +28,8 @@ step_past_the_lower_bound = refl
 pub w_is_bounded_too : next_wave (wave (pos 16777216) (pos 0)) (pos 0) (neg_ℤ (pos 32768)) ≡ wave (pos 16777216) (pos 16777216)
 w_is_bounded_too = refl
 
-pub dither_of_words : map dither (0 ∷ 4095 ∷ 4096 ∷ 6144 ∷ []) ≡ neg_ℤ (pos 2048) ∷ pos 2047 ∷ neg_ℤ (pos 2048) ∷ pos 0 ∷ []
-dither_of_words = refl
+pub dither_of_numbers : map dither (0 ∷ 4095 ∷ 4096 ∷ 6144 ∷ []) ≡ neg_ℤ (pos 2048) ∷ pos 2047 ∷ neg_ℤ (pos 2048) ∷ pos 0 ∷ []
+dither_of_numbers = refl
 
 pub sample_by_its_sign : map (sample_of (wave (pos 0) (pos 5))) (neg_ℤ (pos 5) ∷ neg_ℤ (pos 6) ∷ []) ≡ 1 ∷ 0 ∷ []
 sample_by_its_sign = refl

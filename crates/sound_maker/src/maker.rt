@@ -127,9 +127,9 @@ fn sample_each(
         ≡ get_or bytes.old c 0 % 128 * 2 + get_or (at_time time 0 (take count waves.old) generator.old).samples c 0 }
 {
     for channel in 0..count {
-        let word = generator.next_word();
+        let random = generator.next_word();
         let mut numbers = waves[channel];
-        let sample = numbers.next(word, height(time, channel));
+        let sample = numbers.next(random, height(time, channel));
         waves[channel] = numbers;
         bytes[channel] = bytes[channel] % 128 * 2 + sample;
     }

@@ -37,15 +37,15 @@ impl Numbers {
         Numbers { u: 0, w: 0 }
     }
 
-    /// The next sample, 0 or 1, with a random word for its dither, where the wave has a height.
+    /// The next sample, 0 or 1, with a random number for its dither, where the wave has a height.
     #[inline(always)]
-    pub(crate) fn next(&mut self, word: u32, height: i32) -> u8
+    pub(crate) fn next(&mut self, random: u32, height: i32) -> u8
         requires { nat_abs height ≤ 16000 }
-        ensures sample { result ≡ sample_of self.old (dither word) }
+        ensures sample { result ≡ sample_of self.old (dither random) }
         ensures bit { result < 2 }
         ensures later { self.new ≡ next_wave self.old height (level_of result) }
     {
-        let sample = sample_of(self.w, word);
+        let sample = sample_of(self.w, random);
         let level = level_of(sample);
         let u = moved(self.u, height, level);
         let w = moved(self.w, u, level);
@@ -55,14 +55,14 @@ impl Numbers {
     }
 }
 
-// The sample at a number, with the dither of a random word.
+// The sample at a number, with the dither of a random number.
 #[inline(always)]
-fn sample_of(w: i32, word: u32) -> u8
+fn sample_of(w: i32, random: u32) -> u8
     requires { nat_abs w ≤ 16777216 }
-    ensures value { result ≡ (if is_negative (w +ℤ dither word) then 0 else 1) }
+    ensures value { result ≡ (if is_negative (w +ℤ dither random) then 0 else 1) }
     ensures bit { result < 2 }
 {
-    let sum = w + ((word % 4096) as i32 - 2048);
+    let sum = w + ((random % 4096) as i32 - 2048);
     if sum < 0 { 0 } else { 1 }
 }
 

@@ -16,7 +16,7 @@ use Rattle.dsdiff_spec.specs.Rules.{kind_fault, is_frte, has_bad_origin, coded_f
 use Rattle.dsdiff_spec.specs.Walk.{in_dst, frame_heads, frame_fault, walk_fault, entry_of, frame_at}
 use Rattle.dsdiff_spec.specs.Decoded.{frames_of}
 use Rattle.dsdiff_spec.specs.Refusal.{not_coded}
-use Rattle.dsdiff_spec.specs.Streams.{Stream, Front, ended, form_head_fault, frte_fault_at, with_front, kept, frames_from, in_sound, version_in, StreamLaw}
+use Rattle.dsdiff_spec.specs.Streams.{Stream, Front, ended, form_head_fault, frte_fault_at, with_front, unless, frames_from, in_sound, version_in, StreamLaw}
 use Rattle.dsdiff_spec.specs.declared.faults.FileFault.{FileFault}
 use Rattle.dsdiff_spec.specs.declared.faults.FileFault.TheVariants.{NotForm, FormTooLarge, FormType, Overrun, Version, PropMissing, PropTwice}
 use Rattle.dsdiff_spec.specs.declared.faults.FileFault.TheVariants.{PropTooLong, PropType}
@@ -55,7 +55,7 @@ kept_by_filter P p (x ∷ xs) every = go (p x) refl (kept_by_filter P p xs every
     go true e later = ((every.0, e), later)
     go false e later = later
 
--- ---- rules that are kept
+-- ---- rules that hold
 head_rules : (a b c d : Bool) → a ≡ false → b ≡ false → c ≡ false → d ≡ false →
     (NotForm when a || b otherwise FormTooLarge when c otherwise FormType when d) ≡ None
 head_rules false false false false p q r s = refl
@@ -307,7 +307,7 @@ in_sound_comes file version s there most walked v =
     let least = s.least in
     let fits = s.within in
     reaches file (body_place h) (body_place h + 18) _ (omega (arith, least, fits, there))
-    ∙ ap (λ f. kept f (with_front front (frames_from file (shape form) form.frames (body_end h) 4000000 0 (body_place h + 18)))) s.frte
+    ∙ ap (λ f. unless f (with_front front (frames_from file (shape form) form.frames (body_end h) 4000000 0 (body_place h + 18)))) s.frte
     ∙ ap (with_front front) (frames_of_form file form (omega (arith, fits, there)) most walked)
     ∙ ap (λ w. with_front (record { version = w; prop = prop file; frames = frame_count file }) (then_ended (frames_of file form))) v
 

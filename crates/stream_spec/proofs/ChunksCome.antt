@@ -6,7 +6,7 @@ use Rattle.std.proofs.lemmas.Slice.Eq.{bytes_eq-Decides}
 use Rattle.dsdiff_spec.specs.Bytes.{◌is◌}
 use Rattle.dsdiff_spec.specs.Chunks.{Head, Found, head_at, body_place, body_end, next_place, body_of, named, fits, chunks_from}
 use Rattle.dsdiff_spec.specs.Rules.{local_fault}
-use Rattle.dsdiff_spec.specs.Streams.{stopped, up_to, kept, whole_end, ending_at_head, chunk_head_fault, later_head_fault}
+use Rattle.dsdiff_spec.specs.Streams.{stopped, up_to, unless, whole_end, ending_at_head, chunk_head_fault, later_head_fault}
 use Rattle.dsdiff_spec.specs.Streams.{prop_head_fault, plain_head_fault, sound_head_fault, came_with, in_sound, in_form}
 use Rattle.dsdiff_spec.specs.declared.faults.FileFault.{FileFault}
 use Rattle.dsdiff_spec.specs.declared.faults.FileFault.TheVariants.{Overrun, PropTooLong, PropType}
@@ -148,9 +148,9 @@ module _ (w : List ℕ) (end : ℕ) (version : List ℕ) (p s : Head) (there : e
         form_has_chunk w end most came place lt
         (asked w end place version None None (omega (arith, next)) (omega (arith, next)) there rules) c
         ∙ reaches w h.place (body_end h) _ (omega (arith, next, there))
-        ∙ ap {A = Bool} (λ i. kept (if i then local_fault (body_place h) (body_of w h) else None)
+        ∙ ap {A = Bool} (λ i. unless (if i then local_fault (body_place h) (body_of w h) else None)
         (up_to w h.place (whole_end end h) (in_form w end most (came_with w came h) (next_place h)))) a
-        ∙ ap (λ f. kept f (up_to w h.place (whole_end end h) (in_form w end most (came_with w came h) (next_place h)))) body
+        ∙ ap (λ f. unless f (up_to w h.place (whole_end end h) (in_form w end most (came_with w came h) (next_place h)))) body
         ∙ reaches w h.place (whole_end end h) _ (omega (arith, there))
         ∙ ap {A = Bool} (λ i. in_form w end most (record { version = Some version; prop = if i then Some (body_of w h) else None }) (next_place h)) a
         ∙ ap (λ i. in_form w end most (behind_version version (Some (body_of w i))) (next_place h)) e

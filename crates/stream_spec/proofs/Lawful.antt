@@ -13,7 +13,7 @@ use Rattle.dsdiff_spec.specs.Faults.{◌when◌, ◌otherwise◌}
 use Rattle.dsdiff_spec.specs.Chunks.{Head, head_at, body_place, body_end, next_place, body_of}
 use Rattle.dsdiff_spec.specs.Parts.{form_end}
 use Rattle.dsdiff_spec.specs.Rules.{local_fault, is_frte}
-use Rattle.dsdiff_spec.specs.Streams.{Stream, Ending, Front, ended, stopped, cut_off, nothing_but, with_front, with_frame, up_to, kept, whole_end, shape_in}
+use Rattle.dsdiff_spec.specs.Streams.{Stream, Ending, Front, ended, stopped, cut_off, nothing_but, with_front, with_frame, up_to, unless, whole_end, shape_in}
 use Rattle.dsdiff_spec.specs.Streams.{ending_at_head, frame_head_fault, with_frame_in, in_sound_chunk, found_with, counted, frames_from, Came, nothing_came}
 use Rattle.dsdiff_spec.specs.Streams.{version_head_fault, prop_head_fault, plain_head_fault, sound_head_fault, later_head_fault, chunk_head_fault}
 use Rattle.dsdiff_spec.specs.Streams.{chunk_body_fault, frte_fault_at, in_sound, in_form_chunk, in_form, form_head_fault, stream}
@@ -68,30 +68,30 @@ reached P w c place later none go_on = go (nat_lt (length w) place) refl
     go false e = go_on (ltb-false (length w) place e)
 
 kept_then : (P : Stream → Type 0) (fault : Option FileFault) (later : Stream) → ((f : FileFault) → P (nothing_but (stopped f))) → (fault ≡ None → P later) →
-    P (kept fault later)
+    P (unless fault later)
 kept_then P (Some f) later none go_on = none f
 kept_then P None later none go_on = go_on refl
 
 -- ---- in `DST `, behind so many frames
-record FramesAre (w : List ℕ) (f : Shape) (told found : ℕ) (s : Stream) : Type 0 where
+record FramesAre (w : List ℕ) (f : Shape) (count found : ℕ) (s : Stream) : Type 0 where
   pub parts : AllByRecursion (IsPartOf w) s.frames
   pub short : AllByRecursion (IsShort f) s.frames
-  pub few : found + length s.frames ≤ told
-  pub ended : s.ending ≡ ended → found + length s.frames ≡ told
+  pub few : found + length s.frames ≤ count
+  pub ended : s.ending ≡ ended → found + length s.frames ≡ count
 
-early_frames : (w : List ℕ) (f : Shape) (told found : ℕ) (e : Ending) → found ≤ told → IsEarly e → FramesAre w f told found (nothing_but e)
-early_frames w f told found e le early = record { parts = tt; short = tt; few = omega (arith, le); ended = λ same. absurd (not_ended e early same) }
+early_frames : (w : List ℕ) (f : Shape) (count found : ℕ) (e : Ending) → found ≤ count → IsEarly e → FramesAre w f count found (nothing_but e)
+early_frames w f count found e le early = record { parts = tt; short = tt; few = omega (arith, le); ended = λ same. absurd (not_ended e early same) }
 
-counted_frames : (w : List ℕ) (f : Shape) (told found : ℕ) → found ≤ told → FramesAre w f told found (nothing_but (counted told found))
-counted_frames w f told found le = record { parts = tt; short = tt; few = omega (arith, le); ended = λ same. go (found == told) refl same }
+counted_frames : (w : List ℕ) (f : Shape) (count found : ℕ) → found ≤ count → FramesAre w f count found (nothing_but (counted count found))
+counted_frames w f count found le = record { parts = tt; short = tt; few = omega (arith, le); ended = λ same. go (found == count) refl same }
   where
-    go : (b : Bool) → (found == told) ≡ b → (if b then ended else stopped (CountDiffers told found)) ≡ ended → found + 0 ≡ told
-    go true e same = let all = eqb-true found told e in omega (arith, all)
-    go false e same = absurd (not_ended (stopped (CountDiffers told found)) (tt {0}) same)
+    go : (b : Bool) → (found == count) ≡ b → (if b then ended else stopped (CountDiffers count found)) ≡ ended → found + 0 ≡ count
+    go true e same = let all = eqb-true found count e in omega (arith, all)
+    go false e same = absurd (not_ended (stopped (CountDiffers count found)) (tt {0}) same)
 
-one_frame_more : (w : List ℕ) (f : Shape) (told found : ℕ) (h : Head) (s : Stream) → h.size ≤ 2 * (sound_bytes f + 1) → FramesAre w f told (found + 1) s →
-    FramesAre w f told found (with_frame (body_of w h) s)
-one_frame_more w f told found h s short are =
+one_frame_more : (w : List ℕ) (f : Shape) (count found : ℕ) (h : Head) (s : Stream) → h.size ≤ 2 * (sound_bytes f + 1) → FramesAre w f count (found + 1) s →
+    FramesAre w f count found (with_frame (body_of w h) s)
+one_frame_more w f count found h s short are =
     record {
       parts = ((body_place h, h.size, refl), are.parts);
       short = (omega (arith, short, length-take h.size (drop (body_place h) w)), are.short);
@@ -99,67 +99,67 @@ one_frame_more w f told found h s short are =
       ended = λ same. (let all = are.ended same in omega (arith, all));
     }
 
-frames_after : (w : List ℕ) (f : Shape) (told end found : ℕ) (h : Head) (later : Stream) → found ≤ told →
-    frame_head_fault f told end found h ≡ None → (found_with h found ≤ told → FramesAre w f told (found_with h found) later) →
-    FramesAre w f told found (in_sound_chunk w end h later)
-frames_after w f told end found h later le none next =
-    reached (FramesAre w f told found) w h.place (body_end h) (with_frame_in w h (up_to w h.place (whole_end end h) later)) cut
+frames_after : (w : List ℕ) (f : Shape) (count end found : ℕ) (h : Head) (later : Stream) → found ≤ count →
+    frame_head_fault f count end found h ≡ None → (found_with h found ≤ count → FramesAre w f count (found_with h found) later) →
+    FramesAre w f count found (in_sound_chunk w end h later)
+frames_after w f count end found h later le none next =
+    reached (FramesAre w f count found) w h.place (body_end h) (with_frame_in w h (up_to w h.place (whole_end end h) later)) cut
     (λ there. by_name (h.id is "DSTF") (later_gives_none (Overrun h.place when body_end h above end) _ none) next)
   where
-    cut : FramesAre w f told found (nothing_but (cut_off (Overrun h.place)))
-    cut = early_frames w f told found (cut_off (Overrun h.place)) le (tt {0})
+    cut : FramesAre w f count found (nothing_but (cut_off (Overrun h.place)))
+    cut = early_frames w f count found (cut_off (Overrun h.place)) le (tt {0})
 
     frame_rules : Option FileFault
     frame_rules =
         FrameTooLong found h.size when h.size above 2 * (sound_bytes f + 1)
         otherwise TooManyFrames when found above 999999
-        otherwise CountDiffers told (told + 1) when found == told
+        otherwise CountDiffers count (count + 1) when found == count
 
-    less : (found == told) ≡ false → found < told
-    less e = elim (cases_lt found told) [
+    less : (found == count) ≡ false → found < count
+    less e = elim (cases_lt found count) [
       | inl lt ↦ lt
-      | inr ge ↦ absurd (let b : true ≡ false = sym (eq-eqb found told (omega (arith, ge, le))) ∙ e in cc)
+      | inr ge ↦ absurd (let b : true ≡ false = sym (eq-eqb found count (omega (arith, ge, le))) ∙ e in cc)
     ]
 
     by_name : (b : Bool) →
         (if b then (FrameTooLong found h.size when h.size above 2 * (sound_bytes f + 1) otherwise TooManyFrames when found above 999999
-        otherwise CountDiffers told (told + 1) when found == told) else None) ≡ None →
-        ((if b then (found + 1) else found) ≤ told → FramesAre w f told (if b then (found + 1) else found) later) →
-        FramesAre w f told found
+        otherwise CountDiffers count (count + 1) when found == count) else None) ≡ None →
+        ((if b then (found + 1) else found) ≤ count → FramesAre w f count (if b then (found + 1) else found) later) →
+        FramesAre w f count found
         (if b then with_frame (body_of w h) (up_to w h.place (whole_end end h) later) else up_to w h.place (whole_end end h) later)
-    by_name false none next = reached (FramesAre w f told found) w h.place (whole_end end h) later cut (λ there. next le)
+    by_name false none next = reached (FramesAre w f count found) w h.place (whole_end end h) later cut (λ there. next le)
     by_name true none next =
-        let third = CountDiffers told (told + 1) when found == told in
+        let third = CountDiffers count (count + 1) when found == count in
         let second = TooManyFrames when found above 999999 otherwise third in
         let size = ltb-false (2 * (sound_bytes f + 1)) h.size (when_not (FrameTooLong found h.size) _ (first_gives_none _ second none)) in
-        let count = less (when_not (CountDiffers told (told + 1)) (found == told) (later_gives_none (TooManyFrames when found above 999999) third
+        let fewer = less (when_not (CountDiffers count (count + 1)) (found == count) (later_gives_none (TooManyFrames when found above 999999) third
         (later_gives_none (FrameTooLong found h.size when h.size above 2 * (sound_bytes f + 1)) second none))) in
-        one_frame_more w f told found h _ size
-        (reached (FramesAre w f told (found + 1)) w h.place (whole_end end h) later
-        (early_frames w f told (found + 1) (cut_off (Overrun h.place)) (omega (arith, count)) (tt {0}))
-        (λ there. next (omega (arith, count))))
+        one_frame_more w f count found h _ size
+        (reached (FramesAre w f count (found + 1)) w h.place (whole_end end h) later
+        (early_frames w f count (found + 1) (cut_off (Overrun h.place)) (omega (arith, fewer)) (tt {0}))
+        (λ there. next (omega (arith, fewer))))
 
-frames_are : (w : List ℕ) (f : Shape) (told end most found place : ℕ) → found ≤ told → FramesAre w f told found (frames_from w f told end most found place)
-frames_are w f told end zero found place le = elim (cases_lt place end) [
-  | inr ge ↦ subst (FramesAre w f told found) (sym (sound_ends w f told end zero found place ge)) (counted_frames w f told found le)
-  | inl lt ↦ subst (FramesAre w f told found) (sym (sound_has_no_more w f told end found place lt))
-      (early_frames w f told found (stopped TooManyChunks) le (tt {0}))
+frames_are : (w : List ℕ) (f : Shape) (count end most found place : ℕ) → found ≤ count → FramesAre w f count found (frames_from w f count end most found place)
+frames_are w f count end zero found place le = elim (cases_lt place end) [
+  | inr ge ↦ subst (FramesAre w f count found) (sym (sound_ends w f count end zero found place ge)) (counted_frames w f count found le)
+  | inl lt ↦ subst (FramesAre w f count found) (sym (sound_has_no_more w f count end found place lt))
+      (early_frames w f count found (stopped TooManyChunks) le (tt {0}))
 ]
-frames_are w f told end (suc most) found place le = elim (cases_lt place end) [
-  | inr ge ↦ subst (FramesAre w f told found) (sym (sound_ends w f told end (suc most) found place ge)) (counted_frames w f told found le)
-  | inl lt ↦ go lt (ending_at_head w end place (frame_head_fault f told end found (head_at w place))) refl
-      (λ n le. frames_are w f told end most n (next_place (head_at w place)) le)
+frames_are w f count end (suc most) found place le = elim (cases_lt place end) [
+  | inr ge ↦ subst (FramesAre w f count found) (sym (sound_ends w f count end (suc most) found place ge)) (counted_frames w f count found le)
+  | inl lt ↦ go lt (ending_at_head w end place (frame_head_fault f count end found (head_at w place))) refl
+      (λ n le. frames_are w f count end most n (next_place (head_at w place)) le)
 ]
   where
-    go : place < end → (o : Option Ending) → ending_at_head w end place (frame_head_fault f told end found (head_at w place)) ≡ o →
-        ((n : ℕ) → n ≤ told → FramesAre w f told n (frames_from w f told end most n (next_place (head_at w place)))) →
-        FramesAre w f told found (frames_from w f told end (suc most) found place)
+    go : place < end → (o : Option Ending) → ending_at_head w end place (frame_head_fault f count end found (head_at w place)) ≡ o →
+        ((n : ℕ) → n ≤ count → FramesAre w f count n (frames_from w f count end most n (next_place (head_at w place)))) →
+        FramesAre w f count found (frames_from w f count end (suc most) found place)
     go lt (Some e) same next =
-        subst (FramesAre w f told found) (sym (sound_ends_at_head w f told end most found place e lt same))
-        (early_frames w f told found e le (ends_early w end place _ e same))
+        subst (FramesAre w f count found) (sym (sound_ends_at_head w f count end most found place e lt same))
+        (early_frames w f count found e le (ends_early w end place _ e same))
     go lt None same next =
-        subst (FramesAre w f told found) (sym (sound_has_chunk w f told end most found place lt same))
-        (frames_after w f told end found (head_at w place) _ le (no_fault_at_head w end place _ same) (next (found_with (head_at w place) found)))
+        subst (FramesAre w f count found) (sym (sound_has_chunk w f count end most found place lt same))
+        (frames_after w f count end found (head_at w place) _ le (no_fault_at_head w end place _ same) (next (found_with (head_at w place) found)))
 
 -- ---- in the form, where these bodies came
 record CameLawful (came : Came) : Type 0 where
@@ -186,11 +186,11 @@ lawful_front w front s lawful are =
       parts = are.parts;
       short = are.short;
       few = (let few = are.few in omega (arith, few));
-      ended = λ same. (let count = are.ended same in omega (arith, count));
+      ended = λ same. (let fewer = are.ended same in omega (arith, fewer));
     }
 
-told_few : (w : List ℕ) (place : ℕ) → frte_fault_at w place ≡ None → number_at w (place + 12) 4 ≤ 1000000
-told_few w place none =
+count_few : (w : List ℕ) (place : ℕ) → frte_fault_at w place ≡ None → number_at w (place + 12) 4 ≤ 1000000
+count_few w place none =
     ltb-false 1000000 (number_at w (place + 12) 4)
     (when_not TooManyFrames _ (later_gives_none (FrameRate when not (is_frte w place) || not (number_at w (place + 16) 2 == 75)) _ none))
 
@@ -201,7 +201,7 @@ sound_lawful w v p h came =
     reached (IsLawful w) w (body_place h) (body_place h + 18) _ (early_form w (cut_off (Overrun (body_place h))) (tt {0}))
     (λ there. kept_then (IsLawful w) (frte_fault_at w (body_place h)) _ (λ f. early_form w (stopped f) (tt {0}))
     (λ none. lawful_front w front _
-    (record { version = came.version v refl; most = came.most p refl; rules = came.rules p refl; frames = told_few w (body_place h) none })
+    (record { version = came.version v refl; most = came.most p refl; rules = came.rules p refl; frames = count_few w (body_place h) none })
     (frames_are w (shape_in p) front.frames (body_end h) 4000000 0 (body_place h + 18) (omega arith))))
 
 -- ---- a chunk of the form
@@ -343,7 +343,7 @@ streams_are_lawful w = go (nat_lt (length w) 16)
     go : (b : Bool) → IsLawful w (elim b [
       | true ↦ nothing_but (cut_off NotForm)
       | false ↦
-          kept (form_head_fault w) (in_form w (form_end w) 1024 nothing_came 16)
+          unless (form_head_fault w) (in_form w (form_end w) 1024 nothing_came 16)
     ])
     go true = early_form w (cut_off NotForm) (tt {0})
     go false = kept_then (IsLawful w) (form_head_fault w) _ (λ f. early_form w (stopped f) (tt {0}))

@@ -12,7 +12,7 @@ use Rattle.dsdiff_spec.specs.Faults.{◌when◌, ◌otherwise◌}
 use Rattle.dsdiff_spec.specs.Chunks.{Head, head_at, body_place, body_end, next_place, body_of}
 use Rattle.dsdiff_spec.specs.Parts.{form_size, form_end}
 use Rattle.dsdiff_spec.specs.Rules.{local_fault}
-use Rattle.dsdiff_spec.specs.Streams.{Stream, Ending, Front, ended, stopped, cut_off, nothing_but, with_front, with_frame, up_to, kept, whole_end, shape_in}
+use Rattle.dsdiff_spec.specs.Streams.{Stream, Ending, Front, ended, stopped, cut_off, nothing_but, with_front, with_frame, up_to, unless, whole_end, shape_in}
 use Rattle.dsdiff_spec.specs.Streams.{ending_at_head, frame_head_fault, with_frame_in, in_sound_chunk, found_with, counted, frames_from, Came}
 use Rattle.dsdiff_spec.specs.Streams.{nothing_came, missing}
 use Rattle.dsdiff_spec.specs.Streams.{version_head_fault, later_head_fault, chunk_head_fault, chunk_body_fault, version_body_fault, prop_body_fault}
@@ -86,10 +86,10 @@ up_to_goes w more c place s t h = go (nat_lt (length w) place) refl
         let le = ltb-false (length w) place e in
         subst (Goes s) (sym (reaches (w ++ more) c place t (omega (arith, le, longer)))) (h le)
 
-kept_goes : (f g : Option FileFault) (s t : Stream) → g ≡ f → Goes s t → Goes (kept f s) (kept g t)
-kept_goes f g s t e h = subst (λ x. Goes (kept f s) (kept x t)) (sym e) (go f)
+unless_goes : (f g : Option FileFault) (s t : Stream) → g ≡ f → Goes s t → Goes (unless f s) (unless g t)
+unless_goes f g s t e h = subst (λ x. Goes (unless f s) (unless x t)) (sym e) (go f)
   where
-    go : (f : Option FileFault) → Goes (kept f s) (kept f t)
+    go : (f : Option FileFault) → Goes (unless f s) (unless f t)
     go None = h
     go (Some fault) = refl
 
@@ -150,47 +150,47 @@ sound_chunk_goes w more end h s t goes =
 both_go : (s t x y : Stream) → s ≡ x → t ≡ y → Goes x y → Goes s t
 both_go s t x y e f h = subst (λ a. Goes a t) (sym e) (subst (Goes x) (sym f) h)
 
-frames_go : (w more : List ℕ) (f : Shape) (told end most found place : ℕ) →
-    Goes (frames_from w f told end most found place) (frames_from (w ++ more) f told end most found place)
-frames_go w more f told end zero found place = elim (cases_lt place end) [
-  | inr ge ↦ both_go _ _ _ _ (sound_ends w f told end zero found place ge) (sound_ends (w ++ more) f told end zero found place ge)
-      (same_goes (nothing_but (counted told found)))
-  | inl lt ↦ both_go _ _ _ _ (sound_has_no_more w f told end found place lt) (sound_has_no_more (w ++ more) f told end found place lt)
+frames_go : (w more : List ℕ) (f : Shape) (count end most found place : ℕ) →
+    Goes (frames_from w f count end most found place) (frames_from (w ++ more) f count end most found place)
+frames_go w more f count end zero found place = elim (cases_lt place end) [
+  | inr ge ↦ both_go _ _ _ _ (sound_ends w f count end zero found place ge) (sound_ends (w ++ more) f count end zero found place ge)
+      (same_goes (nothing_but (counted count found)))
+  | inl lt ↦ both_go _ _ _ _ (sound_has_no_more w f count end found place lt) (sound_has_no_more (w ++ more) f count end found place lt)
       (same_goes (nothing_but (stopped TooManyChunks)))
 ]
-frames_go w more f told end (suc most) found place = elim (cases_lt place end) [
-  | inr ge ↦ both_go _ _ _ _ (sound_ends w f told end (suc most) found place ge) (sound_ends (w ++ more) f told end (suc most) found place ge)
-      (same_goes (nothing_but (counted told found)))
+frames_go w more f count end (suc most) found place = elim (cases_lt place end) [
+  | inr ge ↦ both_go _ _ _ _ (sound_ends w f count end (suc most) found place ge) (sound_ends (w ++ more) f count end (suc most) found place ge)
+      (same_goes (nothing_but (counted count found)))
   | inl lt ↦ go lt (ending_at_head w end place (rules (head_at w place))) refl (ending_at_head (w ++ more) end place (rules (head_at (w ++ more) place))) refl
       (head_goes w more end place (rules (head_at w place)) (rules (head_at (w ++ more) place)) (λ there. ap rules (head_stays w more place there)))
-      (λ n p. frames_go w more f told end most n p)
+      (λ n p. frames_go w more f count end most n p)
 ]
   where
     rules : Head → Option FileFault
-    rules h = frame_head_fault f told end found h
+    rules h = frame_head_fault f count end found h
 
     there : place + 12 ≤ length w → head_at (w ++ more) place ≡ head_at w place
     there le = head_stays w more place le
 
-    go : place < end → (a : Option Ending) → ending_at_head w end place (frame_head_fault f told end found (head_at w place)) ≡ a → (b : Option Ending) →
-        ending_at_head (w ++ more) end place (frame_head_fault f told end found (head_at (w ++ more) place)) ≡ b → HeadGoes a b →
-        ((n p : ℕ) → Goes (frames_from w f told end most n p) (frames_from (w ++ more) f told end most n p)) →
-        Goes (frames_from w f told end (suc most) found place) (frames_from (w ++ more) f told end (suc most) found place)
+    go : place < end → (a : Option Ending) → ending_at_head w end place (frame_head_fault f count end found (head_at w place)) ≡ a → (b : Option Ending) →
+        ending_at_head (w ++ more) end place (frame_head_fault f count end found (head_at (w ++ more) place)) ≡ b → HeadGoes a b →
+        ((n p : ℕ) → Goes (frames_from w f count end most n p) (frames_from (w ++ more) f count end most n p)) →
+        Goes (frames_from w f count end (suc most) found place) (frames_from (w ++ more) f count end (suc most) found place)
     go lt (Some (cut_off fault)) e b d h next =
-        subst (λ a. Goes a (frames_from (w ++ more) f told end (suc most) found place))
-        (sym (sound_ends_at_head w f told end most found place (cut_off fault) lt e))
-        (cut_goes fault (frames_from (w ++ more) f told end (suc most) found place))
+        subst (λ a. Goes a (frames_from (w ++ more) f count end (suc most) found place))
+        (sym (sound_ends_at_head w f count end most found place (cut_off fault) lt e))
+        (cut_goes fault (frames_from (w ++ more) f count end (suc most) found place))
     go lt (Some (stopped fault)) e b d h next =
-        both_go _ _ _ _ (sound_ends_at_head w f told end most found place (stopped fault) lt e)
-        (sound_ends_at_head (w ++ more) f told end most found place (stopped fault) lt (d ∙ h)) (same_goes (nothing_but (stopped fault)))
+        both_go _ _ _ _ (sound_ends_at_head w f count end most found place (stopped fault) lt e)
+        (sound_ends_at_head (w ++ more) f count end most found place (stopped fault) lt (d ∙ h)) (same_goes (nothing_but (stopped fault)))
     go lt (Some ended) e b d h next =
-        both_go _ _ _ _ (sound_ends_at_head w f told end most found place ended lt e)
-        (sound_ends_at_head (w ++ more) f told end most found place ended lt (d ∙ h)) (same_goes (nothing_but ended))
+        both_go _ _ _ _ (sound_ends_at_head w f count end most found place ended lt e)
+        (sound_ends_at_head (w ++ more) f count end most found place ended lt (d ∙ h)) (same_goes (nothing_but ended))
     go lt None e b d h next =
-        both_go _ _ _ _ (sound_has_chunk w f told end most found place lt e) (sound_has_chunk (w ++ more) f told end most found place lt (d ∙ h))
+        both_go _ _ _ _ (sound_has_chunk w f count end most found place lt e) (sound_has_chunk (w ++ more) f count end most found place lt (d ∙ h))
         (subst (λ i. Goes (in_sound_chunk w end (head_at w place)
-        (frames_from w f told end most (found_with (head_at w place) found) (next_place (head_at w place))))
-        (in_sound_chunk (w ++ more) end i (frames_from (w ++ more) f told end most (found_with i found) (next_place i))))
+        (frames_from w f count end most (found_with (head_at w place) found) (next_place (head_at w place))))
+        (in_sound_chunk (w ++ more) end i (frames_from (w ++ more) f count end most (found_with i found) (next_place i))))
         (sym (there (head_is_there w end place _ e)))
         (sound_chunk_goes w more end (head_at w place) _ _ (next (found_with (head_at w place) found) (next_place (head_at w place)))))
 
@@ -200,7 +200,7 @@ frte_stays w more place le =
     let id = bytes_stay w more place 4 (omega (arith, le)) in
     let size = number_stays w more 8 (place + 4) (omega (arith, le)) in
     let rate = number_stays w more 2 (place + 16) (omega (arith, le)) in
-    let told = number_stays w more 4 (place + 12) (omega (arith, le)) in
+    let count = number_stays w more 4 (place + 12) (omega (arith, le)) in
     ap (λ i. FrameRate when not (i is "FRTE" && number_at (w ++ more) (place + 4) 8 == 6) || not (number_at (w ++ more) (place + 16) 2 == 75)
     otherwise TooManyFrames when number_at (w ++ more) (place + 12) 4 above 1000000) id
     ∙ ap (λ n. FrameRate when not (bytes_at w place 4 is "FRTE" && n == 6) || not (number_at (w ++ more) (place + 16) 2 == 75)
@@ -208,19 +208,19 @@ frte_stays w more place le =
     ∙ ap (λ n. FrameRate when not (bytes_at w place 4 is "FRTE" && number_at w (place + 4) 8 == 6) || not (n == 75)
     otherwise TooManyFrames when number_at (w ++ more) (place + 12) 4 above 1000000) rate
     ∙ ap (λ n. FrameRate when not (bytes_at w place 4 is "FRTE" && number_at w (place + 4) 8 == 6) || not (number_at w (place + 16) 2 == 75)
-    otherwise TooManyFrames when n above 1000000) told
+    otherwise TooManyFrames when n above 1000000) count
 
-behind_frte : (w : List ℕ) (came : Came) (h : Head) (told : ℕ) → Stream
-behind_frte w came h told =
-    with_front (record { version = unwrap_or came.version []; prop = unwrap_or came.prop []; frames = told })
-    (frames_from w (shape_in (unwrap_or came.prop [])) told (body_end h) 4000000 0 (body_place h + 18))
+behind_frte : (w : List ℕ) (came : Came) (h : Head) (count : ℕ) → Stream
+behind_frte w came h count =
+    with_front (record { version = unwrap_or came.version []; prop = unwrap_or came.prop []; frames = count })
+    (frames_from w (shape_in (unwrap_or came.prop [])) count (body_end h) 4000000 0 (body_place h + 18))
 
 in_sound_goes : (w more : List ℕ) (came : Came) (h : Head) → Goes (in_sound w came h) (in_sound (w ++ more) came h)
 unfolding behind_frte
 in_sound_goes w more came h =
-    up_to_goes w more (body_place h) (body_place h + 18) (kept (frte_fault_at w (body_place h)) (behind_frte w came h (number_at w (body_place h + 12) 4)))
-    (kept (frte_fault_at (w ++ more) (body_place h)) (behind_frte (w ++ more) came h (number_at (w ++ more) (body_place h + 12) 4)))
-    (λ there. kept_goes _ _ _ _ (frte_stays w more (body_place h) there)
+    up_to_goes w more (body_place h) (body_place h + 18) (unless (frte_fault_at w (body_place h)) (behind_frte w came h (number_at w (body_place h + 12) 4)))
+    (unless (frte_fault_at (w ++ more) (body_place h)) (behind_frte (w ++ more) came h (number_at (w ++ more) (body_place h + 12) 4)))
+    (λ there. unless_goes _ _ _ _ (frte_stays w more (body_place h) there)
     (subst (λ n. Goes (behind_frte w came h (number_at w (body_place h + 12) 4)) (behind_frte (w ++ more) came h n))
     (sym (number_stays w more 4 (body_place h + 12) (omega (arith, there))))
     (fronted_goes _ _ _ (frames_go w more _ _ _ 4000000 0 _))))
@@ -255,9 +255,9 @@ body_fault_stays w more came h some le = go came.version some
 form_chunk_goes : (w more : List ℕ) (end : ℕ) (came : Came) (h : Head) (s t : Stream) → (came.version ≡ None → 0 < h.size) →
     (body_end h ≤ length w → Goes s t) → Goes (in_form_chunk w end came h s) (in_form_chunk (w ++ more) end came h t)
 form_chunk_goes w more end came h s t some goes =
-    up_to_goes w more h.place (body_end h) (kept (chunk_body_fault w came h) (up_to w h.place (whole_end end h) s))
-    (kept (chunk_body_fault (w ++ more) came h) (up_to (w ++ more) h.place (whole_end end h) t))
-    (λ there. kept_goes _ _ _ _ (body_fault_stays w more came h some there) (up_to_goes w more h.place (whole_end end h) s t (λ all. goes there)))
+    up_to_goes w more h.place (body_end h) (unless (chunk_body_fault w came h) (up_to w h.place (whole_end end h) s))
+    (unless (chunk_body_fault (w ++ more) came h) (up_to (w ++ more) h.place (whole_end end h) t))
+    (λ there. unless_goes _ _ _ _ (body_fault_stays w more came h some there) (up_to_goes w more h.place (whole_end end h) s t (λ all. goes there)))
 
 first_size : (h : Head) (end : ℕ) (came : Came) → chunk_head_fault end came h ≡ None → came.version ≡ None → 0 < h.size
 first_size h end came none e = go came.version e (later_gives_none (Overrun h.place when body_end h above end) _ none)
@@ -349,7 +349,7 @@ head_fault_stays w more le =
     otherwise FormType when not (t is "DSD ")) type
 
 whole : Bool → List ℕ → Stream
-whole b w = elim b [ true ↦ nothing_but (cut_off NotForm) | false ↦ kept (form_head_fault w) (in_form w (form_end w) 1024 nothing_came 16) ]
+whole b w = elim b [ true ↦ nothing_but (cut_off NotForm) | false ↦ unless (form_head_fault w) (in_form w (form_end w) 1024 nothing_came 16) ]
 
 is_whole : (w : List ℕ) → stream w ≡ whole (nat_lt (length w) 16) w
 unfolding stream whole
@@ -363,7 +363,7 @@ more_bytes w more = elim (cases_lt (length w) 16) [
       let longer = length-append w more in
       both_go _ _ _ _ (is_whole w ∙ ap (λ b. whole b w) (le-ltb (length w) 16 le))
       (is_whole (w ++ more) ∙ ap (λ b. whole b (w ++ more)) (le-ltb (length (w ++ more)) 16 (omega (arith, le, longer))))
-      (kept_goes _ _ _ _ (head_fault_stays w more le)
+      (unless_goes _ _ _ _ (head_fault_stays w more le)
       (subst (λ n. Goes (in_form w (form_end w) 1024 nothing_came 16) (in_form (w ++ more) (12 + n) 1024 nothing_came 16))
       (sym (number_stays w more 8 4 (omega (arith, le)))) (form_goes w more (form_end w) 1024 nothing_came 16)))
 ]

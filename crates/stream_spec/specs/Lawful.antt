@@ -21,7 +21,7 @@ IsShort f frame = length frame ≤ 2 * (sound_bytes f + 1)
 abbrev pub IsPartOf : List ℕ → List ℕ → Type 0
 IsPartOf w frame = (place : ℕ) × (n : ℕ) × (frame ≡ bytes_at w place n)
 
--- each frame is a part of the bytes, none is too long, no more come than are told, and as many where the stream ends behind the last of them
+-- each frame is a part of the bytes, none is too long, no more come than the frame count, and as many where the stream ends behind the last of them
 pub record AreLawful (w : List ℕ) (front : Front) (s : Stream) : Type 0 where
   pub parts : AllByRecursion (IsPartOf w) s.frames
   pub short : AllByRecursion (IsShort (shape_in front.prop)) s.frames

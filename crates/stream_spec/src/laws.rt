@@ -10,8 +10,8 @@ pub fn accepted_files_stream()
     ensures { StreamLaw }
 {}
 
-/// What stands in front of a stream's frames keeps its rules, no frame is longer than frames may be, no more come than are told, and a stream
-/// that ends behind its last frame has as many as are told.
+/// What stands in front of a stream's frames keeps its rules, no frame is longer than frames may be, no more come than the
+/// frame count, and a stream that ends behind its last frame has as many as that says.
 pub fn streams_are_lawful()
     ensures { LawfulStreamsLaw }
 {}

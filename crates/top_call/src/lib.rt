@@ -55,10 +55,10 @@ pub struct Left<'a> {
     pub report: MemorySink<'a>,
 }
 
-/// What is told of a run: its status, whether what is written is a front of the bytes that are wanted, whether it is all of them, and
+/// What is seen of a run: its status, whether what is written is a front of the bytes that are wanted, whether it is all of them, and
 /// whether the report is the lines that are wanted.
 #[derive(Clone, Copy, Debug, PartialEq, Eq)]
-pub struct Told {
+pub struct Seen {
     pub status: u8,
     pub is_front: bool,
     pub is_whole: bool,
@@ -66,10 +66,10 @@ pub struct Told {
 }
 
 impl<'a> Left<'a> {
-    /// What is told of it beside these bytes and lines.
-    pub fn told(&self, wanted: &[u8], lines: &str) -> Told {
+    /// What is seen of it beside these bytes and lines.
+    pub fn seen(&self, wanted: &[u8], lines: &str) -> Seen {
         let written = self.sink.written();
-        Told {
+        Seen {
             status: self.status,
             is_front: wanted.starts_with(written),
             is_whole: written == wanted,
@@ -98,8 +98,8 @@ pub fn run_over<'a, E: Threads + Sync, S: Source>(
     })
 }
 
-// What is told of a run over a file by reads of these sizes.
-fn told_in_pieces(
+// What is seen of a run over a file by reads of these sizes.
+fn seen_in_pieces(
     rt: &(impl Threads + Sync),
     alloc: Global,
     words: &[String],
@@ -107,10 +107,10 @@ fn told_in_pieces(
     pieces: &[usize],
     written: &[u8],
     lines: &str,
-) -> Result<Told, AllocError> {
+) -> Result<Seen, AllocError> {
     let mut source = MemorySource::new(file, pieces, &[]);
     let left = run_over(rt, alloc, words, &mut source, 10_000, &[], &[])?;
-    Ok(left.told(written, lines))
+    Ok(left.seen(written, lines))
 }
 
 /// Runs words over a file by whole reads and by reads of one byte, into a sink of 10,000 bytes: the first part of either run that
@@ -127,14 +127,14 @@ pub fn difference(
     let words = split(alloc, text)?;
     let pieces: [&[usize]; 2] = [&[], &[1]];
     for pieces in &pieces {
-        let told = told_in_pieces(rt, alloc, &words, file, pieces, written, lines)?;
-        if !told.is_reported {
+        let seen = seen_in_pieces(rt, alloc, &words, file, pieces, written, lines)?;
+        if !seen.is_reported {
             return Ok(Some(Part::Report));
         }
-        if told.status != status {
+        if seen.status != status {
             return Ok(Some(Part::Status));
         }
-        if !told.is_whole {
+        if !seen.is_whole {
             return Ok(Some(Part::Output));
         }
     }

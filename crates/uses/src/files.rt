@@ -15,12 +15,12 @@ use dst_streams::{Failed, Source};
 use frame_index::{Index, walk};
 use std::alloc::Global;
 
-/// What is told of each frame.
+/// What is answered of each frame.
 pub trait Listener {
     fn hear(&mut self, frame: &[u8], channels: Channels);
 }
 
-/// Opens a coded file, and tells its stored frames one after the other. Gives their number.
+/// Opens a coded file, and gives its stored frames one after the other. Gives their number.
 pub fn frames_of_file<S: Source, L: Listener>(
     alloc: Global,
     source: &mut S,

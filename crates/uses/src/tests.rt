@@ -18,7 +18,7 @@ impl Listener for Heard {
 }
 
 #[test]
-fn the_frames_of_a_file_are_told(rt: HostRuntime) -> Result<(), Fail> {
+fn the_frames_of_a_file_are_answered(rt: HostRuntime) -> Result<(), Fail> {
     let mut source = HonestSource::new(EXAMPLE);
     let mut heard = Heard { bytes: 0 };
     let count = frames_of_file(rt.alloc(), &mut source, &mut heard);

@@ -24,9 +24,9 @@ fn two_channels(coef: i16, second: bool) -> Option<Params> {
 
 // Whether channel 1 has this filter and its table, the half bit of each channel, the channel that it is alike, and the reserved symbol's
 // probability.
-type Told = ([bool; 2], [bool; 2], [usize; 2], u32);
+type Seen = ([bool; 2], [bool; 2], [usize; 2], u32);
 
-fn told(coef: i16, second: bool) -> Option<Told> {
+fn seen(coef: i16, second: bool) -> Option<Seen> {
     let params = two_channels(coef, second)?;
     if params.half_prob.len() != 2 {
         return None;
@@ -52,6 +52,6 @@ fn channels_have_their_tables(rt: HostRuntime) {
     ];
     for &(coef, second, alike, reserved) in &CASES {
         let wanted = ([true; 2], [false, second], [0, alike], reserved);
-        same(&rt, &told(coef, second), &Some(wanted));
+        same(&rt, &seen(coef, second), &Some(wanted));
     }
 }

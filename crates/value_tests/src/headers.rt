@@ -58,8 +58,8 @@ fn headers_end_where_their_code_begins(rt: HostRuntime) {
         ),
     ];
     for &(frame, first, coefs, entries) in &CASES {
-        let told = code_behind(frame, coefs, entries);
-        same(&rt, &(frame, told), &(frame, Some((first, true, true))));
+        let seen = code_behind(frame, coefs, entries);
+        same(&rt, &(frame, seen), &(frame, Some((first, true, true))));
     }
 }
 
@@ -74,7 +74,7 @@ fn fault_of(count: u32, frame: &[u8]) -> Option<FrameFault> {
 }
 
 #[test]
-fn the_first_field_at_fault_is_told(rt: HostRuntime) {
+fn the_first_field_at_fault_is_answered(rt: HostRuntime) {
     const CASES: [(u32, &[u8], Reason, u64); 12] = [
         (1, &[], Reason::Truncated, 0),
         (1, &[0x01], Reason::PlainStuffing, 2),

@@ -10,7 +10,7 @@ use table_code::{
     write_table,
 };
 
-// At the head of few bytes: the number that so many bits are, and the residual with the place behind it; none of more bytes than 272.
+// At the start of few bytes: the number that so many bits are, and the residual with the place behind it; none of more bytes than 272.
 type Read = (Option<u32>, Option<(Option<i32>, u64)>);
 
 fn read_of(bytes: &[u8], length: u32, m: u32) -> Read
@@ -84,17 +84,17 @@ fn residuals_have_their_bits(rt: HostRuntime) {
     }
 }
 
-// The first residual that isn't read back by m as it was written, and what is told of it.
+// The first residual that isn't read back by m as it was written, and what is seen of it.
 fn first_other(alloc: Global, m: u32) -> Result<Option<(i32, Written)>, AllocError>
     requires { m ≤ 7 }
 {
     let mut writer = BitWriter::new(alloc, 272)?;
     for size in 0..4096u32 {
         let r = size as i32 - 2048;
-        let told = written(&mut writer, r, m);
-        let length = u64::from(told.0);
-        if (told.1, told.2, told.5) != (true, length, Some((Some(r), length))) {
-            return Ok(Some((r, told)));
+        let seen = written(&mut writer, r, m);
+        let length = u64::from(seen.0);
+        if (seen.1, seen.2, seen.5) != (true, length, Some((Some(r), length))) {
+            return Ok(Some((r, seen)));
         }
     }
     Ok(None)
@@ -192,7 +192,7 @@ fn tables_are_written(rt: HostRuntime) {
     same(&rt, &write_two_tables(rt.alloc()), &Some(Ok(wanted)));
 }
 
-// Whether the filter and the probabilities at the head of the bytes above are those that were written, and the place behind them.
+// Whether the filter and the probabilities at the start of the bytes above are those that were written, and the place behind them.
 fn read_two_tables() -> Result<(bool, bool, u64), FrameFault> {
     let mut reader = BitReader::new(&TWO_TABLES);
     let _left = reader.left();
@@ -234,7 +234,7 @@ fn filter_fault(bytes: &[u8]) -> Option<FrameFault> {
 }
 
 #[test]
-fn first_field_at_fault_is_told(rt: HostRuntime) {
+fn first_field_at_fault_is_answered(rt: HostRuntime) {
     const CASES: [(&[u8], Reason, u64); 4] = [
         // 0000010 1, then 11
         (&[0x05, 0xc0], Reason::MethodReserved, 8),

@@ -89,7 +89,7 @@ fn lines_of_what_is_done_are_those_of_reports(rt: HostRuntime) {
             longest,
         ),
         (lines::entry(1, 4870, 4705), "1 4870 4705\n"),
-        (lines::with_word("kind ", "coded"), "kind coded\n"),
+        (lines::with_text("kind ", "coded"), "kind coded\n"),
         (lines::with_number("channels ", 1), "channels 1\n"),
         (lines::with_bytes("sound ", 4705), "sound 4705 bytes\n"),
     ];

@@ -105,10 +105,10 @@ offending_frame_is_refused = inl (record {
   answer = refl;
 })
 
--- ---- the head of a frame
-pub head_of_a_plain_frame_is_shown : Outcome (words ("show" ∷ "a" ∷ "1" ∷ [])) two_coded (says 0 [] ("frame 1 plain length 4705" ∷ []))
+-- ---- the header of a frame
+pub header_of_a_plain_frame_is_shown : Outcome (words ("show" ∷ "a" ∷ "1" ∷ [])) two_coded (says 0 [] ("frame 1 plain length 4705" ∷ []))
 unfolding outcome_open
-head_of_a_plain_frame_is_shown = inr (
+header_of_a_plain_frame_is_shown = inr (
   (λ fault r. plain_is_not_refused _ _ mono_shape filled_up fault r.0, tt),
   (_, inl (85 ∷ replicate 4703 105, plain_frame_is_plain _ _ filled_up, refl), refl),
 )

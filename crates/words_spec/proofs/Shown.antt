@@ -1,4 +1,4 @@
--- The head of a coded frame, shown also where the frame offends behind it.
+-- The header of a coded frame, shown also where the frame offends behind it.
 use Rattle.std.proofs.Common.{[], ◌∷◌, take, replicate, refl, inl, inr, false, pos, arith, ◌≡◌, List, ap, sym, subst, ◌++◌}
 use Rattle.std.specs.Int.Signed.{le_z_yes}
 use Rattle.dst_spec.specs.Bits.{low_bits, bits}
@@ -76,10 +76,10 @@ header = record {
   spelled = refl;
 }
 
-pub head_of_a_coded_frame_is_shown : Outcome (words ("show" ∷ "a" ∷ "0" ∷ [])) example
+pub header_of_a_coded_frame_is_shown : Outcome (words ("show" ∷ "a" ∷ "0" ∷ [])) example
     (says 0 [] ("frame 0 coded length 6 filters 1 tables 1 code 45" ∷ []))
 unfolding outcome_open bits low_bits
-head_of_a_coded_frame_is_shown = inr (
+header_of_a_coded_frame_is_shown = inr (
   (λ fault r. meaning_is_not_refused _ _ _ mono_shape frame_of_ones_is_bytes (frame_with_code_of_zeros 4704) fault r.0, tt),
   (_, inr (params, 45, omega arith, header, refl), refl),
 )
@@ -94,10 +94,10 @@ offends_at_its_code : (fault : FrameFault) → Offends (shape_of 1 1) (252 ∷ 0
 unfolding fields_open
 offends_at_its_code fault e = let same : record { reason = FirstCodeBit; bit = 45 } ≡ fault = cc in ap (λ f. f.reason) (sym same)
 
-pub head_of_an_offending_frame_is_shown : Outcome (words ("show" ∷ "a" ∷ "0" ∷ [])) (but 157 252 example)
+pub header_of_an_offending_frame_is_shown : Outcome (words ("show" ∷ "a" ∷ "0" ∷ [])) (but 157 252 example)
     (says 0 [] ("frame 0 coded length 6 filters 1 tables 1 code 45" ∷ []))
 unfolding outcome_open bits low_bits
-head_of_an_offending_frame_is_shown = inr ((λ fault r. r.1 (offends_at_its_code fault r.0), tt), (_, inr (params, 45, omega arith, header, refl), refl))
+header_of_an_offending_frame_is_shown = inr ((λ fault r. r.1 (offends_at_its_code fault r.0), tt), (_, inr (params, 45, omega arith, header, refl), refl))
 
 pub offending_frame_is_not_refused_by_show : (o : Answer) → IsStopped (show_frame 0) (but 157 252 example) (accepted (but 157 252 example)) o → ⊥
 unfolding outcome_open

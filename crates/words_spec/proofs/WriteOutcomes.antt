@@ -4,7 +4,7 @@ use Rattle.std.specs.Prelude.{⊤}
 use Rattle.level_spec.specs.Picks.{level_picks}
 use Rattle.dsdiff_spec.specs.Made.{made_sound, plain_form}
 use Rattle.words_spec.specs.Outcome.{Outcome}
-use Rattle.dsdiff_spec.proofs.Files.{empty, empty_coded, tailed, tailed_coded, two, two_coded, two_cut}
+use Rattle.dsdiff_spec.proofs.Files.{empty, empty_coded, three_behind, three_behind_coded, two, two_coded, two_cut}
 use Rattle.words_spec.proofs.Commands.{words}
 use Rattle.words_spec.proofs.Outcomes.{outcome_open, says}
 use Rattle.dsdiff_spec.specs.Samples.{sound_of}
@@ -18,8 +18,8 @@ pub file_without_sound_is_coded : Outcome (words ("encode" ∷ "a" ∷ "b" ∷ [
 unfolding writing_open
 file_without_sound_is_coded = inr (tt, refl)
 
-pub bytes_behind_the_form_are_coded : Outcome (words ("encode" ∷ "a" ∷ "b" ∷ "--level" ∷ "2" ∷ [])) tailed
-    (says 0 tailed_coded ("coded 0 frames into 0 bytes" ∷ []))
+pub bytes_behind_the_form_are_coded : Outcome (words ("encode" ∷ "a" ∷ "b" ∷ "--level" ∷ "2" ∷ [])) three_behind
+    (says 0 three_behind_coded ("coded 0 frames into 0 bytes" ∷ []))
 unfolding writing_open
 bytes_behind_the_form_are_coded = inr (tt, refl)
 

@@ -138,8 +138,8 @@ fn refused<R: Threads + Sync>(
 }
 
 #[test]
-fn the_earlier_of_two_refused_frames_is_told(rt: HostRuntime) {
-    // The first bytes of each frame, how much is written, and the frame that is told.
+fn the_earlier_of_two_refused_frames_is_answered(rt: HostRuntime) {
+    // The first bytes of each frame, how much is written, and the frame that is answered.
     const CASES: [(&[u8], &[u8], usize, u32); 2] = [
         (b"\x01", b"\xfc\0\0\x05\xff\xfc", 126, 0),
         (b"\0", b"\x01", 4830, 1),

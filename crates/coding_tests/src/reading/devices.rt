@@ -39,7 +39,7 @@ fn read_fails<R: Threads + Sync>(
     Ok((answer, front_of(whole, sink.written())))
 }
 
-// A read that fails is told, and a front of the plain file is written. Of the first call where that isn't so: whether more than so many calls
+// A read that fails is answered, and a front of the plain file is written. Of the first call where that isn't so: whether more than so many calls
 // are before it, and its run.
 fn first_read<R: Threads + Sync>(
     rt: &R,
@@ -112,7 +112,7 @@ fn write_fails<R: Threads + Sync>(
     Ok((answer, front_of(whole, sink.written())))
 }
 
-// A write that fails is told, and a front of the plain file is written. Of the first call where that isn't so: whether more than four calls are
+// A write that fails is answered, and a front of the plain file is written. Of the first call where that isn't so: whether more than four calls are
 // before it, how many of them leave the whole file written, and its run.
 fn first_write<R: Threads + Sync>(
     rt: &R,

@@ -1,6 +1,6 @@
 // Files without sound of one channel at 64 times 44.1 kHz, plain and coded.
 
-/// The coded file of a plain one without sound: no frame, an empty index, and what is kept of the plain file.
+/// The coded file of a plain one without sound: no frame, an empty index, and what `KEPT` says of the plain one.
 pub(super) const CODED_SILENT: &[u8; 210] = b"FRM8\0\0\0\0\0\0\0\xc6DSD \
 FVER\0\0\0\0\0\0\0\x04\x01\x05\0\0\
 PROP\0\0\0\0\0\0\0\x42SND \

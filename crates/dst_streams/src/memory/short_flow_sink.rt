@@ -62,16 +62,16 @@ impl Sink for ShortFlowSink {
     ghost appended_within = { λ s xs told. le_of_both s.appended (take s.len s.bytes) xs s.appended_within told };
 
     fn append(&mut self, piece: &[u8]) -> Result<(), Failed> {
-        let kept = piece.len().min(self.prefix - self.len);
-        let fits = kept == piece.len();
+        let taken = piece.len().min(self.prefix - self.len);
+        let fits = taken == piece.len();
         if self.is_cut {
             self.faults = self.faults.saturating_add(1);
             return Err(Failed);
         }
-        self.bytes[self.len..self.len + kept].copy_from_slice(&piece[..kept]);
-        self.len += kept;
+        self.bytes[self.len..self.len + taken].copy_from_slice(&piece[..taken]);
+        self.len += taken;
         if fits {
-            self.appended += kept as u64;
+            self.appended += taken as u64;
             return Ok(());
         }
         self.is_cut = true;

@@ -77,8 +77,8 @@ impl<'a> Sink for MemorySink<'a> {
                 return Ok(());
             }
         }
-        let kept = room.min(piece.len() / 2);
-        let _ = self.bytes.extend_from_slice(&piece[..kept]);
+        let taken = room.min(piece.len() / 2);
+        let _ = self.bytes.extend_from_slice(&piece[..taken]);
         self.faults = self.faults.saturating_add(1);
         Err(Failed)
     }

@@ -39,7 +39,7 @@ pub(crate) enum Made {
     // The coded file of a plain one without sound, with this front of `KEPT` and these bytes behind `CMPR`.
     CodedSilent(&'static [u8], &'static [u8]),
     // A plain file without sound, with three bytes behind it.
-    SilentAndTail,
+    SilentAndThree,
     // A file with two chunks that tell of a plain file, each lawful alone.
     KeptTwice,
     // A plain file with a chunk that a coded one has.
@@ -66,8 +66,8 @@ pub(crate) fn file_of(alloc: Global, file: Made) -> Result<Vec<u8>, AllocError> 
         Made::DoublePlain => double_plain(alloc),
         Made::DoubleCoded => double_coded(alloc),
         Made::NoFrames => coded(alloc, 0, &[], &[]),
-        Made::CodedSilent(front, tail) => coded_silent(alloc, front, tail),
-        Made::SilentAndTail => joined(alloc, &[SILENT, &[1, 2, 3]]),
+        Made::CodedSilent(front, behind) => coded_silent(alloc, front, behind),
+        Made::SilentAndThree => joined(alloc, &[SILENT, &[1, 2, 3]]),
         Made::KeptTwice => kept_twice(alloc),
         Made::KeptPlain => kept_plain(alloc),
     }
@@ -164,8 +164,8 @@ fn double_coded(alloc: Global) -> Result<Vec<u8>, AllocError> {
 }
 
 fn kept_twice(alloc: Global) -> Result<Vec<u8>, AllocError> {
-    let kept = chunk(alloc, b"KEPT", &[NOTHING_KEPT, PLAIN_CMPR], 0)?;
-    let both = joined(alloc, &[b"DSTI\0\0\0\0\0\0\0\0", &kept, &kept])?;
+    let origin = chunk(alloc, b"KEPT", &[NOTHING_KEPT, PLAIN_CMPR], 0)?;
+    let both = joined(alloc, &[b"DSTI\0\0\0\0\0\0\0\0", &origin, &origin])?;
     coded(alloc, 0, &[], &both)
 }
 

@@ -218,7 +218,7 @@ fn status_and_front(
     let words = split(alloc, text)?;
     let mut source = HonestSource::new(&file);
     let left = run_over(rt, alloc, &words, &mut source, 10_000, writes, reports)?;
-    Ok((left.status, left.told(&sound, "").is_front))
+    Ok((left.status, left.seen(&sound, "").is_front))
 }
 
 // The status where the report fails at its first call.

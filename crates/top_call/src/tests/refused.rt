@@ -65,7 +65,7 @@ fn a_file_is_refused_by_its_first_rule(rt: HostRuntime) {
 
 #[test]
 fn what_is_too_much_is_refused_by_name(rt: HostRuntime) {
-    // Two chunks that tell of a plain file; a frame of one byte more than twice a sound and two; a million frames told where one
+    // Two chunks that tell of a plain file; a frame of one byte more than twice a sound and two; a million frames in `FRTE` where one
     // stands.
     const ROWS: [(Made, &str); 3] = [
         (KeptTwice, "file refused: 21 KeptBad\n"),
@@ -135,9 +135,9 @@ fn a_frame_is_refused_by_its_first_fault(rt: HostRuntime) {
 }
 
 #[test]
-fn the_first_refused_frame_is_told_behind_the_earlier_sounds(rt: HostRuntime) {
+fn the_first_refused_frame_is_answered_behind_the_earlier_sounds(rt: HostRuntime) {
     const CODE: &[u8; 6] = b"\xfc\0\0\x05\xff\xfc";
-    // The first bytes of each frame, how much is written, and the frame that is told with its fault.
+    // The first bytes of each frame, how much is written, and the frame that is answered with its fault.
     const ROWS: [Row; 4] = [
         (
             "decode in.dff out.dff\nframe 0 refused: 2 PlainStuffing at bit 2\n",
@@ -168,23 +168,23 @@ fn the_first_refused_frame_is_told_behind_the_earlier_sounds(rt: HostRuntime) {
 }
 
 // A status, whether nothing is written, and whether the report is the line of words that aren't understood.
-type Told = Result<(u8, bool, bool), AllocError>;
+type Seen = Result<(u8, bool, bool), AllocError>;
 
 // A run by these words over devices that fail at their first call.
-fn told_of(rt: &(impl Threads + Sync), alloc: Global, text: &str) -> Told {
+fn seen_of(rt: &(impl Threads + Sync), alloc: Global, text: &str) -> Seen {
     let words = split(alloc, text)?;
     let mut source = MemorySource::new(EXAMPLE, &[], &[0]);
     let left = run_over(rt, alloc, &words, &mut source, 10_000, &[0], &[])?;
-    let told = left.told(&[], "words not understood\n");
-    Ok((told.status, told.is_whole, told.is_reported))
+    let seen = left.seen(&[], "words not understood\n");
+    Ok((seen.status, seen.is_whole, seen.is_reported))
 }
 
 // The same of no words, over a report that fails at its first call, and of the front of the line.
-fn told_of_none(rt: &(impl Threads + Sync), alloc: Global) -> Result<(u8, bool), AllocError> {
+fn seen_of_none(rt: &(impl Threads + Sync), alloc: Global) -> Result<(u8, bool), AllocError> {
     let mut source = HonestSource::new(EXAMPLE);
     let left = run_over(rt, alloc, &[], &mut source, 10_000, &[], &[0])?;
-    let told = left.told(&[], "words not ");
-    Ok((told.status, told.is_reported))
+    let seen = left.seen(&[], "words not ");
+    Ok((seen.status, seen.is_reported))
 }
 
 #[test]
@@ -199,8 +199,8 @@ fn other_words_are_not_understood_and_touch_nothing(rt: HostRuntime) {
         "undo a b",
     ];
     for &text in &CASES {
-        let told = told_of(&rt, rt.alloc(), text);
-        same(&rt, &(text, told), &(text, Ok((1, true, true))));
+        let seen = seen_of(&rt, rt.alloc(), text);
+        same(&rt, &(text, seen), &(text, Ok((1, true, true))));
     }
-    same(&rt, &told_of_none(&rt, rt.alloc()), &Ok((7, true)));
+    same(&rt, &seen_of_none(&rt, rt.alloc()), &Ok((7, true)));
 }

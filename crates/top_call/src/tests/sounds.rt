@@ -1,8 +1,8 @@
 // Files whose sound comes back.
 use super::compared::same;
 use super::files::Made::{
-    Checksums, CodedSilent, DoubleCoded, DoublePlain, Frame, Known, OddPlain, Plain, SilentAndTail,
-    TwoFrames,
+    Checksums, CodedSilent, DoubleCoded, DoublePlain, Frame, Known, OddPlain, Plain,
+    SilentAndThree, TwoFrames,
 };
 use super::files::{Made, file_of};
 use super::{DECODE, NOTHING, Row, all_give};
@@ -71,7 +71,7 @@ fn sounds_come_back(rt: HostRuntime) {
     all_give(&rt, rt.alloc(), &SOUNDS);
 }
 
-// What is kept of no sound by version 1, and by version 2 with a pad byte.
+// What `KEPT` says of no sound by version 1, and by version 2 with a pad byte.
 const BY_VERSION_1: Made = CodedSilent(b"\x01\0\0\0\0\0\0\0\0", &[]);
 
 const KEPT_BAD: Made = CodedSilent(b"\x02\0\0\0\0\0\0\0\0\x01\0\0\0\x03", &[1, 2, 3]);
@@ -95,7 +95,7 @@ fn what_a_plain_file_has_besides_its_sound_comes_back(rt: HostRuntime) {
             "decode in.dff out.dff\ndecoded 0 frames into 0 bytes\n",
             CodedSilent(THREE_KEPT, &[1, 2, 3]),
             0,
-            SilentAndTail,
+            SilentAndThree,
         ),
         (
             "decode in.dff out.dff\nfile refused: 21 KeptBad\n",

@@ -4,9 +4,9 @@ use example_files::{odd_plain, two_frames, with_bytes};
 use std::alloc::{AllocError, Global};
 use std::test::Fail;
 use std::thread::Threads;
-use top_call::{Left, Told, run_over, run_words, split};
+use top_call::{Left, Seen, run_over, run_words, split};
 
-// What is told of decoding the coded file of two frames over devices of which these calls fail, beside the plain file and a line.
+// What is seen of decoding the coded file of two frames over devices of which these calls fail, beside the plain file and a line.
 fn decoded(
     rt: &(impl Threads + Sync),
     alloc: Global,
@@ -14,22 +14,22 @@ fn decoded(
     writes: &[u64],
     reports: &[u64],
     line: &str,
-) -> Result<Told, AllocError> {
+) -> Result<Seen, AllocError> {
     let file = two_frames(alloc)?;
     let whole = odd_plain(alloc)?;
     let words = split(alloc, "decode in.dff out.dff")?;
     let mut source = MemorySource::new(&file, &[], reads);
     let left = run_over(rt, alloc, &words, &mut source, 10_000, writes, reports)?;
-    Ok(left.told(&whole, line))
+    Ok(left.seen(&whole, line))
 }
 
 #[test]
 fn a_read_that_fails_leaves_the_front_of_the_output(rt: HostRuntime) -> Result<(), Fail> {
     for call in 0..8u64 {
         let fails = [call];
-        let told = decoded(&rt, rt.alloc(), &fails, &[], &[], "read fault\n")?;
+        let seen = decoded(&rt, rt.alloc(), &fails, &[], &[], "read fault\n")?;
         assert_eq!(rt;
-            (told.status, told.is_front, told.is_reported),
+            (seen.status, seen.is_front, seen.is_reported),
             (2, true, true),
             "at call {call}"
         );
@@ -39,7 +39,7 @@ fn a_read_that_fails_leaves_the_front_of_the_output(rt: HostRuntime) -> Result<(
 
 #[test]
 fn an_append_that_fails_leaves_the_front_of_the_output(rt: HostRuntime) {
-    let wanted = Told {
+    let wanted = Seen {
         status: 3,
         is_front: true,
         is_whole: false,
@@ -47,8 +47,8 @@ fn an_append_that_fails_leaves_the_front_of_the_output(rt: HostRuntime) {
     };
     for call in 0..4u64 {
         let fails = [call];
-        let told = decoded(&rt, rt.alloc(), &[], &fails, &[], "write fault\n");
-        assert_eq!(rt; told, Ok(wanted), "at call {call}");
+        let seen = decoded(&rt, rt.alloc(), &[], &fails, &[], "write fault\n");
+        assert_eq!(rt; seen, Ok(wanted), "at call {call}");
     }
 }
 
@@ -85,9 +85,9 @@ fn a_report_that_fails_leaves_the_output_whole(rt: HostRuntime) -> Result<(), Fa
         (&[1], 0, "decoded 2 frames into 4705 bytes\n"),
     ];
     for &(fails, status, line) in &CASES {
-        let told = decoded(&rt, rt.alloc(), &[], &[], fails, line)?;
+        let seen = decoded(&rt, rt.alloc(), &[], &[], fails, line)?;
         assert_eq!(rt;
-            (told.status, told.is_whole, told.is_reported),
+            (seen.status, seen.is_whole, seen.is_reported),
             (status, true, true)
         );
     }
@@ -104,15 +104,15 @@ fn without_sizes(alloc: Global) -> Result<Vec<u8>, AllocError> {
     with_bytes(alloc, &without_one, 114, &[0; 8])
 }
 
-// What is told beside that file, beside the same with the size of its sound, and beside the file with both.
-fn told_by_sizes(alloc: Global, left: &Left, line: &str) -> Result<(Told, Told, Told), AllocError> {
+// What is seen beside that file, beside the same with the size of its sound, and beside the file with both.
+fn seen_by_sizes(alloc: Global, left: &Left, line: &str) -> Result<(Seen, Seen, Seen), AllocError> {
     let whole = two_frames(alloc)?;
     let without_sizes = without_sizes(alloc)?;
     let sound_sized = with_bytes(alloc, &without_sizes, 114, SOUND_SIZE)?;
     Ok((
-        left.told(&without_sizes, line),
-        left.told(&sound_sized, line),
-        left.told(&whole, line),
+        left.seen(&without_sizes, line),
+        left.seen(&sound_sized, line),
+        left.seen(&whole, line),
     ))
 }
 
@@ -123,12 +123,12 @@ fn coded(
     reads: &[u64],
     writes: &[u64],
     line: &str,
-) -> Result<(Told, Told, Told), AllocError> {
+) -> Result<(Seen, Seen, Seen), AllocError> {
     let file = odd_plain(alloc)?;
     let words = split(alloc, "encode a b --level 0")?;
     let mut source = MemorySource::new(&file, &[], reads);
     let left = run_over(rt, alloc, &words, &mut source, 10_000, writes, &[])?;
-    told_by_sizes(alloc, &left, line)
+    seen_by_sizes(alloc, &left, line)
 }
 
 #[test]

@@ -31,26 +31,28 @@ fn decoded(
     let words = split(alloc, text)?;
     let mut source = MemorySource::new(&file, &[], fails);
     let left = run_over(rt, alloc, &words, &mut source, 200_000, &[], &[])?;
-    let told = left.told(&[], "frame 5 refused: 1 Truncated at bit 0\n");
-    Ok((told.status, left.sink.written().len(), told.is_reported))
+    let seen = left.seen(&[], "frame 5 refused: 1 Truncated at bit 0\n");
+    Ok((seen.status, left.sink.written().len(), seen.is_reported))
 }
 
 #[test]
-fn of_forty_frames_the_first_refused_is_told(rt: HostRuntime) {
+fn of_forty_frames_the_first_refused_is_answered(rt: HostRuntime) {
     const CASES: [&str; 3] = [
         "decode a b --workers 1",
         "decode a b --workers 5",
         "decode a b --workers 16",
     ];
     for text in &CASES {
-        let told = decoded(&rt, rt.alloc(), text, &[]);
-        assert_eq!(rt; told, Ok((6, 126 + 5 * 4704, true)), "{text}");
+        let seen = decoded(&rt, rt.alloc(), text, &[]);
+        assert_eq!(rt; seen, Ok((6, 126 + 5 * 4704, true)), "{text}");
     }
 }
 
 #[test]
-fn a_read_that_fails_ahead_is_told_behind_the_earlier_frames(rt: HostRuntime) -> Result<(), Fail> {
-    let mut told = [false; 2];
+fn a_read_that_fails_ahead_is_answered_behind_the_earlier_frames(
+    rt: HostRuntime,
+) -> Result<(), Fail> {
+    let mut seen = [false; 2];
     // The calls in front of the frames are fewer than 200; each frame that isn't empty takes one.
     for call in 0..250u64 {
         let fails = [call];
@@ -58,11 +60,11 @@ fn a_read_that_fails_ahead_is_told_behind_the_earlier_frames(rt: HostRuntime) ->
         let frames = size.saturating_sub(126) / 4704;
         let is_right = status == 6 && frames == 5 || status == 2 && frames <= 5;
         assert!(rt; is_right, "at call {call}");
-        told[0] = told[0] || (status == 2 && frames == 4);
-        told[1] = told[1] || status == 6;
+        seen[0] = seen[0] || (status == 2 && frames == 4);
+        seen[1] = seen[1] || status == 6;
     }
     // A read of frame 4 that fails leaves the sound of four frames; one behind frame 5 changes nothing.
-    assert_eq!(rt; told, [true; 2]);
+    assert_eq!(rt; seen, [true; 2]);
     Ok(())
 }
 

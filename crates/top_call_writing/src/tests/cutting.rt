@@ -7,7 +7,7 @@ use example_files::{EXAMPLE, SILENT, two_frames};
 use std::alloc::{AllocError, Global};
 use std::test::Fail;
 use std::thread::Threads;
-use top_call::{Told, run_over, split};
+use top_call::{Seen, run_over, split};
 
 #[test]
 fn frames_are_cut_out_of_a_coded_file(rt: HostRuntime) {
@@ -48,19 +48,19 @@ fn frames_are_cut_out_of_a_coded_file(rt: HostRuntime) {
     all_give(&rt, rt.alloc(), &ROWS);
 }
 
-// What is told of a run that cuts the second frame out, over a source and into a sink of which these calls fail.
+// What is seen of a run that cuts the second frame out, over a source and into a sink of which these calls fail.
 fn cut_second(
     rt: &(impl Threads + Sync),
     alloc: Global,
     reads: &[u64],
     writes: &[u64],
-) -> Result<Told, AllocError> {
+) -> Result<Seen, AllocError> {
     let file = two_frames(alloc)?;
     let whole = file_of(alloc, SecondAlone)?;
     let words = split(alloc, "cut a b 1 1")?;
     let mut source = MemorySource::new(&file, &[], reads);
     let left = run_over(rt, alloc, &words, &mut source, 10_000, writes, &[])?;
-    Ok(left.told(&whole, ""))
+    Ok(left.seen(&whole, ""))
 }
 
 #[test]
@@ -82,22 +82,22 @@ fn a_device_that_fails_leaves_the_front_of_what_is_cut(rt: HostRuntime) -> Resul
     Ok(())
 }
 
-// What is told of a run that cuts the first frame out, into a sink that lacks room for one byte.
-fn cut_without_room(rt: &(impl Threads + Sync), alloc: Global) -> Result<Told, AllocError> {
+// What is seen of a run that cuts the first frame out, into a sink that lacks room for one byte.
+fn cut_without_room(rt: &(impl Threads + Sync), alloc: Global) -> Result<Seen, AllocError> {
     let file = two_frames(alloc)?;
     let whole = file_of(alloc, FirstAlone)?;
     let words = split(alloc, "cut a b 0 0")?;
     let mut source = HonestSource::new(&file);
     let room = whole.len().saturating_sub(1);
     let left = run_over(rt, alloc, &words, &mut source, room, &[], &[])?;
-    Ok(left.told(&whole, "write fault\n"))
+    Ok(left.seen(&whole, "write fault\n"))
 }
 
 #[test]
 fn a_cut_into_a_sink_without_room_holds_what_fits(rt: HostRuntime) -> Result<(), Fail> {
-    let told = cut_without_room(&rt, rt.alloc())?;
+    let seen = cut_without_room(&rt, rt.alloc())?;
     assert_eq!(rt;
-        (told.status, told.is_front, told.is_reported),
+        (seen.status, seen.is_front, seen.is_reported),
         (3, true, true)
     );
     Ok(())

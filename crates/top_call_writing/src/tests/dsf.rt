@@ -4,7 +4,7 @@ use std::alloc::{AllocError, Global};
 use std::thread::Threads;
 use top_call::{Part, difference, run_over, split};
 
-// The head of a file of twelve samples of one channel, with 1 bit per sample.
+// The header of a file of twelve samples of one channel, with 1 bit per sample.
 const HEAD: &[u8; 92] = b"DSD \x1c\0\0\0\0\0\0\0\x5c\x10\0\0\0\0\0\0\0\0\0\0\0\0\0\0\
 fmt \x34\0\0\0\0\0\0\0\x01\0\0\0\0\0\0\0\x01\0\0\0\x01\0\0\0\0\x11\x2b\0\x01\0\0\0\
 \x0c\0\0\0\0\0\0\0\0\x10\0\0\0\0\0\0data\x0c\x10\0\0\0\0\0\0";
@@ -46,13 +46,13 @@ fn coded_and_back(
     let encode = split(alloc, words[0])?;
     let mut source = HonestSource::new(file);
     let left = run_over(rt, alloc, &encode, &mut source, 20_000, &[], &[])?;
-    let told = left.told(&[], lines[0]);
+    let seen = left.seen(&[], lines[0]);
     let coded = left.sink.written();
     let has_frame = coded
         .windows(frame.len().max(1))
         .any(|bytes| bytes == frame);
     let differs = difference(rt, alloc, words[1], coded, 0, file, lines[1])?;
-    Ok((told.status, told.is_reported, has_frame, differs))
+    Ok((seen.status, seen.is_reported, has_frame, differs))
 }
 
 #[test]

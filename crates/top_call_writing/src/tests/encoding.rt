@@ -1,8 +1,8 @@
 // Files that are coded, known byte for byte, and files that aren't.
 use super::files::Made;
 use super::files::Made::{
-    Changed, CodedSilent, DoubleCoded, DoublePlain, KeptPlain, Known, LongTail, OddPlain,
-    SilentAndTail, TwoFrames,
+    Changed, CodedSilent, DoubleCoded, DoublePlain, KeptPlain, Known, LongBehind, OddPlain,
+    SilentAndThree, TwoFrames,
 };
 use super::{DECODE, NOTHING, Row, all_give, difference_of};
 use example_files::{EXAMPLE, NOTHING_KEPT, SILENT, THREE_KEPT};
@@ -11,14 +11,14 @@ use example_files::{EXAMPLE, NOTHING_KEPT, SILENT, THREE_KEPT};
 fn a_plain_file_is_coded(rt: HostRuntime) {
     const STORE: &str = "encode a b --level 0";
     const EMPTY: Made = CodedSilent(NOTHING_KEPT, &[]);
-    const CODED_TAIL: Made = CodedSilent(THREE_KEPT, &[1, 2, 3]);
+    const CODED_THREE: Made = CodedSilent(THREE_KEPT, &[1, 2, 3]);
     const NONE: &str = "coded 0 frames into 0 bytes\n";
     const TWO: &str = "coded 2 frames into 9410 bytes\n";
     const ONE: &str = "coded 1 frames into 9409 bytes\n";
     const BACK: &str = "decoded 1 frames into 4705 bytes\n";
     const ROWS: [Row; 6] = [
         (STORE, Known(SILENT), 0, EMPTY, NONE),
-        (STORE, SilentAndTail, 0, CODED_TAIL, NONE),
+        (STORE, SilentAndThree, 0, CODED_THREE, NONE),
         (STORE, OddPlain, 0, TwoFrames, TWO),
         (STORE, DoublePlain, 0, DoubleCoded, ONE),
         (DECODE, DoubleCoded, 0, DoublePlain, BACK),
@@ -50,7 +50,7 @@ const NOT_CODED: [(Made, &str); 14] = [
         Changed(SILENT, 118, b"\xff\xff\xff\xff\xff\xff\xff\xff"),
         "file refused: 3 Overrun 114\n",
     ),
-    (LongTail, "file refused: 28 TailTooLong 65537\n"),
+    (LongBehind, "file refused: 28 TailTooLong 65537\n"),
     (KeptPlain, "file refused: 26 CodedChunk 114\n"),
     (
         CodedSilent(NOTHING_KEPT, &[]),

@@ -23,8 +23,8 @@ pub(crate) enum Made {
     // The coded file of a plain one without sound, with this front of `KEPT` and these bytes behind `CMPR`.
     CodedSilent(&'static [u8], &'static [u8]),
     // A plain file without sound, with three bytes behind it, and with one more than there may be.
-    SilentAndTail,
-    LongTail,
+    SilentAndThree,
+    LongBehind,
     // A plain file with a chunk that a coded one has.
     KeptPlain,
 }
@@ -40,9 +40,9 @@ pub(crate) fn file_of(alloc: Global, file: Made) -> Result<Vec<u8>, AllocError> 
         Made::SecondPlain => plain(alloc, &[0xba], 7),
         Made::DoublePlain => double_plain(alloc),
         Made::DoubleCoded => double_coded(alloc),
-        Made::CodedSilent(front, tail) => coded_silent(alloc, front, tail),
-        Made::SilentAndTail => joined(alloc, &[SILENT, &[1, 2, 3]]),
-        Made::LongTail => long_tail(alloc),
+        Made::CodedSilent(front, behind) => coded_silent(alloc, front, behind),
+        Made::SilentAndThree => joined(alloc, &[SILENT, &[1, 2, 3]]),
+        Made::LongBehind => long_behind(alloc),
         Made::KeptPlain => kept_plain(alloc),
     }
 }
@@ -111,14 +111,14 @@ fn double_frame(alloc: Global) -> Result<Vec<u8>, AllocError> {
     frame(alloc, &[b"\0", &sound, &filling])
 }
 
-fn long_tail(alloc: Global) -> Result<Vec<u8>, AllocError> {
+fn long_behind(alloc: Global) -> Result<Vec<u8>, AllocError> {
     let long = vec![in alloc; 0; 65_537]?;
     joined(alloc, &[SILENT, &long])
 }
 
 fn kept_plain(alloc: Global) -> Result<Vec<u8>, AllocError> {
-    let kept = b"KEPT\0\0\0\0\0\0\0\0DSD \0\0\0\0\0\0\0\0";
-    chunk(alloc, b"FRM8", &[b"DSD ", VERSION, PLAIN_PROP, kept], 0)
+    let origin = b"KEPT\0\0\0\0\0\0\0\0DSD \0\0\0\0\0\0\0\0";
+    chunk(alloc, b"FRM8", &[b"DSD ", VERSION, PLAIN_PROP, origin], 0)
 }
 
 // Two seconds of stereo sound among other chunks, of which the last is odd and without its pad byte.

@@ -10,7 +10,7 @@ use std::alloc::{AllocError, Global};
 use std::sync::atomic::{AtomicU64, Ordering};
 use std::test::Fail;
 use std::thread::Threads;
-use top_call::{Left, Told, run_over, split};
+use top_call::{Left, Seen, run_over, split};
 
 // What stands in front of the sound of three frames of six channels.
 const THREE_OF_SIX: &[u8; 146] = b"FRM8\0\0\0\0\0\x01\x4b\x46DSD \
@@ -21,7 +21,7 @@ CHNL\0\0\0\0\0\0\0\x1a\0\x06C000C001C002C003C004C005\
 CMPR\0\0\0\0\0\0\0\x13DSD \x0enot compressed\0\
 DSD \0\0\0\0\0\x01\x4a\xc0";
 
-// RunTold these words, which aren't to touch the source: every call on it would fail. What is left.
+// Runs these words, which aren't to touch the source: every call on it would fail. What is left.
 fn runs(
     rt: &(impl Threads + Sync),
     alloc: Global,
@@ -52,26 +52,26 @@ fn made_by(
     line: &str,
 ) -> Result<MadeBy, AllocError> {
     let left = runs(rt, alloc, text)?;
-    let told = left.told(&[], line);
+    let seen = left.seen(&[], line);
     let written = left.sink.written();
     let has_part = has_at(written, place, part);
-    Ok((told.status, written.len(), has_part, told.is_reported))
+    Ok((seen.status, written.len(), has_part, seen.is_reported))
 }
 
 // The statuses of two texts, and whether they write the same, and report the same.
-type AlikeTold = (u8, u8, bool, bool);
+type AlikeSeen = (u8, u8, bool, bool);
 
 fn alike(
     rt: &(impl Threads + Sync),
     alloc: Global,
     one: &str,
     other: &str,
-) -> Result<AlikeTold, AllocError> {
+) -> Result<AlikeSeen, AllocError> {
     let one = runs(rt, alloc, one)?;
     let other = runs(rt, alloc, other)?;
     let is_same = one.sink.written() == other.sink.written();
-    let is_told = one.report.written() == other.report.written();
-    Ok((one.status, other.status, is_same, is_told))
+    let is_alike = one.report.written() == other.report.written();
+    Ok((one.status, other.status, is_same, is_alike))
 }
 
 #[test]
@@ -129,31 +129,31 @@ fn what_is_not_made_is_refused(rt: HostRuntime) {
     all_give(&rt, rt.alloc(), &ROWS);
 }
 
-// What is told of making into a sink that fails at this call.
+// What is seen of making into a sink that fails at this call.
 fn made_into_failing(
     rt: &(impl Threads + Sync),
     alloc: Global,
     call: u64,
-) -> Result<Told, AllocError> {
+) -> Result<Seen, AllocError> {
     let whole = runs(rt, alloc, "make 7 a.dff 3 6")?;
     let words = split(alloc, "make 7 a.dff 3 6")?;
     let fails = [call];
     let mut source = HonestSource::new(&[]);
     let left = run_over(rt, alloc, &words, &mut source, 100_000, &fails, &[])?;
-    Ok(left.told(whole.sink.written(), "write fault\n"))
+    Ok(left.seen(whole.sink.written(), "write fault\n"))
 }
 
 #[test]
 fn a_sink_that_fails_holds_the_front_of_made_sound(rt: HostRuntime) {
-    let wanted = Told {
+    let wanted = Seen {
         status: 3,
         is_front: true,
         is_whole: false,
         is_reported: true,
     };
     for call in [0u64, 1, 3] {
-        let told = made_into_failing(&rt, rt.alloc(), call);
-        assert_eq!(rt; told, Ok(wanted), "at call {call}");
+        let seen = made_into_failing(&rt, rt.alloc(), call);
+        assert_eq!(rt; seen, Ok(wanted), "at call {call}");
     }
 }
 
@@ -192,25 +192,25 @@ type RunRow = (
 
 // The statuses of the run, of making the file and of coding it, whether the run writes nothing, and whether it tells the size that is
 // stored.
-type RunTold = (u8, u8, u8, bool, bool);
+type RunSeen = (u8, u8, u8, bool, bool);
 
 fn run_and_coded(
     rt: &(impl Threads + Sync),
     alloc: Global,
     row: RunRow,
-) -> Result<RunTold, AllocError> {
+) -> Result<RunSeen, AllocError> {
     let (run, make, front, end, coded_front) = row;
     let run = runs(rt, alloc, run)?;
     let made = runs(rt, alloc, make)?;
     let coded = coded(rt, alloc, made.sink.written())?;
-    let told = between(run.report.written(), front, end);
+    let seen = between(run.report.written(), front, end);
     let stored = between(coded.report.written(), coded_front, " bytes\n");
-    let is_told = match (told, stored) {
-        (Some(told), Some(stored)) => told == stored,
+    let is_alike = match (seen, stored) {
+        (Some(seen), Some(stored)) => seen == stored,
         _ => false,
     };
     let is_empty = run.sink.written().is_empty();
-    Ok((run.status, made.status, coded.status, is_empty, is_told))
+    Ok((run.status, made.status, coded.status, is_empty, is_alike))
 }
 
 #[test]
@@ -247,13 +247,13 @@ fn a_run_in_memory_tells_its_sizes(rt: HostRuntime) {
     ];
     for row in &ROWS {
         let (text, ..) = *row;
-        let told = run_and_coded(&rt, rt.alloc(), *row);
-        assert_eq!(rt; told, Ok((0, 0, 0, true, true)), "{text}");
+        let seen = run_and_coded(&rt, rt.alloc(), *row);
+        assert_eq!(rt; seen, Ok((0, 0, 0, true, true)), "{text}");
     }
 }
 
 #[test]
-fn a_run_of_no_frames_is_told_and_one_of_two_twice(rt: HostRuntime) {
+fn a_run_of_no_frames_is_reported_and_one_of_two_twice(rt: HostRuntime) {
     let none = made_by(
         &rt,
         rt.alloc(),
@@ -276,7 +276,7 @@ fn run_failing(rt: &(impl Threads + Sync), alloc: Global) -> Result<(u8, bool), 
 }
 
 #[test]
-fn a_report_that_fails_is_told_behind_a_run(rt: HostRuntime) {
+fn a_report_that_fails_is_answered_behind_a_run(rt: HostRuntime) {
     assert_eq!(rt; run_failing(&rt, rt.alloc()), Ok((7, true)));
 }
 

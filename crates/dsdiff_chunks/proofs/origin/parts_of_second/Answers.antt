@@ -1,7 +1,7 @@
 -- Rule by rule on the fields of version 2.
 use Rattle.std.proofs.Common.{get_or, ◌∙◌, arith}
 use Rattle.dsdiff_chunks.proofs.Fields.{number_behind}
-use Rattle.dsdiff_chunks.proofs.Refused.{bad_length, lawful_second, long_cmpr, long_tail, needless_pad, pad_of_even, parts_are}
+use Rattle.dsdiff_chunks.proofs.Refused.{bad_length, lawful_second, long_cmpr, many_behind, needless_pad, pad_of_even, parts_are}
 use Rattle.dsdiff_chunks.proofs.origin.parts_of_second.Goals as goal
 use Rattle.dsdiff_chunks.proofs.origin.parts_of_second.Goals.{then-count-gt65536-via-then-count-gt65536}
 use Rattle.dsdiff_chunks.proofs.origin.parts_of_second.Goals.{then-count-gt65536-via-else-count-gt65536+then-body-count}
@@ -31,7 +31,7 @@ returns-then-count-gt65536-clause-none c =
     let body = c.args.body.now in
     let kept = c.read_u32-count.ensures ∙ number_behind body 10 4 in
     elim c.then-count-gt65536.branch [
-      | then-count-gt65536-via-then-count-gt65536 w ↦ long_tail body c.requires (omega (arith, kept, w.if-count-gt65536.true))
+      | then-count-gt65536-via-then-count-gt65536 w ↦ many_behind body c.requires (omega (arith, kept, w.if-count-gt65536.true))
       | then-count-gt65536-via-else-count-gt65536+then-body-count w ↦ long_cmpr body c.requires (omega (arith, kept, w.if-body-count.true))
     ]
 

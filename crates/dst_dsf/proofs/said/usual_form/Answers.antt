@@ -2,7 +2,7 @@
 use Rattle.std.proofs.Common.{refl}
 use Rattle.dsdiff_spec.specs.Form.{size_of_sound}
 use Rattle.dsdiff_chunks.specs.Forms.{coded_seen}
-use Rattle.dst_dsf.proofs.Kept.{whole_groups, groups_times}
+use Rattle.dst_dsf.proofs.Dsfk.{whole_groups, groups_times}
 use Rattle.dst_dsf.proofs.said.usual_form.Goals as goal
 
 pub returns-clause-lawful : goal.returns-clause-lawful

@@ -5,7 +5,7 @@ use Rattle.std.proofs.lemmas.List.{get_or_default, length-take-le}
 use Rattle.arith_lanes.proofs.Beginning.{alike}
 use Rattle.dst_frames.specs.Eight.{states_at, tables_in}
 use Rattle.dst_frames.specs.Batch.{HasBegun, stored_in}
-use Rattle.dst_frames.specs.Running.{AreWords}
+use Rattle.dst_frames.specs.Running.{AreChances}
 use Rattle.dst_frames.specs.declared.stored.StoredFrame.{StoredFrame}
 use Rattle.dst_frames.proofs.Begun.{begins_kept, begun_kept}
 use Rattle.dst_frames.proofs.batch.begin_all.Goals as goal
@@ -14,7 +14,7 @@ pub loop-n-init : goal.loop-n-init
 loop-n-init c = record {
   many = refl;
   begun = λ m frame h. absurd (omega arith);
-  empty = λ m a h. (c.requires.empty m h, rw (alike c.word-words.result m h) c.word-words.ensures.prob);
+  empty = λ m a h. (c.requires.empty m h, rw (alike c.chance-chances.result m h) c.chance-chances.ensures.prob);
   eight = record { are = c.requires.eight.are; room = c.requires.eight.room };
   taken = record {
     frame = λ m d other h k. absurd (omega arith);
@@ -22,7 +22,7 @@ loop-n-init c = record {
     few = omega arith;
     inside = omega arith;
   };
-  words = record {
+  chances = record {
     some = λ m d row h k. (1, c.requires.fresh d row k m h);
     next = λ m d row h k. absurd (omega arith);
   };
@@ -49,21 +49,21 @@ loop-n-preserved c =
     let new = c.begin_lane.new.lanes in
     let eight = c.begin_lane.new.eight in
     let rows = c.begin_lane.new.rows in
-    let words = c.loop-n.words in
+    let chances = c.loop-n.chances in
     let x = c.in-Some.reserved in
     let lt_frames : i < length frames = omega arith in
-    let lt_words : i < length words = omega (arith, inv.many, c.requires.few) in
+    let lt_chances : i < length chances = omega (arith, inv.many, c.requires.few) in
     let P : ℕ → Type 0 = λ m. (frame : StoredFrame) → HasBegun f new m (stored_in (get_or frames m frame)) (tables_in eight m) (states_at rows m)
-    (get_or (set words i x) m 0) in
+    (get_or (set chances i x) m 0) in
     let below : (m : ℕ) → m < i → P m = λ m h frame.
     let ne : m ≢ i = omega arith in
-    rw (c.begin_lane.ensures.tables m h, c.begin_lane.ensures.states m ne, get_or-set_other words i m x 0 ne)
-    (begun_kept f lanes new m (stored_in (get_or frames m frame)) (tables_in c.loop-n.eight m) (states_at c.loop-n.rows m) (get_or words m 0)
+    rw (c.begin_lane.ensures.tables m h, c.begin_lane.ensures.states m ne, get_or-set_other chances i m x 0 ne)
+    (begun_kept f lanes new m (stored_in (get_or frames m frame)) (tables_in c.loop-n.eight m) (states_at c.loop-n.rows m) (get_or chances m 0)
     (inv.begun m frame h) (c.begin_lane.ensures.others m ne)) in
     let bytes : (frame : StoredFrame) → c.stored.result.now ≡ stored_in (get_or frames i frame) = λ frame.
     c.stored.ensures.bytes ∙ ap (λ (q : StoredFrame). stored_in q) (c.index-frames-n.is ∙ get_or_default frames i c.index-frames-n.result frame lt_frames) in
     let here : P i = λ frame.
-    subst (λ w. HasBegun f new i (stored_in (get_or frames i frame)) (tables_in eight i) (states_at rows i) w) (sym (get_or-set_same words i x 0 lt_words))
+    subst (λ w. HasBegun f new i (stored_in (get_or frames i frame)) (tables_in eight i) (states_at rows i) w) (sym (get_or-set_same chances i x 0 lt_chances))
     (subst (λ bs. HasBegun f new i bs (tables_in eight i) (states_at rows i) x) (bytes frame) c.in-Some.ensures.begun) in
     record {
       many = simp length-set inv.many;
@@ -71,13 +71,13 @@ loop-n-preserved c =
       empty = λ m a h.
           let ne : m ≢ i = omega arith in
           let was = inv.empty m (omega arith) h in
-          (begins_kept lanes new m [] 0 was.0 (c.begin_lane.ensures.others m ne), rw (get_or-set_other words i m x 0 ne) was.1);
+          (begins_kept lanes new m [] 0 was.0 (c.begin_lane.ensures.others m ne), rw (get_or-set_other chances i m x 0 ne) was.1);
       eight = c.begin_lane.ensures.eight;
       taken = c.in-Some.ensures.taken;
-      words = c.in-Some.ensures.words;
+      chances = c.in-Some.ensures.chances;
     }
 
-pub returns-clause-words : goal.returns-clause-words
-returns-clause-words c =
+pub returns-clause-chances : goal.returns-clause-chances
+returns-clause-chances c =
     let all : c.loop-n.n ≡ length c.args.frames.now = omega arith in
-    subst (AreWords c.loop-n.rows) all c.loop-n.invariant.words
+    subst (AreChances c.loop-n.rows) all c.loop-n.invariant.chances

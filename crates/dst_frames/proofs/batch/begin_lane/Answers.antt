@@ -22,7 +22,7 @@ returns-in-Ok-clause-begun c =
       inside = inside;
       header = header;
       first_bit = subst (λ bs. get_or (bits bs) place 0 ≡ 0) bytes c.in-Ok.ensures.first_bit;
-      reserved = c.reserved_word.ensures;
+      reserved = c.reserved_chance.ensures;
       built = c.build_all_in.ensures.built f (omega (arith, c.requires.rows));
       fresh = λ j other h. c.build_all_in.ensures.fresh j other (omega (arith, c.requires.rows));
     }

@@ -1,4 +1,4 @@
--- One channel more has its table, built or shared, and its first word; the frames before stay as they are.
+-- One channel more has its table, built or shared, and its first chance; the frames before stay as they are.
 use Rattle.std.proofs.Common.{◌≡◌, ◌≢◌, ℕ, ◌+◌, ◌<◌, Bool, true, false, nat_eq, length, get_or, set, replicate, get_or-set_same, get_or-set_other}
 use Rattle.std.proofs.Common.{List, below_more, refl, ap₂, sym, subst, ◌∙◌, arith}
 use Rattle.std.proofs.lemmas.Bool.{eqb-true, eqb-false}
@@ -6,13 +6,13 @@ use Rattle.dst_spec.specs.Guess.{filter_of, probs_of}
 use Rattle.byte_predictor.specs.Samples.{samples_of}
 use Rattle.dst_frames.specs.Ready.{IsReady}
 use Rattle.dst_frames.specs.Eight.{state_in, states_at, table_at}
-use Rattle.dst_frames.specs.Batch.{IsWordOf}
+use Rattle.dst_frames.specs.Batch.{IsChanceOf}
 use Rattle.dst_frames.specs.Running.{IsPool}
 use Rattle.dst_frames.specs.declared.state.ChannelState.{ChannelState}
 use Rattle.dst_frames.specs.declared.eight.EightStates.{EightStates}
 use Rattle.dst_frames.specs.declared.eight.TableNumbers.{TableNumbers}
 use Rattle.dst_frames.proofs.OneOfEight.{no_row, no_numbers, length-states, states-set, states_same, get_or-tables}
-use Rattle.dst_frames.proofs.Beginning.{words_begun}
+use Rattle.dst_frames.proofs.Beginning.{chances_begun}
 use Rattle.dst_frames.proofs.Sharing.{IsFor, taken_on}
 use Rattle.dst_frames.proofs.batch.build_all_in.Goals as goal
 
@@ -51,20 +51,20 @@ loop-c-preserved c =
     let F : ℕ → Type 0 = λ d. (other : ChannelState) →
     IsReady (filter_of P d) (probs_of P d) 0 (samples_of (replicate 16 170)) (get_or (set (states_at rows n) i (state_in row n)) d other) in
     let W : ℕ → Type 0 = λ d. (other : EightStates) →
-    IsWordOf (state_in (get_or (set rows i row) d other) n).next (get_or (get_or (set rows i row) d other).words n 0) in
+    IsChanceOf (state_in (get_or (set rows i row) d other) n).next (get_or (get_or (set rows i row) d other).chances n 0) in
     let f_below : (d : ℕ) → d < i → F d = λ d h other.
     let ne : d ≢ i = omega arith in
     rw (get_or-set_other (states_at rows n) i d (state_in row n) other ne) (inv.fresh d other h) in
     let f_here : F i = λ other. rw (get_or-set_same (states_at rows n) i (state_in row n) other lt_states) fresh in
     let w_below : (d : ℕ) → d < i → W d = λ d h other.
     let ne : d ≢ i = omega arith in
-    rw (get_or-set_other rows i d row other ne) (inv.word d other h) in
-    let w_here : W i = λ other. rw (get_or-set_same rows i row other lt) e.word in
+    rw (get_or-set_other rows i d row other ne) (inv.chance d other h) in
+    let w_here : W i = λ other. rw (get_or-set_same rows i row other lt) e.chance in
     record {
       built = λ d other h. shared.built d other h;
       fresh = λ d other h. rw (states-set rows n i row) (below_more F i f_below f_here d h other);
-      word = λ d other h. below_more W i w_below w_here d h other;
-      words = words_begun n i was rows row lt inv.words e.word e.others e.words;
+      chance = λ d other h. below_more W i w_below w_here d h other;
+      chances = chances_begun n i was rows row lt inv.chances e.chance e.others e.chances;
       tables = λ m ne. shared.tables m ne ∙ inv.tables m ne;
       states = λ m ne. states_same rows m i was row lt (e.others m ne) ∙ inv.states m ne;
       eight = subst (IsPool new) inv.eight.are.count shared.eight;
@@ -81,22 +81,22 @@ returns-clause-built c = λ f count d other h.
 pub returns-clause-fresh : goal.returns-clause-fresh
 returns-clause-fresh c = λ d other h. c.loop-c.invariant.fresh d other (omega arith)
 
-pub returns-clause-words : goal.returns-clause-words
-returns-clause-words c =
+pub returns-clause-chances : goal.returns-clause-chances
+returns-clause-chances c =
     let inv = c.loop-c.invariant in
     record {
-      some = inv.words.some;
+      some = inv.chances.some;
       next = λ m d row h k. next_at m d row h k (nat_eq m c.args.n) refl;
     }
   where
     next_at : (m d : ℕ) (row : EightStates) → m < c.args.n + 1 → d < length c.loop-c.rows → (b : Bool) → nat_eq m c.args.n ≡ b →
-        IsWordOf (state_in (get_or c.loop-c.rows d row) m).next (get_or (get_or c.loop-c.rows d row).words m 0)
+        IsChanceOf (state_in (get_or c.loop-c.rows d row) m).next (get_or (get_or c.loop-c.rows d row).chances m 0)
     next_at m d row h k true e =
         let is = eqb-true m c.args.n e in
-        rw is (c.loop-c.invariant.word d row (omega arith))
+        rw is (c.loop-c.invariant.chance d row (omega arith))
     next_at m d row h k false e =
         let ne = eqb-false m c.args.n e in
-        c.loop-c.invariant.words.next m d row (omega (arith, ne)) k
+        c.loop-c.invariant.chances.next m d row (omega (arith, ne)) k
 
 pub returns-clause-taken : goal.returns-clause-taken
 returns-clause-taken c =

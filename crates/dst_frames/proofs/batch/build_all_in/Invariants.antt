@@ -1,12 +1,12 @@
--- The channels so far have their tables and first words, and those of the frames before are untouched.
+-- The channels so far have their tables and first chances, and those of the frames before are untouched.
 use Rattle.std.proofs.Common.{◌≡◌, ◌≢◌, ℕ, ◌<◌, false, length, get_or, replicate}
 use Rattle.dst_spec.specs.Guess.{filter_of, probs_of}
 use Rattle.byte_predictor.specs.Samples.{samples_of}
 use Rattle.dst_frames.specs.Tables.{IsBuilt}
 use Rattle.dst_frames.specs.Ready.{IsReady}
 use Rattle.dst_frames.specs.Eight.{state_in, states_at, table_at, tables_in}
-use Rattle.dst_frames.specs.Batch.{IsWordOf}
-use Rattle.dst_frames.specs.Running.{IsPool, AreTaken, AreWords}
+use Rattle.dst_frames.specs.Batch.{IsChanceOf}
+use Rattle.dst_frames.specs.Running.{IsPool, AreTaken, AreChances}
 use Rattle.dst_frames.specs.declared.state.ChannelState.{ChannelState}
 use Rattle.dst_frames.specs.declared.eight.TableNumbers.{TableNumbers}
 use Rattle.dst_frames.specs.declared.eight.EightStates.{EightStates}
@@ -18,8 +18,8 @@ invariant-loop-c l = record {
       (table_at l.eight.tables.items (get_or l.eight.numbers.items d other).of l.n);
   fresh : (d : ℕ) (other : ChannelState) → d < l.c →
       IsReady (filter_of l.params d) (probs_of l.params d) 0 (samples_of (replicate 16 170)) (get_or (states_at l.rows l.n) d other);
-  word : (d : ℕ) (row : EightStates) → d < l.c → IsWordOf (state_in (get_or l.rows d row) l.n).next (get_or (get_or l.rows d row).words l.n 0);
-  words : AreWords l.rows l.n;
+  chance : (d : ℕ) (row : EightStates) → d < l.c → IsChanceOf (state_in (get_or l.rows d row) l.n).next (get_or (get_or l.rows d row).chances l.n 0);
+  chances : AreChances l.rows l.n;
   tables : (m : ℕ) → m < l.n → tables_in l.eight m ≡ tables_in l.initial.eight m;
   states : (m : ℕ) → m ≢ l.n → states_at l.rows m ≡ states_at l.initial.rows m;
   eight : IsPool l.eight (length l.initial.rows);

@@ -7,13 +7,13 @@ use Rattle.dst_frames.specs.Batch.{IsLaneFurther, code_at}
 use Rattle.dst_frames.specs.Running.{AreEight}
 use Rattle.dst_frames.proofs.Bytes.{one_more_dropped}
 use Rattle.dst_frames.proofs.OneOfEight.{length-tables}
-use Rattle.dst_frames.proofs.Running.{lane_still, lane_more, lanes_on, words_same}
+use Rattle.dst_frames.proofs.Running.{lane_still, lane_more, lanes_on, chances_same}
 use Rattle.dst_frames.proofs.octets.decode_octet.Goals as goal
 
 pub loop-place-init : goal.loop-place-init
 loop-place-init c = record {
   lanes = λ n h. lane_still c.args.lanes.now n (code_at c.args.frames.now n) (c.requires.lanes.lane n h);
-  words = c.requires.words;
+  chances = c.requires.chances;
   samples = λ n f P reserved samples h channels built u.
       let none : 8 * c.args.byte ≡ 8 * c.args.byte + 0 = omega arith in (
         samples,
@@ -40,7 +40,7 @@ loop-place-preserved c =
     record {
       lanes = λ n h. lane_more old s t n (code_at c.args.frames.now n) (48 * place) (8 * length c.loop-place.rows) (48 * (place + 1)) (inv.lanes n h)
           (c.decode_place.ensures.lanes n h) (omega (arith, c.requires.channels));
-      words = c.decode_place.ensures.words;
+      chances = c.decode_place.ensures.chances;
       samples = λ n f P reserved samples h channels built u.
           let at = inv.samples n f P reserved samples h channels built u in
           let e = c.decode_place.ensures.rows n f P reserved h (omega arith) built at.0 at.2 in
@@ -65,9 +65,9 @@ returns-clause-lanes c n h =
     let all : c.loop-place.place ≡ 8 = omega arith in
     subst (λ k. IsLaneFurther c.args.lanes.now c.loop-place.lanes n (code_at c.args.frames.now n) (48 * k)) all (c.loop-place.invariant.lanes n h)
 
-pub returns-clause-words : goal.returns-clause-words
-returns-clause-words c =
-    words_same c.args.count c.loop-place.rows c.finish_all.new.rows c.loop-place.invariant.words (omega arith) c.finish_all.ensures.words
+pub returns-clause-chances : goal.returns-clause-chances
+returns-clause-chances c =
+    chances_same c.args.count c.loop-place.rows c.finish_all.new.rows c.loop-place.invariant.chances (omega arith) c.finish_all.ensures.chances
 
 pub returns-clause-long : goal.returns-clause-long
 returns-clause-long c n frame h = (c.finish_all.ensures.finishes n frame (omega (arith, c.requires.same))).long

@@ -7,13 +7,13 @@ use Rattle.dst_frames.specs.Tables.{AreBuilt}
 use Rattle.dst_frames.specs.Underway.{IsUnderway}
 use Rattle.dst_frames.specs.Eight.{states_at, tables_at}
 use Rattle.dst_frames.specs.Batch.{IsLaneFurther, code_at}
-use Rattle.dst_frames.specs.Running.{AreWords}
+use Rattle.dst_frames.specs.Running.{AreChances}
 use Rattle.dst_frames.proofs.octets.decode_octet.Given as goal
 
 abbrev pub invariant-loop-place : goal.invariant-loop-place
 invariant-loop-place l = record {
   lanes : (n : ℕ) → n < 8 → IsLaneFurther l.initial.lanes l.lanes n (code_at l.frames n) (48 * l.place);
-  words : AreWords l.rows l.count;
+  chances : AreChances l.rows l.count;
   samples : (n : ℕ) (f : Shape) (P : Params) (reserved : Bool) (samples : ℕ → List ℕ) → n < l.count →
       f.channels ≡ length l.initial.rows → AreBuilt f P (tables_at l.tables l.numbers n) →
       IsUnderway f P reserved (8 * l.byte) 0 samples (decoding_at l.initial.lanes n (code_at l.frames n)) (states_at l.initial.rows n) →

@@ -15,7 +15,7 @@ loop-byte-preserved c =
     record {
       lanes = λ n h. lane_more old c.loop-byte.lanes d.new.lanes n (code_at c.args.frames.now n) (384 * m) 384 (384 * (m + 1)) (inv.lanes n h)
           (d.ensures.lanes n h) (omega arith);
-      words = d.ensures.words;
+      chances = d.ensures.chances;
       long = λ n frame h. d.ensures.long n frame (omega arith) ∙ inv.long n frame h;
       sound = λ n frame h. lane_decoded_on n m (code_at c.args.frames.now n) old c.loop-byte.lanes d.new.lanes
           (tables_at c.args.tables.now c.args.numbers.now n) (states_at c.args.rows.now n) (states_at c.loop-byte.rows n) (states_at d.new.rows n)
@@ -32,7 +32,7 @@ loop-byte-2-preserved c =
     record {
       lanes = λ n h. lane_more old c.loop-byte-2.lanes d.new.lanes n (code_at c.args.frames.now n) (384 * m) 384 (384 * (m + 1)) (inv.lanes n h)
           (d.ensures.lanes n h) (omega arith);
-      words = d.ensures.words;
+      chances = d.ensures.chances;
       long = λ n frame h. d.ensures.long n frame (omega arith) ∙ inv.long n frame h;
       sound = λ n frame h. lane_decoded_on n m (code_at c.args.frames.now n) old c.loop-byte-2.lanes d.new.lanes
           (tables_at c.args.tables.now c.args.numbers.now n) (states_at c.args.rows.now n) (states_at c.loop-byte-2.rows n) (states_at d.new.rows n)

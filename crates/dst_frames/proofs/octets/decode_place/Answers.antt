@@ -11,14 +11,14 @@ use Rattle.dst_frames.specs.declared.eight.EightStates.{EightStates}
 use Rattle.dst_frames.proofs.History.{Predicts}
 use Rattle.dst_frames.proofs.Rows.{IsRow, row_begins, row_ends}
 use Rattle.dst_frames.proofs.LaneRows.{row_on}
-use Rattle.dst_frames.proofs.Running.{lane_still, lane_on, used_kept, words_on}
+use Rattle.dst_frames.proofs.Running.{lane_still, lane_on, used_kept, chances_on}
 use Rattle.dst_frames.proofs.OneOfEight.{no_row, no_numbers, length-states, get_or-states, states-set, get_or-tables}
 use Rattle.dst_frames.proofs.octets.decode_place.Goals as goal
 
 pub loop-c-init : goal.loop-c-init
 loop-c-init c = record {
   lanes = λ n h. lane_still c.args.lanes.now n (code_at c.args.frames.now n) (c.requires.lanes.lane n h);
-  words = c.requires.words;
+  chances = c.requires.chances;
   rows = λ n f P reserved samples h count built u.
       row_begins f P reserved (8 * c.args.byte + c.args.place) c.args.place samples (decoding_at c.args.lanes.now n (code_at c.args.frames.now n))
       (states_at c.args.rows.now n) u;
@@ -57,17 +57,17 @@ loop-c-preserved c =
     omega (arith, used_kept s r n (code_at c.args.frames.now n) (enough n h).same, (inv.lanes n h).used, c.requires.lanes.used n h) in
     let table : ℕ → ChannelTables = table_at tables (get_or numbers i one).of in
     let step : (n : ℕ) → n < count → LaneSteps place (c.args.start && nat_lt (8 * byte + place) (table n).early) (table n) (state_in was n) (state_in row n)
-    (decoding_at r n (code_at c.args.frames.now n)) (decoding_at t n (code_at c.args.frames.now n)) (get_or row.words n 0) = λ n h.
+    (decoding_at r n (code_at c.args.frames.now n)) (decoding_at t n (code_at c.args.frames.now n)) (get_or row.chances n 0) = λ n h.
     let within : n < 8 = omega (arith, c.requires.count) in
     c.decode_next.ensures.steps n (code_at c.args.frames.now n) h (enough n within).lane (ahead n within) (used n within)
-    (inv.words.next n i no_row h lt) in
+    (inv.chances.next n i no_row h lt) in
     record {
       lanes = λ n h.
-          let w = inv.words.some n i no_row h lt in
+          let w = inv.chances.some n i no_row h lt in
           lane_on c.args.lanes.now s r t n (code_at c.args.frames.now n) (8 * i) 8 (8 * (i + 1)) (inv.lanes n h) (enough n h)
           (c.decode_next.ensures.further n w.0 (code_at c.args.frames.now n) h (enough n h).lane (ahead n h) (used n h) w.1) (omega arith);
-      words = words_on i count rows row c.requires.count lt inv.words (λ n h. (step n h).next_word)
-          (λ n other h. c.decode_next.ensures.others n h ∙ ap (λ (q : EightStates). get_or q.words n 0) (get_or_default rows i no_row other lt));
+      chances = chances_on i count rows row c.requires.count lt inv.chances (λ n h. (step n h).next_chance)
+          (λ n other h. c.decode_next.ensures.others n h ∙ ap (λ (q : EightStates). get_or q.chances n 0) (get_or_default rows i no_row other lt));
       rows = λ n f P reserved samples h channels built u.
           let within : n < 8 = omega (arith, c.requires.count) in
           let in_f : i < f.channels = omega arith in
@@ -77,7 +77,7 @@ loop-c-preserved c =
           subst (IsRow f P reserved (8 * byte + place) place samples (i + 1) (decoding_at t n (code_at c.args.frames.now n))) (sym (states-set rows n i row))
           (row_on law f P reserved byte place i c.args.start samples (decoding_at s n (code_at c.args.frames.now n))
           (decoding_at r n (code_at c.args.frames.now n)) (decoding_at t n (code_at c.args.frames.now n)) (table n) (states_at rows n) (state_in was n)
-          (state_in row n) (get_or row.words n 0) own (step n h) (enough n within).same (λ other. get_or-states rows n i other no_row lt)
+          (state_in row n) (get_or row.chances n 0) own (step n h) (enough n within).same (λ other. get_or-states rows n i other no_row lt)
           (inv.rows n f P reserved samples h channels built u) in_f (omega (arith, length-states rows n)) c.requires.start);
     }
 

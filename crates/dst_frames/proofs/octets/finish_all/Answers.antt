@@ -52,7 +52,7 @@ loop-n-preserved c =
       heard_left = λ m frame h.
           let ne : m ≢ i = omega arith in
           get_or-set_other heard i m frame_new frame ne ∙ inv.heard_left m frame (omega arith);
-      words = λ k row. c.finish_heard.ensures.words k row ∙ inv.words k row;
+      chances = λ k row. c.finish_heard.ensures.chances k row ∙ inv.chances k row;
     }
 
 pub returns-clause-finishes : goal.returns-clause-finishes

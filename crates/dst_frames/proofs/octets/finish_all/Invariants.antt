@@ -1,4 +1,4 @@
--- The frames so far have given out their bytes, those behind are untouched, and all words stay.
+-- The frames so far have given out their bytes, those behind are untouched, and all chances stay.
 use Rattle.std.proofs.Common.{◌≡◌, ℕ, ◌<◌, ◌≤◌, length, get_or}
 use Rattle.dst_frames.specs.Eight.{states_at, tables_at}
 use Rattle.dst_frames.specs.Running.{FinishesSound}
@@ -13,5 +13,5 @@ invariant-loop-n l = record {
       (get_or l.initial.heard m frame).sound.items (get_or l.heard m frame).sound.items;
   rows_left : (m : ℕ) → l.n ≤ m → states_at l.rows m ≡ states_at l.initial.rows m;
   heard_left : (m : ℕ) (frame : DecodedFrame) → l.n ≤ m → get_or l.heard m frame ≡ get_or l.initial.heard m frame;
-  words : (c : ℕ) (row : EightStates) → (get_or l.rows c row).words ≡ (get_or l.initial.rows c row).words;
+  chances : (c : ℕ) (row : EightStates) → (get_or l.rows c row).chances ≡ (get_or l.initial.rows c row).chances;
 }

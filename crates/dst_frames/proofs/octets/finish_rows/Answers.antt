@@ -11,16 +11,16 @@ use Rattle.dst_frames.specs.declared.eight.EightStates.{EightStates}
 use Rattle.dst_frames.proofs.OneOfEight.{no_row, no_numbers, get_or-states, states_same, get_or-tables}
 use Rattle.dst_frames.proofs.octets.finish_rows.Goals as goal
 
--- what a row with the same words keeps
-words_kept : (rows : List EightStates) (i j : ℕ) (new was other : EightStates) → i < length rows → new.words ≡ (get_or rows i was).words →
-    (get_or (set rows i new) j other).words ≡ (get_or rows j other).words
-words_kept rows i j new was other lt same = go (nat_eq j i) refl
+-- what a row with the same chances keeps
+chances_stay : (rows : List EightStates) (i j : ℕ) (new was other : EightStates) → i < length rows → new.chances ≡ (get_or rows i was).chances →
+    (get_or (set rows i new) j other).chances ≡ (get_or rows j other).chances
+chances_stay rows i j new was other lt same = go (nat_eq j i) refl
   where
-    go : (e : Bool) → nat_eq j i ≡ e → (get_or (set rows i new) j other).words ≡ (get_or rows j other).words
+    go : (e : Bool) → nat_eq j i ≡ e → (get_or (set rows i new) j other).chances ≡ (get_or rows j other).chances
     go true e =
         let is = eqb-true j i e in
         let at : get_or rows i was ≡ get_or rows i other = get_or_default rows i was other lt in
-        rw (is, get_or-set_same rows i new other lt) (same ∙ ap (λ (x : EightStates). x.words) at)
+        rw (is, get_or-set_same rows i new other lt) (same ∙ ap (λ (x : EightStates). x.chances) at)
     go false e = rw (get_or-set_other rows i j new other (eqb-false j i e)) refl
 
 pub table_of-own-requires-clause-from : goal.table_of-own-requires-clause-from
@@ -85,7 +85,7 @@ loop-c-preserved c =
           let ne : j ≢ i = omega arith in
           get_or-set_other rows i j row other ne ∙ inv.left j other (omega arith);
       others = λ m ne. states_same rows m i d row lt (c.finish-newest.ensures.others m ne) ∙ inv.others m ne;
-      words = λ j other. words_kept rows i j row d other lt c.finish-newest.ensures.words ∙ inv.words j other;
+      chances = λ j other. chances_stay rows i j row d other lt c.finish-newest.ensures.chances ∙ inv.chances j other;
     }
 
 pub returns-clause-newest : goal.returns-clause-newest

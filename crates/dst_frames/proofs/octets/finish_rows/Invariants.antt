@@ -17,5 +17,5 @@ invariant-loop-c l = record {
       IsReady (get_or (tables_at l.tables l.numbers l.n) c table).filter probs 0 samples (get_or (states_at l.rows l.n) c other);
   left : (c : ℕ) (row : EightStates) → l.c ≤ c → get_or l.rows c row ≡ get_or l.initial.rows c row;
   others : (m : ℕ) → m ≢ l.n → states_at l.rows m ≡ states_at l.initial.rows m;
-  words : (c : ℕ) (row : EightStates) → (get_or l.rows c row).words ≡ (get_or l.initial.rows c row).words;
+  chances : (c : ℕ) (row : EightStates) → (get_or l.rows c row).chances ≡ (get_or l.initial.rows c row).chances;
 }

@@ -11,7 +11,7 @@ use Rattle.push_decoder.proofs.Pieces.{events_law}
 use Rattle.dst_pipes.specs.Endings.{IsStoppedShort, PipeEnds}
 use Rattle.dst_pipes.proofs.Waiting.{nothing_due}
 use Rattle.dst_pipes.proofs.Final.{ends_in_reading, ends_cut_off}
-use Rattle.dst_pipes.proofs.Runs.{of_piece, piece_read, split_at, piece_stops, told_most, finished, write_alone}
+use Rattle.dst_pipes.proofs.Runs.{of_piece, piece_read, split_at, piece_stops, frames_most, finished, write_alone}
 use Rattle.dst_pipes.proofs.NoFront.{none_begun, no_work_yet}
 use Rattle.dst_pipes.proofs.pipe.run.Goals as goal
 
@@ -56,7 +56,7 @@ returns-then-count-eq0-clause-ends g c w told =
 
 pub finish-requires : goal.finish-requires
 finish-requires g c =
-    record { whole = told_most _ _ _ _ _ _ (rw c.in-Ok-true.field-0-test at (of_piece c.loop-read.invariant.waiting c.in-Ok-true.ensures.ends)).1 }
+    record { whole = frames_most _ _ _ _ _ _ (rw c.in-Ok-true.field-0-test at (of_piece c.loop-read.invariant.waiting c.in-Ok-true.ensures.ends)).1 }
 
 pub returns-in-Ok-true-clause-ends : goal.returns-in-Ok-true-clause-ends
 returns-in-Ok-true-clause-ends g c w told =

@@ -3,7 +3,7 @@ use Rattle.std.proofs.Common.{◌≡◌, [], ◌∷◌, ◌++◌, take, Some, No
 use Rattle.push_decoder.specs.Events.{begun, has_ended, due}
 use Rattle.push_decoder.proofs.Pieces.{events_law}
 use Rattle.dst_pipes.specs.States.{Works, Wrote, BeginsSo, events_left}
-use Rattle.dst_pipes.proofs.Stepping.{begins_more, of_ready, told_of, begun_goes_on, begun_stops, begun_no_read, sound_works, sound_goes_on, sound_left}
+use Rattle.dst_pipes.proofs.Stepping.{begins_more, of_ready, is_front, begun_goes_on, begun_stops, begun_no_read, sound_works, sound_goes_on, sound_left}
 use Rattle.dst_pipes.proofs.Stepping.{sound_stops, sound_no_device, both_none, sound_some}
 use Rattle.dst_pipes.proofs.NoFront.{no_event}
 use Rattle.dst_pipes.proofs.steps.decode_step.Goals as goal
@@ -22,7 +22,7 @@ returns-in-Err-clause-ends g c taken answered has works old room wrote =
 pub begin-requires : goal.begin-requires
 begin-requires g c =
     let t = rw c.in-Head.is at (of_ready c.requires.ready c.in-Ok.ensures.took) in
-    record { head = (t.front, told_of t) }
+    record { properties = (t.front, is_front t) }
 
 pub write_sound-requires : goal.write_sound-requires
 write_sound-requires g c =
@@ -60,14 +60,14 @@ returns-in-Ok-begin-clause-fewer g c n e =
 pub returns-in-Ok-begin-clause-ends : goal.returns-in-Ok-begin-clause-ends
 returns-in-Ok-begin-clause-ends g c taken answered has works old room wrote =
     let t = rw c.in-Head.is at (c.in-Ok.ensures.took taken answered has works) in
-    let begun = c.in-Ok-begin.ensures.begun t.front (told_of t) in
+    let begun = c.in-Ok-begin.ensures.begun t.front (is_front t) in
     begun_goes_on c.in-Ok-begin.begun t.front _ c.take_step.new.decoder old _ _ room _ _ t.stands begun.0
     (subst (λ a. Wrote a old (g.K.Sink.written c.args.sink.now) room (g.K.Sink.room c.args.sink.now)) t.nothing wrote) begun.1
 
 pub returns-in-Err-begin-clause-no_read : goal.returns-in-Err-begin-clause-no_read
 returns-in-Err-begin-clause-no_read g c e =
     let t = rw c.in-Head.is at (of_ready c.requires.ready c.in-Ok.ensures.took) in
-    begun_no_read c.in-Err-begin.fault t.front _ _ _ _ (c.in-Err-begin.ensures.begun t.front (told_of t)) cc
+    begun_no_read c.in-Err-begin.fault t.front _ _ _ _ (c.in-Err-begin.ensures.begun t.front (is_front t)) cc
 
 pub returns-in-Err-begin-clause-memory : goal.returns-in-Err-begin-clause-memory
 returns-in-Err-begin-clause-memory g c refused e =
@@ -79,7 +79,7 @@ returns-in-Err-begin-clause-ends g c taken answered has works old room wrote =
     let t = rw c.in-Head.is at (c.in-Ok.ensures.took taken answered has works) in
     begun_stops c.in-Err-begin.fault t.front taken c.args.piece.now c.in-Ok.taken.0 c.take_step.new.decoder old _ _ room _ _ t.stands
     (subst (λ a. Wrote a old (g.K.Sink.written c.args.sink.now) room (g.K.Sink.room c.args.sink.now)) t.nothing wrote)
-    (c.in-Err-begin.ensures.begun t.front (told_of t))
+    (c.in-Err-begin.ensures.begun t.front (is_front t))
 
 pub returns-in-Ok-write_sound-clause-fewer : goal.returns-in-Ok-write_sound-clause-fewer
 returns-in-Ok-write_sound-clause-fewer g c n e =
@@ -130,7 +130,7 @@ returns-in-Ok-write_sound-clause-untouched g c e =
 pub returns-in-Ok-begin-clause-ready : goal.returns-in-Ok-begin-clause-ready
 returns-in-Ok-begin-clause-ready g c n e =
     let t = rw c.in-Head.is at (of_ready c.requires.ready c.in-Ok.ensures.took) in
-    let begun_is = c.in-Ok-begin.ensures.begun t.front (told_of t) in
+    let begun_is = c.in-Ok-begin.ensures.begun t.front (is_front t) in
     record {
       taken = c.requires.ready.taken ++ take c.in-Ok.taken.0 c.args.piece.now;
       answered = begun t.front [];

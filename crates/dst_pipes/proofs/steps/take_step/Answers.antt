@@ -77,7 +77,7 @@ returns-in-Some-clause-took c taken answered has works =
     let after = subst (λ e. HasRead c.take.follows.lender-at-none.reader p (answered_with e answered)) told.1.0 read.read in
     let channels = room.works.channels in
     let long = c.decode_frame-answer.auto.out ∙ ap length c.deref_mut.ensures.value in
-    let kept = with_items_is c.in-Some.work.sound c.decode_frame-answer.new.out (omega (arith, c.decode_frame-answer.auto.out, c.deref_mut.ensures.len)) in
+    let same = with_items_is c.in-Some.work.sound c.decode_frame-answer.new.out (omega (arith, c.decode_frame-answer.auto.out, c.deref_mut.ensures.len)) in
     record {
       front = room.front;
       frames = room.frames;
@@ -89,13 +89,13 @@ returns-in-Some-clause-took c taken answered has works =
       works = record {
         channels = channels;
         scratch = c.decode_frame-answer.ensures.channels ∙ room.works.scratch;
-        sound = ap length kept ∙ long ∙ room.works.sound;
+        sound = ap length same ∙ long ∙ room.works.sound;
         frame_count = room.works.frame_count;
         decoded = room.works.decoded;
       };
       room = room.fits.room;
       few = room.few;
-      decoded = is_decoded c.decode_frame-answer.result c.in-Some.work.channels room.front frame c.decode_frame-answer.new.out _ channels kept
+      decoded = is_decoded c.decode_frame-answer.result c.in-Some.work.channels room.front frame c.decode_frame-answer.new.out _ channels same
           (decoded_is c.decode_frame-answer.result c.in-Some.work.channels frame c.decode_frame-answer.new.out
           (subst IsShape (sym channels) room.lawful) c.decode_frame-answer.ensures.sound c.decode_frame-answer.ensures.whole
           c.decode_frame-answer.ensures.fault);

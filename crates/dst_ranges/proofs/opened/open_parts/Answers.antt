@@ -31,7 +31,7 @@ returns-clause-ready g c =
       some = subst (λ (f : Shape). 0 < sound_bytes f) shape_is some;
       buffer_is = sym c.in-Ok-vec.buffer.ok.0 ∙ c.in-Ok-vec.ensures.len ∙ c.sound_bytes.ensures.bytes ∙ ap sound_bytes shape_is;
       capacity_is = ap (λ (x : Reader). x.capacity) fresh;
-      kept_is = ap (λ (x : Reader). x.kept) fresh;
+      held_is = ap (λ (x : Reader). x.held) fresh;
       size_most = omega (arith, size_is, c.past_fault.ensures.most);
       inside = inside_reader (coded_seen form) r form.channels c.args.pairs.now (ap (λ (f : Shape). f.channels) form.shape) size_is c.sound_bytes.ensures.shape
           (sym c.past_fault.ensures.first ∙ c.in_default.is);

@@ -9,5 +9,5 @@ returns c file fits =
       c.side_length-before.ensures.length file fits,
       c.side_length-behind.ensures.length file fits,
       c.sound_size.ensures.size,
-      c.kept_size.ensures.size,
+      c.origin_size.ensures.size,
     )

@@ -1,4 +1,4 @@
--- One row more is kept, with as many values as rows before it; where the run stops, later steps leave it as it is.
+-- There is one row more, with as many values as rows before it; where the run stops, later steps leave it as it is.
 use Rattle.std.proofs.Common.{◌≡◌, ℕ, ◌+◌, ◌-◌, ◌^◌, ◌<◌, ◌≤◌, min, ℤ, pos, nat_abs, suc, to_z, of_z, List, [], ◌∷◌, ◌++◌, length, map, take, get_or, refl, ap}
 use Rattle.std.proofs.Common.{sym, ◌∙◌, subst, arith}
 use mir.Syntax.{w64}
@@ -38,10 +38,10 @@ push-requires-clause-small c = λ j.
     subst (λ v. nat_abs (get_or v j (pos 0)) ≤ 2 ^ 32) (sym is) (each-most (row_after c.args.lags.now n).values (2 ^ 32) j row.values)
 
 -- the rows with one more
-pub more : (lags : List ℤ) (n : ℕ) (kept : List State) (error : ℤ) (s : State) → kept ≡ map (row_after lags) (range_with_len 0 n) → s ≡ row_after lags n
+pub more : (lags : List ℤ) (n : ℕ) (states : List State) (error : ℤ) (s : State) → states ≡ map (row_after lags) (range_with_len 0 n) → s ≡ row_after lags n
     → error ≡ s.error →
-    kept ++ record { error = error; values = s.values } ∷ [] ≡ map (row_after lags) (range_with_len 0 (n + 1))
-more lags n kept error s a b e =
+    states ++ record { error = error; values = s.values } ∷ [] ≡ map (row_after lags) (range_with_len 0 (n + 1))
+more lags n states error s a b e =
     ap (λ r. r ++ record { error = error; values = s.values } ∷ []) a
     ∙ ap (λ z. map (row_after lags) (range_with_len 0 n) ++ record { error = z; values = s.values } ∷ []) e
     ∙ ap (λ t. map (row_after lags) (range_with_len 0 n) ++ t ∷ []) b
@@ -67,10 +67,10 @@ loop-step-preserved c =
     }
 
 -- all rows, and the last values
-finish : (lags : List ℤ) (n : ℕ) (kept : List State) (s : State) → kept ≡ map (row_after lags) (range_with_len 0 n) → s ≡ row_after lags 128 →
-    n ≡ min 128 (length (row_after lags 128).values + 1) → (kept ≡ rows lags 128) × (padded s.values ≡ row_solution lags 128)
+finish : (lags : List ℤ) (n : ℕ) (states : List State) (s : State) → states ≡ map (row_after lags) (range_with_len 0 n) → s ≡ row_after lags 128 →
+    n ≡ min 128 (length (row_after lags 128).values + 1) → (states ≡ rows lags 128) × (padded s.values ≡ row_solution lags 128)
 unfolding rows row_solution
-finish lags n kept s a b e = (a ∙ ap (λ k. map (row_after lags) (range_with_len 0 k)) e, ap (λ t. padded t.values) b)
+finish lags n states s a b e = (a ∙ ap (λ k. map (row_after lags) (range_with_len 0 k)) e, ap (λ t. padded t.values) b)
 
 pub returns : goal.returns
 returns c =

@@ -1,4 +1,4 @@
--- A row is kept for each step so far, and the run is the next one, with as many values.
+-- There is a row for each step so far, and the run is the next one, with as many values.
 use Rattle.std.proofs.Common.{◌≡◌, length, map}
 use Rattle.std.specs.List.{range_with_len}
 use Rattle.level_spec.specs.Rows.{row_after}

@@ -29,22 +29,23 @@ small lags k h =
 pub fit-first-requires : goal.fit-first-requires
 fit-first-requires c = λ j.
     let few = small c.solve_channels.new.joint j c.solve_channels.ensures.lawful in
-    let is : nat_abs (get_or c.keep_rows-kept.result.1 j (pos 0)) ≤ 2 ^ 32 =
-    subst (λ x. nat_abs (get_or x j (pos 0)) ≤ 2 ^ 32) (sym c.keep_rows-kept.ensures.solution) few in
+    let is : nat_abs (get_or c.keep_rows-rows.result.1 j (pos 0)) ≤ 2 ^ 32 =
+    subst (λ x. nat_abs (get_or x j (pos 0)) ≤ 2 ^ 32) (sym c.keep_rows-rows.ensures.solution) few in
     omega arith
 
 pub refine-requires-clause-rows : goal.refine-requires-clause-rows
 refine-requires-clause-rows c =
     let f = c.args.channels in
-    c.keep_rows-kept.ensures.rows ∙ ap (λ l. rows l 128) c.solve_channels.ensures.joint
+    c.keep_rows-rows.ensures.rows ∙ ap (λ l. rows l 128) c.solve_channels.ensures.joint
     ∙ ap (λ s. rows (correlations f s (channels_of f)) 128) (sym c.requires.begun)
     ∙ ap (λ n. rows (correlations f c.args.predictions.now.sound (range_with_len 0 n)) 128) (sym c.count.ensures.count)
 
 -- the first filter
-first : (f : Shape) (sound : List ℕ) (lags values filter : List ℤ) (kept : List State) → lags ≡ correlations f sound (channels_of f) → kept ≡ rows lags 128 →
-    values ≡ row_solution lags 128 → filter ≡ fitted kept values → filter ≡ first_filter f sound (channels_of f)
+first : (f : Shape) (sound : List ℕ) (lags values filter : List ℤ) (states : List State) → lags ≡ correlations f sound (channels_of f) →
+    states ≡ rows lags 128 →
+    values ≡ row_solution lags 128 → filter ≡ fitted states values → filter ≡ first_filter f sound (channels_of f)
 unfolding first_filter
-first f sound lags values filter kept a b v e = e ∙ ap (λ k. fitted k values) b ∙ ap (fitted (rows lags 128)) v
+first f sound lags values filter states a b v e = e ∙ ap (λ k. fitted k values) b ∙ ap (fitted (rows lags 128)) v
     ∙ ap (λ l. fitted (rows l 128) (row_solution l 128)) a
 
 -- what is refined from it
@@ -53,8 +54,8 @@ together : (c : goal.After-refine) → refined_from c.args.channels c.args.predi
 unfolding refined_together
 together c =
     let f = c.args.channels in
-    let filter = first f c.args.sound.now c.solve_channels.new.joint c.keep_rows-kept.result.1 c.fit-first.result c.keep_rows-kept.result.0
-    c.solve_channels.ensures.joint c.keep_rows-kept.ensures.rows c.keep_rows-kept.ensures.solution c.fit-first.ensures in
+    let filter = first f c.args.sound.now c.solve_channels.new.joint c.keep_rows-rows.result.1 c.fit-first.result c.keep_rows-rows.result.0
+    c.solve_channels.ensures.joint c.keep_rows-rows.ensures.rows c.keep_rows-rows.ensures.solution c.fit-first.ensures in
     ap (λ s. refined_from f s (range_with_len 0 c.count.result) 10 c.fit-first.result) c.requires.begun
     ∙ ap (λ k. refined_from f c.args.sound.now (range_with_len 0 k) 10 c.fit-first.result) c.count.ensures.count
     ∙ ap (refined_from f c.args.sound.now (channels_of f) 10) filter

@@ -29,16 +29,16 @@ part-is z a d q n some few size e f is =
     (whole, rw whole (div-most P n 4278190080 some (omega arith)))
 
 -- the same in 64 bits
-kept : (q : ℤ) → nat_abs q ≤ 4278190080 → to_z w64 (of_z w64 (to_z w128 (of_z w128 q))) ≡ q
-kept q h = omega (arith, ints)
+unchanged : (q : ℤ) → nat_abs q ≤ 4278190080 → to_z w64 (of_z w64 (to_z w128 (of_z w128 q))) ≡ q
+unchanged q h = omega (arith, ints)
 
 part-same : (z a d q : ℤ) (n : ℕ) → 1 ≤ n → n ≤ 2 ^ 56 → nat_abs z ≤ n → a ≡ to_z w64 (of_z w64 z) → d ≡ pos n → q ≡ quotient a d →
     to_z w64 (of_z w64 (to_z w128 (of_z w128 q))) ≡ int_div_euclid (z *ℤ pos 4278190080) (pos n)
-part-same z a d q n some few size e f is = let p = part-is z a d q n some few size e f is in kept q p.1 ∙ p.0
+part-same z a d q n some few size e f is = let p = part-is z a d q n some few size e f is in unchanged q p.1 ∙ p.0
 
 part-small : (z a d q : ℤ) (n : ℕ) → 1 ≤ n → n ≤ 2 ^ 56 → nat_abs z ≤ n → a ≡ to_z w64 (of_z w64 z) → d ≡ pos n → q ≡ quotient a d →
     nat_abs (to_z w64 (of_z w64 (to_z w128 (of_z w128 q)))) ≤ 4278190080
-part-small z a d q n some few size e f is = let p = part-is z a d q n some few size e f is in rw (kept q p.1) p.1
+part-small z a d q n some few size e f is = let p = part-is z a d q n some few size e f is in rw (unchanged q p.1) p.1
 
 part-fits : (z a d q : ℤ) (n : ℕ) → 1 ≤ n → n ≤ 2 ^ 56 → nat_abs z ≤ n → a ≡ to_z w64 (of_z w64 z) → d ≡ pos n → q ≡ quotient a d →
     SFits w64 (to_z w128 (of_z w128 q))

@@ -16,10 +16,10 @@ returns c =
     let y = c.args.wanted.now in
     let i = c.args.place in
     let values = c.values.result.now in
-    let kept = (get_or rows i no_row).values in
+    let row = (get_or rows i no_row).values in
     let left = c.left_by-rest.result in
     let L : List ℤ → ℕ → ℤ = λ vs n. get_or y n (pos 0) *ℤ pos (2 ^ 24) -ℤ sum_over (λ j. value vs (n - j) *ℤ get_or y j (pos 0)) 0 n in
-    let is : left ≡ L kept i = c.left_by-rest.ensures.left ∙ ap (L values) c.values.ensures.long ∙ ap (λ vs. L vs i) c.values.ensures.values in
+    let is : left ≡ L row i = c.left_by-rest.ensures.left ∙ ap (L values) c.values.ensures.long ∙ ap (λ vs. L vs i) c.values.ensures.values in
     let small : nat_abs left ≤ 2 ^ 99 = c.left_by-rest.ensures.most in
     let unit : to_z w128 (of_z w128 c.from.result) ≡ pos 16777216 = let e : c.from.result ≡ pos 16777216 = c.from.ensures in omega (arith, ints) in
     let raised : to_z w128 (of_z w128 (to_z w128 (of_z w128 left) *ℤ to_z w128 (of_z w128 c.from.result))) ≡ left *ℤ pos 16777216 =

@@ -4,8 +4,8 @@ use Rattle.std.specs.Map.{set_value}
 use Rattle.std.specs.Map.Iter.{deref_pair}
 use Rattle.lru.specs.LruCache.{promoted}
 use Rattle.frame_cache.specs.declared.slots.Slot.{Slot}
-use Rattle.frame_cache.specs.Slots.{kept, kept_in, AreSlots}
-use Rattle.frame_cache.proofs.Renewing.{IsLast, is_last, renewed, kept-renewed, slots-renewed, last_is_long}
+use Rattle.frame_cache.specs.Slots.{held, held_in, AreSlots}
+use Rattle.frame_cache.proofs.Renewing.{IsLast, is_last, renewed, held-renewed, slots-renewed, last_is_long}
 use Rattle.frame_cache.proofs.slots.renew_last.Goals as goal
 
 pub renew-requires : goal.renew-requires
@@ -24,13 +24,13 @@ renewed_to : {es new : List (ℕ × Slot)} {x : ℕ × Slot} {slot : Slot} (h : 
 renewed_to {es} {new} {x} {slot} h is =
     is ∙ ap (λ l. set_value (nat_eq x.0) (promoted (nat_eq x.0) l) slot) h.parts ∙ renewed h.front x slot h.found
 
-pub returns-clause-kept : goal.returns-clause-kept
-returns-clause-kept c count bytes slots =
+pub returns-clause-held : goal.returns-clause-held
+returns-clause-held c count bytes slots =
     let slot : Slot = record { frame = Some c.args.frame; sound = c.args.spare.now } in
     let h = last c in
-    ap kept_in (renewed_to h c.renew.ensures.entries)
-    ∙ kept-renewed count bytes h.front _ slot c.args.frame (subst (AreSlots count bytes) h.parts slots) refl
-    ∙ ap (λ l. take count (kept c.args.frame c.args.spare.now.items ∷ kept_in l)) (sym h.parts)
+    ap held_in (renewed_to h c.renew.ensures.entries)
+    ∙ held-renewed count bytes h.front _ slot c.args.frame (subst (AreSlots count bytes) h.parts slots) refl
+    ∙ ap (λ l. take count (held c.args.frame c.args.spare.now.items ∷ held_in l)) (sym h.parts)
 
 pub returns-clause-slots : goal.returns-clause-slots
 returns-clause-slots c count bytes slots long =

@@ -9,7 +9,7 @@ use Rattle.dsdiff_chunks.specs.declared.lists.ChunkHead.{ChunkHead}
 use Rattle.dsdiff_chunks.proofs.LawfulForms.{sound_inside}
 use Rattle.frame_index.specs.Entries.{Gathered}
 use Rattle.frame_index.specs.Fitting.{IsIndexOf}
-use Rattle.frame_index.proofs.Passing.{kept_are_few, walk_begins, walk_goes_on, same_error, same_fault, stops_at_limit, stops_at_misfit, stops_at_bad_frame}
+use Rattle.frame_index.proofs.Passing.{listed_are_few, walk_begins, walk_goes_on, same_error, same_fault, stops_at_limit, stops_at_misfit, stops_at_bad_frame}
 use Rattle.frame_index.proofs.Passing.{stops_at_other_count, walk_is, walk_fits}
 use Rattle.frame_index.proofs.frames.walk_from.Goals as goal
 
@@ -124,7 +124,7 @@ loop-place-preserved g c =
           c.loop-place.invariant.walked few c.loop-place-test.true c.loop-place.invariant.behind c.in-Ok.ensures.place
           (chunk_within head c.in-Ok.ensures.place c.in-Ok.ensures.within) next
           (λ xs told. c.in-Ok.ensures.head xs (c.loop-place.invariant.bytes ∙ told))
-          c.in-Ok-pass_chunk.ensures.count c.in-Ok-pass_chunk.ensures.kept c.in-Ok-pass_chunk.ensures.faultless;
+          c.in-Ok-pass_chunk.ensures.count c.in-Ok-pass_chunk.ensures.listed c.in-Ok-pass_chunk.ensures.faultless;
       room = c.in-Ok-pass_chunk.ensures.room ∙ c.loop-place.invariant.room;
     }
 
@@ -160,7 +160,7 @@ pub returns-in-Err-clause-never_memory : goal.returns-in-Err-clause-never_memory
 returns-in-Err-clause-never_memory g c refused e = c.in-Err.ensures.never_memory refused (ap Err (same_error _ _ e))
 
 pub pass_chunk-requires-clause-few : goal.pass_chunk-requires-clause-few
-pass_chunk-requires-clause-few g c = kept_are_few c.loop-place.invariant.walked
+pass_chunk-requires-clause-few g c = listed_are_few c.loop-place.invariant.walked
 
 pub returns-in-Err-pass_chunk-clause-given : goal.returns-in-Err-pass_chunk-clause-given
 returns-in-Err-pass_chunk-clause-given g c =

@@ -29,8 +29,8 @@ loop-channel-preserved c =
     let here : given ≡ get_or before channel still =
     get_or_default waves channel c.index-waves-channel.result still (omega arith) ∙ c.loop-channel.invariant.3 channel (omega arith) in
     let high : to_z w32 (of_z w32 c.height.result) ≡ c.height.result = omega (arith, ints) in
-    let added = channel_added t channel c.next_word-word.result sample before g c.loop-channel.generator c.next_word-word.new.self given next
-    (to_z w32 (of_z w32 c.height.result)) (omega arith) here c.loop-channel.invariant.1 c.next_word-word.ensures c.next-sample.ensures.sample
+    let added = channel_added t channel c.next_word-random.result sample before g c.loop-channel.generator c.next_word-random.new.self given next
+    (to_z w32 (of_z w32 c.height.result)) (omega arith) here c.loop-channel.invariant.1 c.next_word-random.ensures c.next-sample.ensures.sample
     (high ∙ c.height.ensures.value) c.next-sample.ensures.later in
     let long : length past.samples ≡ channel = length-samples t 0 (take channel before) g ∙ length-take-le channel before (omega arith) in
     let byte = get_or bytes channel 0 % 128 * 2 + sample in

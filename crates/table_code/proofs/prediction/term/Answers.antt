@@ -26,7 +26,7 @@ value_most g c =
 product_fits : (g : given.Over) (c : goal.After-from_last g) → SFits w32 (c.weight.result *ℤ c.from_last.result)
 product_fits g c = fits_signed_mul w32 c.weight.result c.from_last.result 56 256 (weight_most g c) (value_most g c) (omega arith)
 
--- the product is that of the weight and the value as they are kept
+-- the product is that of the weight and the value as they are held
 product_is : (g : given.Over) (c : goal.After-from_last g) →
     to_z w32 (of_z w32 c.weight.result) *ℤ to_z w32 (of_z w32 c.from_last.result) ≡ c.weight.result *ℤ c.from_last.result
 product_is g c = ap₂ (λ w v. w *ℤ v) (to_z-of_z w32 c.weight.result (search rules)) (to_z-of_z w32 c.from_last.result (search rules))

@@ -8,13 +8,13 @@ use Rattle.dst_spec.proofs.Rices.{length-rice}
 use Rattle.table_code.proofs.RiceParts.{rice_in_parts}
 use Rattle.table_code.proofs.rice.rice_write.Goals as goal
 
--- the residual is kept as it is, its size is that of the number, and its bits are the parts
+-- the residual stays as it is, its size is that of the number, and its bits are the parts
 parts : (c : goal.After-append-arg-1) → (to_z w32 (of_z w32 c.args.r) ≡ c.args.r) × (c.unsigned_abs-size.result ≡ nat_abs c.args.r)
     × (length (rice c.args.r c.args.m) ≡ c.unsigned_abs-size.result / 2 ^ c.args.m + 1 + c.args.m + length (sign_bits c.args.r))
 parts c =
-    let kept = to_z-of_z w32 c.args.r (search rules) in
-    let size : c.unsigned_abs-size.result ≡ nat_abs c.args.r = c.unsigned_abs-size.ensures.value ∙ ap nat_abs kept in
-    (kept, size, rw size (length-rice c.args.r c.args.m))
+    let stays = to_z-of_z w32 c.args.r (search rules) in
+    let size : c.unsigned_abs-size.result ≡ nat_abs c.args.r = c.unsigned_abs-size.ensures.value ∙ ap nat_abs stays in
+    (stays, size, rw size (length-rice c.args.r c.args.m))
 
 pub append-requires-clause-room : goal.append-requires-clause-room
 append-requires-clause-room c =

@@ -8,7 +8,7 @@ abbrev pub invariant-loop-n : goal.invariant-loop-n
 invariant-loop-n l = record {
   eight : AreEight l.self;
   many : length l.symbols ≡ 8;
-  stepped : (m : ℕ) → m < l.n → StepsBy (registers_at l.initial.self m) (get_or l.words m 0) (registers_at l.self m) (get_or l.symbols m 0);
+  stepped : (m : ℕ) → m < l.n → StepsBy (registers_at l.initial.self m) (get_or l.chances m 0) (registers_at l.self m) (get_or l.symbols m 0);
   left : (m : ℕ) → l.n ≤ m → registers_at l.self m ≡ registers_at l.initial.self m;
   first : l.self.first ≡ l.initial.self.first;
   place : l.self.place ≡ l.initial.self.place;

@@ -1,4 +1,4 @@
--- The rows, the size and the reach are those of the coefficients that are kept.
+-- The rows, the size and the reach are those of the coefficients that stand in it.
 use Rattle.std.proofs.Common.{subst, sym, ◌∙◌}
 use Rattle.dst_spec.specs.Table.{filter_kind, IsTable}
 use Rattle.byte_predictor.specs.Samples.{rising_bits}

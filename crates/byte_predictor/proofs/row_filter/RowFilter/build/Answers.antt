@@ -1,4 +1,4 @@
--- The rows, the table for the newest byte and the size are those of the coefficients that are kept.
+-- The rows, the table for the newest byte and the size are those of the coefficients that stand in it.
 use Rattle.std.proofs.Common.{pos, get_or, subst, sym, ◌∙◌}
 use Rattle.dst_spec.specs.Table.{filter_kind, IsTable, InRange}
 use Rattle.byte_predictor.specs.Samples.{rising_bits}

@@ -12,5 +12,5 @@ returns c file =
       count_is file (coded_seen self.form) self.first self.last,
       c.chunks_count-before.ensures.count,
       c.chunks_count-behind.ensures.count,
-      c.kept_count.ensures.count,
+      c.origin_count.ensures.count,
     )

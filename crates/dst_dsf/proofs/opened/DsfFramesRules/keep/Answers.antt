@@ -1,4 +1,4 @@
--- The rules of decoding are kept; what is left is `DSFK`.
+-- The rules of decoding hold; what is left is `DSFK`.
 use Rattle.std.proofs.Common.{◌≡◌, List, ℕ, Option, None, sym, ap, subst, ◌∙◌, arith}
 use Rattle.std.proofs.Math.Nat.{le_trans}
 use Rattle.dst_streams.specs.Told.{Loan}

@@ -10,4 +10,4 @@ pub returns-clause-added : goal.returns-clause-added
 returns-clause-added c = λ probs samples ready. record { ahead = c.take_byte.ensures.added samples ready.ahead; next = ready.next }
 
 pub returns-clause-others : goal.returns-clause-others
-returns-clause-others c = λ m ne. ap (λ a. record { ahead = a; next = entry_in (get_or c.args.self.now.words m 0) }) (c.take_byte.ensures.others m ne)
+returns-clause-others c = λ m ne. ap (λ a. record { ahead = a; next = entry_in (get_or c.args.self.now.chances m 0) }) (c.take_byte.ensures.others m ne)

@@ -1,4 +1,4 @@
--- One coefficient more is in range; where all are, and there are 1 to 128, the rule of filters is kept.
+-- One coefficient more is in range; where all are, and there are 1 to 128, the rule of filters holds.
 use Rattle.std.proofs.Common.{rules, pos}
 use Rattle.std.proofs.lemmas.List.Elements.{All-more}
 use Rattle.dst_spec.specs.Table.{filter_kind, InRange, IsTable}

@@ -1,4 +1,4 @@
--- One entry more is in range, or breaks the rule; where all are, and a lone one is 128, the rule is kept.
+-- One entry more is in range, or breaks the rule; where all are, and a lone one is 128, the rule holds.
 use Rattle.std.proofs.Common.{◌≡◌, rules, length, get_or, arith, pos, map}
 use Rattle.std.proofs.lemmas.List.Elements.{All-more}
 use Rattle.dst_spec.specs.Table.{prob_kind, IsTable}

@@ -9,11 +9,11 @@ use Rattle.dst_write.proofs.work.FrameStorerJobWork.work_job.Goals as goal
 pub returns-clause-done : goal.returns-clause-done
 returns-clause-done g c =
     let f = c.args.self.now.channels in
-    let kept = c.stored-stored.result.now in
+    let shortest = c.stored-stored.result.now in
     let old = c.args.job.now.frame in
     let long : length c.put_at_front.new.buffer ≡ length old.items = c.put_at_front.ensures.long ∙ ap length c.deref_mut.ensures.value in
     let whole = with_items_is old c.put_at_front.new.buffer (c.put_at_front.ensures.long ∙ c.deref_mut.ensures.len) in
-    let front = ap (take (length kept)) whole ∙ c.put_at_front.ensures.front in
+    let front = ap (take (length shortest)) whole ∙ c.put_at_front.ensures.front in
     let room = room_for longest c.args.job.now.size (length old.items) (length c.args.job.now.sound.items) c.args.job.now.channels f
     c.args.self.now.few c.requires.job in
     record {
@@ -25,7 +25,7 @@ returns-clause-done g c =
         arith,
         long,
         room.frame_long,
-        length-take (length kept) c.put_at_front.new.buffer,
+        length-take (length shortest) c.put_at_front.new.buffer,
         ap (λ (w : List ℕ). length w)
             c.put_at_front.ensures.front,
       );

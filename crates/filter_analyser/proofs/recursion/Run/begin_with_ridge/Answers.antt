@@ -1,4 +1,4 @@
--- The error is a little more than the first correlation, by the ridge, and fits its word.
+-- The error is a little more than the first correlation, by the ridge, and fits its type.
 use Rattle.std.proofs.Common.{◌≡◌, ℤ, pos, ◌*ℤ◌, to_z, of_z, [], get_or, ap, arith}
 use mir.Syntax.{w64}
 use Rattle.std.proofs.lemmas.Int.{ints}

@@ -1,4 +1,4 @@
--- Each sound that is kept has the bytes of a frame.
+-- Each sound that is held has the bytes of a frame.
 use Rattle.frame_cache.proofs.reader.RangeReader.front.Goals as goal
 
 pub returns-clause-long : goal.returns-clause-long

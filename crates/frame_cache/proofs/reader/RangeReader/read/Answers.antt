@@ -52,7 +52,7 @@ returns-in-Err-clause-frame g c k fault e =
     subst (λ j. IsRefusedAt r (wanted r c.args.from (length c.args.out.now)) (order c.bring.new.self) (g.S.Source.bytes c.args.source.now) j fault) (sym it.0)
     (refused_at r c.loop-frame.self c.bring.new.self _ (c.args.from / c.frame_bytes-bytes.result) _ c.loop-frame.frame _ _ _ _ _ fault (wants g c)
     c.loop-frame.auto.frame (is_among _ _ _ c.loop-frame.auto.frame c.loop-frame-test.true)
-    c.loop-frame.invariant.wanted c.in-Err.ensures.unchanged c.in-Err.ensures.not_kept c.loop-frame.invariant.bytes it.1)
+    c.loop-frame.invariant.wanted c.in-Err.ensures.unchanged c.in-Err.ensures.not_held c.loop-frame.invariant.bytes it.1)
 
 pub returns-in-Err-clause-part_way : goal.returns-in-Err-clause-part_way
 returns-in-Err-clause-part_way g c =
@@ -80,7 +80,7 @@ pub copy_part-requires-clause-sound_fits : goal.copy_part-requires-clause-sound_
 copy_part-requires-clause-sound_fits g c =
     let at = c.end_of_touched-end.ensures.each c.loop-frame.frame c.loop-frame.auto.frame c.loop-frame-test.true in
     let small = size_is_small _ _ c.frame_bytes-bytes.ensures.together c.frame_bytes-bytes.ensures.bytes c.frame_bytes-bytes.ensures.most in
-    let same = ap (λ (x : Reader). sound_bytes x.shape) (c.in-Ok.ensures.wanted.same ∙ ap (λ (x : Reader). record x { kept = c.bring.new.self.kept })
+    let same = ap (λ (x : Reader). sound_bytes x.shape) (c.in-Ok.ensures.wanted.same ∙ ap (λ (x : Reader). record x { held = c.bring.new.self.held })
     c.loop-frame.invariant.wanted.same) in
     omega (arith, at.0, small, c.requires.within, c.front.ensures.long, same, c.frame_bytes-bytes.ensures.bytes, c.frame_bytes-bytes.ensures.most)
 

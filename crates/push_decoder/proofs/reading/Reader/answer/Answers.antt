@@ -27,10 +27,10 @@ returns-in-Opened-clause-read c taken answered has =
     let i = c.self.inside in
     let here : HasRead (reading (Opened c.in-Opened.sound c.in-Opened.place) i.taken i.part i.frame i.version i.prop) taken answered =
     rw (← c.self.view_is, c.in-Opened.is) at has in
-    let kept : IsReader (reading (Opened c.in-Opened.sound c.in-Opened.place) i.taken i.part i.frame i.version i.prop) =
+    let still : IsReader (reading (Opened c.in-Opened.sound c.in-Opened.place) i.taken i.part i.frame i.version i.prop) =
     rw c.in-Opened.is at c.self.invariant in
     opened_read c.in-Opened.sound c.in-Opened.place i.taken i.part i.frame i.prop i.version taken answered c.sound_at-self-inside.result here
-    (kept.empty refl) (kept.stands.whole refl) c.sound_at-self-inside.ensures.fresh c.sound_at-self-inside.ensures.no_frame
+    (still.empty refl) (still.stands.whole refl) c.sound_at-self-inside.ensures.fresh c.sound_at-self-inside.ensures.no_frame
     c.sound_at-self-inside.ensures.tells c.sound_at-self-inside.ensures.answered c.sound_at-self-inside.ensures.goes_on
 
 pub returns-in-FrameWhole-clause-event : goal.returns-in-FrameWhole-clause-event
@@ -39,11 +39,11 @@ returns-in-FrameWhole-clause-event c taken answered has piece count =
     let h = head_seen c.in-FrameWhole.head in
     let here : HasRead (reading (FrameWhole c.in-FrameWhole.sound c.in-FrameWhole.head) i.taken i.part i.frame i.version i.prop) taken answered =
     rw (← c.self.view_is, c.in-FrameWhole.is) at has in
-    let kept : IsReader (reading (FrameWhole c.in-FrameWhole.sound c.in-FrameWhole.head) i.taken i.part i.frame i.version i.prop) =
+    let still : IsReader (reading (FrameWhole c.in-FrameWhole.sound c.in-FrameWhole.head) i.taken i.part i.frame i.version i.prop) =
     rw c.in-FrameWhole.is at c.self.invariant in (
       frame_is_due taken i.frame.bytes i.version i.prop.bytes answered c.in-FrameWhole.sound h c.frame_past-self-inside.result here.at_stage here.goes_on
-          (gathered_body c.in-FrameWhole.sound c.in-FrameWhole.head i.taken i.part i.frame i.prop i.version taken answered here (kept.stands.whole refl))
-          (kept.stands.whole refl ∙ here.count) c.frame_past-self-inside.ensures.goes_on,
+          (gathered_body c.in-FrameWhole.sound c.in-FrameWhole.head i.taken i.part i.frame i.prop i.version taken answered here (still.stands.whole refl))
+          (still.stands.whole refl ∙ here.count) c.frame_past-self-inside.ensures.goes_on,
       ap (λ s. s.found) c.in-FrameWhole.sound-is ∙ sym (ap frames_in here.at_stage.same ∙ here.at_stage.count),
     )
 
@@ -53,12 +53,12 @@ returns-in-FrameWhole-clause-read c taken answered has =
     let h = head_seen c.in-FrameWhole.head in
     let here : HasRead (reading (FrameWhole c.in-FrameWhole.sound c.in-FrameWhole.head) i.taken i.part i.frame i.version i.prop) taken answered =
     rw (← c.self.view_is, c.in-FrameWhole.is) at has in
-    let kept : IsReader (reading (FrameWhole c.in-FrameWhole.sound c.in-FrameWhole.head) i.taken i.part i.frame i.version i.prop) =
+    let still : IsReader (reading (FrameWhole c.in-FrameWhole.sound c.in-FrameWhole.head) i.taken i.part i.frame i.version i.prop) =
     rw c.in-FrameWhole.is at c.self.invariant in
     frame_read i.taken i.part i.frame i.prop i.version taken i.frame.bytes answered c.in-FrameWhole.sound h c.frame_past-self-inside.result here.at_stage
     here.front here.goes_on
-    (gathered_body c.in-FrameWhole.sound c.in-FrameWhole.head i.taken i.part i.frame i.prop i.version taken answered here (kept.stands.whole refl))
-    (kept.stands.whole refl ∙ here.count) c.frame_past-self-inside.ensures.goes_on here.count (kept.empty refl)
+    (gathered_body c.in-FrameWhole.sound c.in-FrameWhole.head i.taken i.part i.frame i.prop i.version taken answered here (still.stands.whole refl))
+    (still.stands.whole refl ∙ here.count) c.frame_past-self-inside.ensures.goes_on here.count (still.empty refl)
     c.frame_past-self-inside.ensures.fresh c.frame_past-self-inside.ensures.no_frame c.frame_past-self-inside.ensures.tells
     c.frame_past-self-inside.ensures.answered
 

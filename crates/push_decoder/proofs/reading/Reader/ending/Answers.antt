@@ -16,8 +16,8 @@ returns-in-Opened c taken answered has =
     let next = c.sound_at.result in
     let old : HasRead (reading i.stage i.taken i.part i.frame i.version i.prop) taken answered = rw (← c.self.view_is) at has in
     let here : HasRead (reading (Opened sound c.in-Opened.place) i.taken i.part i.frame i.version i.prop) taken answered = rw c.in-Opened.is at old in
-    let kept : IsReader (reading (Opened sound c.in-Opened.place) i.taken i.part i.frame i.version i.prop) = rw c.in-Opened.is at c.self.invariant in
-    let whole : c.in-Opened.place ≡ i.taken = kept.stands.whole refl in
+    let still : IsReader (reading (Opened sound c.in-Opened.place) i.taken i.part i.frame i.version i.prop) = rw c.in-Opened.is at c.self.invariant in
+    let whole : c.in-Opened.place ≡ i.taken = still.stands.whole refl in
     let ends : (stream taken).ending ≡ stage_ending next =
     ending_is taken answered (still_to_come i.version i.prop.bytes (Opened sound c.in-Opened.place)) here.goes_on
     ∙ ap (λ s. s.ending) (c.sound_at.ensures.goes_on taken i.version i.prop.bytes)
@@ -34,8 +34,8 @@ returns-in-FrameWhole c taken answered has =
     let next = c.frame_past.result in
     let old : HasRead (reading i.stage i.taken i.part i.frame i.version i.prop) taken answered = rw (← c.self.view_is) at has in
     let here : HasRead (reading (FrameWhole sound head) i.taken i.part i.frame i.version i.prop) taken answered = rw c.in-FrameWhole.is at old in
-    let kept : IsReader (reading (FrameWhole sound head) i.taken i.part i.frame i.version i.prop) = rw c.in-FrameWhole.is at c.self.invariant in
-    let whole : head.place + 12 + head.size ≡ i.taken = kept.stands.whole refl in
+    let still : IsReader (reading (FrameWhole sound head) i.taken i.part i.frame i.version i.prop) = rw c.in-FrameWhole.is at c.self.invariant in
+    let whole : head.place + 12 + head.size ≡ i.taken = still.stands.whole refl in
     let ends : (stream taken).ending ≡ stage_ending next =
     ending_is taken answered (still_to_come i.version i.prop.bytes (FrameWhole sound head)) here.goes_on
     ∙ ap (λ s. s.ending) (c.frame_past.ensures.goes_on taken i.version i.prop.bytes (omega (arith, whole, here.count)))

@@ -19,8 +19,8 @@ returns-clause-read c taken answered has =
     let body = take head.size c.args.bytes.now in
     let old : HasRead (reading i.stage i.taken i.part i.frame i.version i.prop) taken answered = rw (← c.self.view_is) at has in
     let here : HasRead (reading (FrameBody sound head) i.taken i.part i.frame i.version i.prop) taken answered = rw c.in-FrameBody.is at old in
-    let kept : IsReader (reading (FrameBody sound head) i.taken i.part i.frame i.version i.prop) = rw c.in-FrameBody.is at c.self.invariant in
-    let start : length taken ≡ head.place + 12 = omega (arith, here.count, kept.stands.begun refl, c.if-self-head.false) in
+    let still : IsReader (reading (FrameBody sound head) i.taken i.part i.frame i.version i.prop) = rw c.in-FrameBody.is at c.self.invariant in
+    let start : length taken ≡ head.place + 12 = omega (arith, here.count, still.stands.begun refl, c.if-self-head.false) in
     let there : head.size ≤ length c.args.bytes.now = omega (arith, c.if-head-bytes.false) in
     let long : length (taken ++ body) ≡ head.place + 12 + head.size =
     omega (arith, length-append taken body, length-take head.size c.args.bytes.now, there, start) in
@@ -29,5 +29,5 @@ returns-clause-read c taken answered has =
     ∙ ap (λ w. behind_answered answered (sound_chunk_from sound (head_seen head) w)) (sym (append_assoc taken body more)) in
     frame_read (i.taken + head.size) i.part i.frame i.prop i.version (taken ++ body) body answered sound (head_seen head) c.frame_past-self-inside.result
     here.at_stage here.front from (body_behind taken c.args.bytes.now head start there) (sym long) c.frame_past-self-inside.ensures.goes_on
-    (omega (arith, here.count, start, long)) (kept.empty refl) c.frame_past-self-inside.ensures.fresh c.frame_past-self-inside.ensures.no_frame
+    (omega (arith, here.count, start, long)) (still.empty refl) c.frame_past-self-inside.ensures.fresh c.frame_past-self-inside.ensures.no_frame
     c.frame_past-self-inside.ensures.tells c.frame_past-self-inside.ensures.answered

@@ -1,6 +1,0 @@
--- An early sample has the probability 128, another its own.
-use Rattle.std.proofs.Common.{rules}
-use Rattle.dst_frames.proofs.eight.early_word.Goals as goal
-
-pub returns-then-early-clause-prob : goal.returns-then-early-clause-prob
-returns-then-early-clause-prob c = search rules
