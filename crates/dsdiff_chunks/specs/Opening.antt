@@ -25,11 +25,11 @@ pub record Reads {S : Type 0} (bytes : S → Option (List ℕ)) (known : S → O
   pub later : faults old ≤ faults new
   pub given_most : given new ≤ given old + most
 
--- Why a step stops: the source failed, memory was refused, or told bytes break the step's rules.
-abbrev pub Stops : (List ℕ → Option FileFault) → Option (List ℕ) → ℕ → ℕ → OpenFault → Type 0
-Stops rules bytes before now Read = Rose before now
-Stops rules bytes before now (Memory refused) = Unit {0}
-Stops rules bytes before now (File fault) = (xs : List ℕ) → bytes ≡ Some xs → rules xs ≡ Some fault
+-- Why a step of opening fails: the source failed, memory was refused, or told bytes break the step's rules.
+abbrev pub HasOpenCause : (List ℕ → Option FileFault) → Option (List ℕ) → ℕ → ℕ → OpenFault → Type 0
+HasOpenCause rules bytes before now Read = Rose before now
+HasOpenCause rules bytes before now (Memory refused) = Unit {0}
+HasOpenCause rules bytes before now (File fault) = (xs : List ℕ) → bytes ≡ Some xs → rules xs ≡ Some fault
 
 -- the chunks of a form whose last pad byte may be missing
 abbrev pub may_lack_pad : List ℕ → Bool

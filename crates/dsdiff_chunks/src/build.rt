@@ -1,7 +1,7 @@
 // From the parts of a form to the form.
 ghost use Rattle.std.specs.Prelude.{◌≡◌, ℕ, ◌+◌, ◌≤◌, List, Some, Ok, IfOk, IfErr};
 ghost use Rattle.dsdiff_spec.specs.Rules.{form, form_fault};
-ghost use Rattle.dsdiff_chunks.specs.Opening.{Reads, Stops};
+ghost use Rattle.dsdiff_chunks.specs.Opening.{Reads, HasOpenCause};
 ghost use Rattle.dsdiff_chunks.specs.Prepared.{AreParts};
 ghost use Rattle.dsdiff_chunks.specs.Forms.{coded_seen, end_of, form_seen, plain_seen};
 
@@ -32,7 +32,7 @@ pub fn read_parts<S: Source>(alloc: Global, source: &mut S) -> Result<Parts, Ope
     ensures later { S.faults source.old ≤ S.faults source.new }
     ensures given { S.given source.new ≤ S.given source.old + 77841 }
     ensures parts { IfOk result (λ p. AreParts (S.bytes source.new) (S.known source.new) p) }
-    ensures stops { IfErr result (Stops form_fault (S.bytes source.old) (S.faults source.old) (S.faults source.new)) }
+    ensures stops { IfErr result (HasOpenCause form_fault (S.bytes source.old) (S.faults source.old) (S.faults source.new)) }
 {
     let chunks = match read_chunks(alloc, source) {
         Ok(chunks) => chunks,
@@ -74,7 +74,7 @@ pub fn plain_form<S: Source>(
     ensures source { Reads S.bytes S.known S.loan S.faults S.given source.old source.new 131104 }
     ensures end { IfOk result (λ f. f.end ≡ parts.chunks.end) }
     ensures form { IfOk result (λ f. (xs : List ℕ) → S.bytes source.old ≡ Some xs → form xs ≡ Ok (plain_seen f)) }
-    ensures stops { IfErr result (Stops form_fault (S.bytes source.old) (S.faults source.old) (S.faults source.new)) }
+    ensures stops { IfErr result (HasOpenCause form_fault (S.bytes source.old) (S.faults source.old) (S.faults source.new)) }
 {
     let Parts {
         chunks,
@@ -116,7 +116,7 @@ pub fn coded_form<S: Source>(
     ensures source { Reads S.bytes S.known S.loan S.faults S.given source.old source.new 131104 }
     ensures end { IfOk result (λ f. f.end ≡ parts.chunks.end) }
     ensures form { IfOk result (λ f. (xs : List ℕ) → S.bytes source.old ≡ Some xs → form xs ≡ Ok (coded_seen f)) }
-    ensures stops { IfErr result (Stops form_fault (S.bytes source.old) (S.faults source.old) (S.faults source.new)) }
+    ensures stops { IfErr result (HasOpenCause form_fault (S.bytes source.old) (S.faults source.old) (S.faults source.new)) }
 {
     let Parts {
         chunks,
@@ -159,7 +159,7 @@ pub fn form_of<S: Source>(alloc: Global, source: &mut S, parts: Parts) -> Result
     ensures source { Reads S.bytes S.known S.loan S.faults S.given source.old source.new 131104 }
     ensures end { IfOk result (λ f. end_of f ≡ parts.chunks.end) }
     ensures form { IfOk result (λ f. (xs : List ℕ) → S.bytes source.old ≡ Some xs → form xs ≡ Ok (form_seen f)) }
-    ensures stops { IfErr result (Stops form_fault (S.bytes source.old) (S.faults source.old) (S.faults source.new)) }
+    ensures stops { IfErr result (HasOpenCause form_fault (S.bytes source.old) (S.faults source.old) (S.faults source.new)) }
 {
     match parts.sound.kind {
         Kind::Plain => match plain_form(alloc, source, parts) {

@@ -9,7 +9,7 @@ ghost use Rattle.dsdiff_spec.specs.Faults.{◌when◌};
 ghost use Rattle.dsdiff_spec.specs.Rules.{origin_in};
 ghost use Rattle.dsdiff_spec.specs.declared.faults.FileFault.TheVariants.{KeptBad};
 ghost use Rattle.dsdiff_chunks.specs.Lawful.{IsOrigin, IsOriginIfAny, TileTo};
-ghost use Rattle.dsdiff_chunks.specs.Opening.{Reads, Stops, are_bad_origins, coded_sound_fault, frte_fault};
+ghost use Rattle.dsdiff_chunks.specs.Opening.{Reads, HasOpenCause, are_bad_origins, coded_sound_fault, frte_fault};
 ghost use Rattle.dsdiff_chunks.specs.Seen.{head_seen, origin_seen};
 
 use crate::common::read_octets;
@@ -52,7 +52,7 @@ pub fn read_frte<S: Source>(source: &mut S, sound: ChunkHead) -> Result<u32, Ope
     ensures few { IfOk result (λ n. n ≤ 1000000) }
     ensures count { IfOk result (λ n. (xs : List ℕ) → S.bytes source.old ≡ Some xs → n ≡ number_at xs (sound.place + 12 + 12) 4) }
     ensures accepted { IfOk result (λ _. (xs : List ℕ) → S.bytes source.old ≡ Some xs → coded_sound_fault xs (head_seen sound) ≡ None) }
-    ensures stops { IfErr result (Stops (λ xs. coded_sound_fault xs (head_seen sound)) (S.bytes source.old) (S.faults source.old) (S.faults source.new)) }
+    ensures stops { IfErr result (HasOpenCause (λ xs. coded_sound_fault xs (head_seen sound)) (S.bytes source.old) (S.faults source.old) (S.faults source.new)) }
     ensures never_memory { (refused : AllocError) → result ≡ Err (OpenFault.Memory refused) → ⊥ }
 {
     if sound.size < 18 {
@@ -82,7 +82,7 @@ fn read_one_origin<S: Source>(
     ensures origin { IfOk result (λ k. (xs : List ℕ) → S.bytes source.old ≡ Some xs → origin_seen k ≡ origin_of (body_of xs (head_seen head))) }
     ensures lawful { IfOk result (λ k. IsOrigin channels.channels (sound_bytes channels) frame_count (origin_seen k)) }
     ensures accepted { IfOk result (λ _. (xs : List ℕ) → S.bytes source.old ≡ Some xs → is_bad_origin channels.channels (sound_bytes channels) frame_count (body_of xs (head_seen head)) ≡ false) }
-    ensures stops { IfErr result (Stops (λ xs. KeptBad when is_bad_origin channels.channels (sound_bytes channels) frame_count (body_of xs (head_seen head))) (S.bytes source.old) (S.faults source.old) (S.faults source.new)) }
+    ensures stops { IfErr result (HasOpenCause (λ xs. KeptBad when is_bad_origin channels.channels (sound_bytes channels) frame_count (body_of xs (head_seen head))) (S.bytes source.old) (S.faults source.old) (S.faults source.new)) }
 {
     if head.size > 131086 {
         return Err(OpenFault::File(FileFault::KeptBad));
@@ -114,7 +114,7 @@ pub fn read_any_origin<S: Source>(
     ensures origin { IfOk result (λ o. (xs : List ℕ) → S.bytes source.old ≡ Some xs → option_map origin_seen o ≡ origin_in xs (named "KEPT" (map head_seen heads.now))) }
     ensures lawful { IfOk result (λ o. IsOriginIfAny channels.channels (sound_bytes channels) frame_count (option_map origin_seen o)) }
     ensures accepted { IfOk result (λ _. (xs : List ℕ) → S.bytes source.old ≡ Some xs → are_bad_origins channels.channels (sound_bytes channels) frame_count xs (named "KEPT" (map head_seen heads.now)) ≡ false) }
-    ensures stops { IfErr result (Stops (λ xs. KeptBad when are_bad_origins channels.channels (sound_bytes channels) frame_count xs (named "KEPT" (map head_seen heads.now))) (S.bytes source.old) (S.faults source.old) (S.faults source.new)) }
+    ensures stops { IfErr result (HasOpenCause (λ xs. KeptBad when are_bad_origins channels.channels (sound_bytes channels) frame_count xs (named "KEPT" (map head_seen heads.now))) (S.bytes source.old) (S.faults source.old) (S.faults source.new)) }
     // several are refused by name, before memory is taken
     ensures several { 1 < length (named "KEPT" (map head_seen heads.now)) → result ≡ Err (OpenFault.File KeptBad) }
 {

@@ -8,7 +8,7 @@ ghost use Rattle.dsdiff_spec.specs.Parts.{channel_count, multiple, compression};
 ghost use Rattle.dsdiff_spec.specs.Rules.{local_fault};
 ghost use Rattle.dsdiff_spec.specs.declared.faults.FileFault.{FileFault};
 ghost use Rattle.dsdiff_chunks.specs.Lawful.{TileTo};
-ghost use Rattle.dsdiff_chunks.specs.Opening.{Reads, Stops, first_fault, is_sound, props_fault, sounds_fault};
+ghost use Rattle.dsdiff_chunks.specs.Opening.{Reads, HasOpenCause, first_fault, is_sound, props_fault, sounds_fault};
 ghost use Rattle.dsdiff_chunks.specs.Kinds.{kind_seen};
 ghost use Rattle.dsdiff_chunks.specs.Seen.{head_seen};
 ghost use Rattle.dsdiff_chunks.specs.Steps.{IsTheSound};
@@ -56,7 +56,7 @@ pub fn read_octets<S: Source>(
     ensures source { Reads S.bytes S.known S.loan S.faults S.given source.old source.new count }
     ensures long { IfOk result (λ octets. length octets.items ≡ count) }
     ensures read { IfOk result (λ octets. (xs : List ℕ) → S.bytes source.old ≡ Some xs → octets.items ≡ bytes_at xs from count) }
-    ensures stops { IfErr result (λ fault. (rules : List ℕ → Option FileFault) → Stops rules (S.bytes source.old) (S.faults source.old) (S.faults source.new) fault) }
+    ensures stops { IfErr result (λ fault. (rules : List ℕ → Option FileFault) → HasOpenCause rules (S.bytes source.old) (S.faults source.old) (S.faults source.new) fault) }
 {
     let mut octets = match vec![in alloc; 0; count as usize] {
         Ok(octets) => octets,
@@ -78,7 +78,7 @@ pub fn check_version<S: Source>(
     requires tiled { TileTo end 16 (map head_seen heads.now) }
     ensures source { Reads S.bytes S.known S.loan S.faults S.given source.old source.new 1 }
     ensures accepted { OnOk result ((xs : List ℕ) → S.bytes source.old ≡ Some xs → first_fault xs (the_first (map head_seen heads.now)) ≡ None) }
-    ensures stops { IfErr result (Stops (λ xs. first_fault xs (the_first (map head_seen heads.now))) (S.bytes source.old) (S.faults source.old) (S.faults source.new)) }
+    ensures stops { IfErr result (HasOpenCause (λ xs. first_fault xs (the_first (map head_seen heads.now))) (S.bytes source.old) (S.faults source.old) (S.faults source.new)) }
     ensures never_memory { (refused : AllocError) → result ≡ Err (OpenFault.Memory refused) → ⊥ }
 {
     if heads.is_empty() {
@@ -93,7 +93,7 @@ fn check_first<S: Source>(source: &mut S, head: ChunkHead, end: u64) -> Result<(
     requires within { head.place + 12 + head.size ≤ end }
     ensures source { Reads S.bytes S.known S.loan S.faults S.given source.old source.new 1 }
     ensures accepted { OnOk result ((xs : List ℕ) → S.bytes source.old ≡ Some xs → first_fault xs (head_seen head) ≡ None) }
-    ensures stops { IfErr result (Stops (λ xs. first_fault xs (head_seen head)) (S.bytes source.old) (S.faults source.old) (S.faults source.new)) }
+    ensures stops { IfErr result (HasOpenCause (λ xs. first_fault xs (head_seen head)) (S.bytes source.old) (S.faults source.old) (S.faults source.new)) }
     ensures never_memory { (refused : AllocError) → result ≡ Err (OpenFault.Memory refused) → ⊥ }
 {
     if head.id != *b"FVER" || head.size != 4 {
@@ -143,7 +143,7 @@ pub fn read_body_of_prop<S: Source>(
     ensures rules { IfOk result (λ p. local_fault (head.place + 12) p.body.items ≡ None) }
     ensures shape { IfOk result (λ p. p.fields.channels ≡ shape_of (channel_count p.body.items) (multiple p.body.items)) }
     ensures type_is { IfOk result (λ p. p.fields.compression ≡ compression p.body.items) }
-    ensures stops { IfErr result (Stops (λ xs. local_fault (head.place + 12) (bytes_at xs (head.place + 12) head.size)) (S.bytes source.old) (S.faults source.old) (S.faults source.new)) }
+    ensures stops { IfErr result (HasOpenCause (λ xs. local_fault (head.place + 12) (bytes_at xs (head.place + 12) head.size)) (S.bytes source.old) (S.faults source.old) (S.faults source.new)) }
 {
     let body = match read_octets(alloc, source, head.place + 12, head.size) {
         Ok(body) => body,

@@ -4,7 +4,7 @@ ghost use Rattle.dst_spec.specs.Sample.{sound_bytes};
 ghost use Rattle.dsdiff_spec.specs.Bytes.{bytes_at};
 ghost use Rattle.dsdiff_spec.specs.Form.{frames_for};
 ghost use Rattle.dsdiff_spec.specs.declared.faults.FileFault.{FileFault};
-ghost use Rattle.dsdiff_chunks.specs.Opening.{Reads, Stops, count_fault, plain_parts_fault, space_fault};
+ghost use Rattle.dsdiff_chunks.specs.Opening.{Reads, HasOpenCause, count_fault, plain_parts_fault, space_fault};
 ghost use Rattle.dsdiff_chunks.specs.Seen.{head_seen};
 
 use crate::common::read_octets;
@@ -73,7 +73,7 @@ fn read_pad<S: Source>(source: &mut S, sound: ChunkHead) -> Result<u8, OpenFault
     ensures source { Reads S.bytes S.known S.loan S.faults S.given source.old source.new 1 }
     ensures even { IfOk result (λ pad. sound.size % 2 ≡ 0 → pad ≡ 0) }
     ensures read { IfOk result (λ pad. (xs : List ℕ) → S.bytes source.old ≡ Some xs → pad ≡ (if sound.size % 2 == 1 then get_or xs (sound.place + 12 + sound.size) 0 else 0)) }
-    ensures stops { IfErr result (λ fault. (rules : List ℕ → Option FileFault) → Stops rules (S.bytes source.old) (S.faults source.old) (S.faults source.new) fault) }
+    ensures stops { IfErr result (λ fault. (rules : List ℕ → Option FileFault) → HasOpenCause rules (S.bytes source.old) (S.faults source.old) (S.faults source.new) fault) }
 {
     if sound.size % 2 == 0 {
         return Ok(0);
@@ -116,7 +116,7 @@ pub fn read_plain<S: Source>(
     ensures behind_most { IfOk result (λ p. length p.behind.items ≤ 65536) }
     ensures behind { IfOk result (λ p. (xs : List ℕ) → S.bytes source.old ≡ Some xs → p.behind.items ≡ bytes_at xs chunks.now.end (chunks.now.size - chunks.now.end)) }
     ensures accepted { IfOk result (λ _. plain_parts_fault chunks.now.size chunks.now.end (map head_seen chunks.now.heads.items) prop_size sound.size channels.channels (sound_bytes channels) ≡ None) }
-    ensures stops { IfErr result (Stops (λ _. plain_parts_fault chunks.now.size chunks.now.end (map head_seen chunks.now.heads.items) prop_size sound.size channels.channels (sound_bytes channels)) (S.bytes source.old) (S.faults source.old) (S.faults source.new)) }
+    ensures stops { IfErr result (HasOpenCause (λ _. plain_parts_fault chunks.now.size chunks.now.end (map head_seen chunks.now.heads.items) prop_size sound.size channels.channels (sound_bytes channels)) (S.bytes source.old) (S.faults source.old) (S.faults source.new)) }
 {
     let frames = match count_frames(channels, sound.size) {
         Ok(frames) => frames,

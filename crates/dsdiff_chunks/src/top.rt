@@ -8,7 +8,7 @@ ghost use Rattle.dsdiff_spec.specs.declared.faults.FileFault.TheVariants.{Overru
 ghost use Rattle.dsdiff_spec.specs.Parts.{form_end};
 ghost use Rattle.dsdiff_spec.specs.Rules.{opening_fault};
 ghost use Rattle.dsdiff_chunks.specs.Lawful.{TileTo};
-ghost use Rattle.dsdiff_chunks.specs.Opening.{Reads, Stops, head_fault, may_lack_pad};
+ghost use Rattle.dsdiff_chunks.specs.Opening.{Reads, HasOpenCause, head_fault, may_lack_pad};
 ghost use Rattle.dsdiff_chunks.specs.Seen.{head_seen};
 ghost use Rattle.dsdiff_chunks.specs.Steps.{AreChunks, IsExtent};
 
@@ -76,7 +76,7 @@ pub fn read_extent<S: Source>(source: &mut S) -> Result<Extent, OpenFault>
     ensures most { IfOk result (λ extent. extent.end ≤ 2 ^ 50 + 12) }
     ensures within { IfOk result (λ extent. extent.end ≤ extent.size) }
     ensures told { IfOk result (λ extent. (xs : List ℕ) → S.bytes source.old ≡ Some xs → IsExtent xs extent.size extent.end) }
-    ensures stops { IfErr result (Stops opening_fault (S.bytes source.old) (S.faults source.old) (S.faults source.new)) }
+    ensures stops { IfErr result (HasOpenCause opening_fault (S.bytes source.old) (S.faults source.old) (S.faults source.new)) }
     ensures never_memory { (refused : AllocError) → result ≡ Err (OpenFault.Memory refused) → ⊥ }
 {
     let Ok(size) = source.size() else {
@@ -114,7 +114,7 @@ fn next_head<S: Source>(source: &mut S, place: u64, end: u64) -> Result<ChunkHea
     ensures within { IfOk result (λ h. place + 12 + h.size ≤ end) }
     ensures fits { IfOk result (λ h. fits may_lack_pad end (head_seen h) ≡ true) }
     ensures head { IfOk result (λ h. (xs : List ℕ) → S.bytes source.old ≡ Some xs → head_at xs place ≡ head_seen h) }
-    ensures stops { IfErr result (Stops (λ xs. Overrun place when not (fits may_lack_pad end (head_at xs place))) (S.bytes source.old) (S.faults source.old) (S.faults source.new)) }
+    ensures stops { IfErr result (HasOpenCause (λ xs. Overrun place when not (fits may_lack_pad end (head_at xs place))) (S.bytes source.old) (S.faults source.old) (S.faults source.new)) }
     ensures never_memory { (refused : AllocError) → result ≡ Err (OpenFault.Memory refused) → ⊥ }
 {
     if end - place < 12 {
@@ -144,7 +144,7 @@ pub fn read_heads<S: Source>(
     ensures tiled { IfOk result (λ heads. TileTo end 16 (map head_seen heads.items)) }
     ensures whole { IfOk result (λ heads. All (λ h. fits may_lack_pad end h ≡ true) (map head_seen heads.items)) }
     ensures found { IfOk result (λ heads. (xs : List ℕ) → S.bytes source.old ≡ Some xs → chunks_from may_lack_pad xs end 1024 16 ≡ record { heads = map head_seen heads.items; fault = None }) }
-    ensures stops { IfErr result (Stops (λ xs. (chunks_from may_lack_pad xs end 1024 16).fault) (S.bytes source.old) (S.faults source.old) (S.faults source.new)) }
+    ensures stops { IfErr result (HasOpenCause (λ xs. (chunks_from may_lack_pad xs end 1024 16).fault) (S.bytes source.old) (S.faults source.old) (S.faults source.new)) }
 {
     let mut heads = match Vec::with_capacity(alloc, MOST_CHUNKS) {
         Ok(heads) => heads,
@@ -173,7 +173,7 @@ pub fn read_chunks<S: Source>(alloc: Global, source: &mut S) -> Result<Chunks, O
     ensures later { S.faults source.old ≤ S.faults source.new }
     ensures given { S.given source.new ≤ S.given source.old + 12304 }
     ensures chunks { IfOk result (λ c. AreChunks (S.bytes source.new) (S.known source.new) c.size c.end (map head_seen c.heads.items)) }
-    ensures stops { IfErr result (Stops opening_fault (S.bytes source.old) (S.faults source.old) (S.faults source.new)) }
+    ensures stops { IfErr result (HasOpenCause opening_fault (S.bytes source.old) (S.faults source.old) (S.faults source.new)) }
 {
     let extent = match read_extent(source) {
         Ok(extent) => extent,

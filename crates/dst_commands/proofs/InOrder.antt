@@ -17,7 +17,7 @@ use Rattle.dsdiff_spec.proofs.CodedFiles.{refused_by}
 use Rattle.dsdiff_spec.proofs.Lawful.{when_not}
 use Rattle.dsdiff_chunks.specs.declared.open.OpenFault.{OpenFault}
 use Rattle.dsdiff_chunks.specs.declared.open.OpenFault.TheVariants.{Read, Memory, File}
-use Rattle.dsdiff_chunks.specs.Opening.{Stops}
+use Rattle.dsdiff_chunks.specs.Opening.{HasOpenCause}
 
 pub then_is : (a b : Option FileFault) → a ≡ None → (a otherwise b) ≡ b
 then_is a b e = ap (λ a. a otherwise b) e
@@ -43,14 +43,14 @@ names_one k frames e = ltb-true k frames (not-false (frames above k) (when_not (
 -- ---- why a step stops
 pub stops_by : (rules : List ℕ → Option FileFault) (fault : OpenFault) (bytes : Option (List ℕ)) (before now : ℕ) →
     ((f : FileFault) → fault ≡ File f → (file : List ℕ) → bytes ≡ Some file → rules file ≡ Some f) → (fault ≡ Read → Rose before now) →
-    Stops rules bytes before now fault
+    HasOpenCause rules bytes before now fault
 stops_by rules (File f) bytes before now h read = h f refl
 stops_by rules Read bytes before now h read = read refl
 stops_by rules (Memory refused) bytes before now h read = tt
 
 -- a rule that refuses a file before others does
-pub stops_ahead : (rule rest : List ℕ → Option FileFault) (fault : OpenFault) (bytes : Option (List ℕ)) (before now : ℕ) → Stops rule bytes before now fault →
-    Stops (λ file. rule file otherwise rest file) bytes before now fault
+pub stops_ahead : (rule rest : List ℕ → Option FileFault) (fault : OpenFault) (bytes : Option (List ℕ)) (before now : ℕ) → HasOpenCause rule bytes before now fault →
+    HasOpenCause (λ file. rule file otherwise rest file) bytes before now fault
 stops_ahead rule rest (File f) bytes before now stops = λ file told. ap (λ o. o otherwise rest file) (stops file told)
 stops_ahead rule rest Read bytes before now stops = stops
 stops_ahead rule rest (Memory refused) bytes before now stops = stops
@@ -101,7 +101,7 @@ rules_by_index k file = refl
 
 -- rules that refuse the same stop a step for the same cause
 pub stops_as : (a b : List ℕ → Option FileFault) (fault : OpenFault) (bytes : Option (List ℕ)) (before now : ℕ) → ((file : List ℕ) → b file ≡ a file) →
-    Stops a bytes before now fault → Stops b bytes before now fault
+    HasOpenCause a bytes before now fault → HasOpenCause b bytes before now fault
 stops_as a b (File f) bytes before now same stops = λ file told. same file ∙ stops file told
 stops_as a b Read bytes before now same stops = stops
 stops_as a b (Memory refused) bytes before now same stops = stops

@@ -4,7 +4,7 @@ ghost use Rattle.dsdiff_spec.specs.Refusal.{command_fault, form_refusal};
 ghost use Rattle.dsdiff_spec.specs.Rules as files;
 ghost use Rattle.dsdiff_spec.specs.Words.{Command};
 ghost use Rattle.dsdiff_chunks.specs.Forms.{end_of, form_seen};
-ghost use Rattle.dsdiff_chunks.specs.Opening.{Reads, Stops};
+ghost use Rattle.dsdiff_chunks.specs.Opening.{Reads, HasOpenCause};
 
 use dsdiff_chunks::{Form, OpenFault, open_form};
 use dst_streams::Source;
@@ -39,7 +39,7 @@ pub trait Rules {
         ensures end { IfOk result (λ o. end o ≡ end_of form) }
         ensures passes { IfOk result (λ _. (file : List ℕ) → S.bytes source.old ≡ Some file → command_fault (command self.now) file (form_seen form) ≡ None) }
         ensures opened { IfOk result (λ o. (file : List ℕ) → S.bytes source.old ≡ Some file → files.accepted file ≡ form_seen form → is_of self.now file o) }
-        ensures stops { IfErr result (Stops (λ file. command_fault (command self.now) file (form_seen form)) (S.bytes source.old) (S.faults source.old) (S.faults source.new)) };
+        ensures stops { IfErr result (HasOpenCause (λ file. command_fault (command self.now) file (form_seen form)) (S.bytes source.old) (S.faults source.old) (S.faults source.new)) };
 }
 
 /// Opens a file by the rules of a command: answers what the command has of it, or the first rule that fails.
@@ -55,7 +55,7 @@ pub fn open_file<S: Source, R: Rules>(
     ensures size { IfOk result (λ o. (n : ℕ) × (S.known source.new ≡ Some n) × (R.end o ≤ n)) }
     ensures accepted { IfOk result (λ _. (file : List ℕ) → S.bytes source.old ≡ Some file → form_refusal (R.command rules.now) file ≡ None) }
     ensures opened { IfOk result (λ o. (file : List ℕ) → S.bytes source.old ≡ Some file → R.is_of rules.now file o) }
-    ensures stops { IfErr result (Stops (form_refusal (R.command rules.now)) (S.bytes source.old) (S.faults source.old) (S.faults source.new)) }
+    ensures stops { IfErr result (HasOpenCause (form_refusal (R.command rules.now)) (S.bytes source.old) (S.faults source.old) (S.faults source.new)) }
 {
     let form = match open_form(alloc, source) {
         Ok(form) => form,

@@ -9,7 +9,7 @@ ghost use Rattle.dsdiff_spec.specs.Rules.{accepted};
 ghost use Rattle.dsdiff_spec.specs.Words as words;
 ghost use Rattle.dsdiff_spec.specs.declared.faults.FileFault.{FileFault};
 ghost use Rattle.dsdiff_chunks.specs.Forms.{coded_seen, form_seen, plain_seen};
-ghost use Rattle.dsdiff_chunks.specs.Opening.{Reads, Stops};
+ghost use Rattle.dsdiff_chunks.specs.Opening.{Reads, HasOpenCause};
 ghost use Rattle.dst_commands.specs.Opened.{IsWalked, IsFound, IsAny, end_of_any};
 
 use crate::opened::{AnyForm, FoundFrame, WalkedForm};
@@ -71,7 +71,7 @@ pub fn walk_form<S: Source>(
     ensures form { IfOk result (λ w. w.form ≡ form) }
     ensures passes { IfOk result (λ _. (file : List ℕ) → S.bytes source.old ≡ Some file → walk_fault file (coded_seen form) ≡ None) }
     ensures entries { IfOk result (λ w. (file : List ℕ) → S.bytes source.old ≡ Some file → entries file (coded_seen form) ≡ w.index) }
-    ensures stops { IfErr result (Stops (λ file. walk_fault file (coded_seen form)) (S.bytes source.old) (S.faults source.old) (S.faults source.new)) }
+    ensures stops { IfErr result (HasOpenCause (λ file. walk_fault file (coded_seen form)) (S.bytes source.old) (S.faults source.old) (S.faults source.new)) }
 {
     match walk(alloc, source, &form) {
         Ok(index) => Ok(WalkedForm { form, index }),

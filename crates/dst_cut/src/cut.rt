@@ -11,7 +11,7 @@ ghost use Rattle.dsdiff_spec.specs.Refusal.{form_refusal, refusal};
 ghost use Rattle.dsdiff_spec.specs.Outcome.{Answer, done};
 ghost use Rattle.dsdiff_spec.specs.Walk.{entries};
 ghost use Rattle.dsdiff_chunks.specs.Forms.{coded_seen};
-ghost use Rattle.dsdiff_chunks.specs.Opening.{Stops};
+ghost use Rattle.dsdiff_chunks.specs.Opening.{HasOpenCause};
 ghost use Rattle.dst_commands.specs.Commands.{OutcomeOf};
 ghost use Rattle.dst_cut.specs.Cutting.{CutEnds, HasItsCause, IsCutForm, of_device};
 
@@ -108,7 +108,7 @@ fn open_cut<S: Source>(
     ensures buffer { IfOk result (λ o. length o.buffer.items ≡ 65536) }
     ensures accepted { IfOk result (λ _. (file : List ℕ) → S.bytes source.old ≡ Some file → form_refusal (words.cut first last) file ≡ None) }
     ensures opened { IfOk result (λ o. (file : List ℕ) → S.bytes source.old ≡ Some file → IsCutForm first last file o.cut) }
-    ensures stops { IfErr result (Stops (form_refusal (words.cut first last)) (S.bytes source.old) (S.faults source.old) (S.faults source.new)) }
+    ensures stops { IfErr result (HasOpenCause (form_refusal (words.cut first last)) (S.bytes source.old) (S.faults source.old) (S.faults source.new)) }
 {
     let cut = match open_file(alloc, source, &CutFrames { first, last }) {
         Ok(cut) => cut,

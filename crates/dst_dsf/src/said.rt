@@ -6,7 +6,7 @@ ghost use Rattle.dsdiff_spec.specs.Dsf.{dsf_in, dsf_said, dsfk_fault, dsfk_heads
 ghost use Rattle.dsdiff_spec.specs.Form.{size_of_sound};
 ghost use Rattle.dsdiff_chunks.specs.Forms.{coded_seen};
 ghost use Rattle.dsdiff_chunks.specs.Seen.{head_seen};
-ghost use Rattle.dsdiff_chunks.specs.Opening.{Reads, Stops};
+ghost use Rattle.dsdiff_chunks.specs.Opening.{Reads, HasOpenCause};
 ghost use Rattle.dsf_files.specs.Forms.{dsf_seen};
 ghost use Rattle.dst_dsf.specs.Said.{IsSaid, said_in, is_bad_body};
 
@@ -26,7 +26,7 @@ pub(crate) fn read_said<S: Source>(source: &mut S, form: &CodedForm) -> Result<D
     ensures passes { IfOk result (λ _. (file : List ℕ) → S.bytes source.old ≡ Some file → dsfk_fault file (coded_seen form.now) ≡ None) }
     ensures said { IfOk result (λ d. (file : List ℕ) → S.bytes source.old ≡ Some file → dsf_in file (coded_seen form.now) ≡ dsf_seen d) }
     ensures lawful { IfOk result (IsSaid form.now) }
-    ensures stops { IfErr result (Stops (λ file. dsfk_fault file (coded_seen form.now)) (S.bytes source.old) (S.faults source.old) (S.faults source.new)) }
+    ensures stops { IfErr result (HasOpenCause (λ file. dsfk_fault file (coded_seen form.now)) (S.bytes source.old) (S.faults source.old) (S.faults source.new)) }
 {
     let head = match find_dsfk(form.heads.as_slice()) {
         Finding::Nothing => return Ok(usual_form(form)),
@@ -55,7 +55,7 @@ fn read_dsfk<S: Source>(
     ensures passes { IfOk result (λ _. (file : List ℕ) → S.bytes source.old ≡ Some file → dsfk_fault file (coded_seen form.now) ≡ None) }
     ensures said { IfOk result (λ d. (file : List ℕ) → S.bytes source.old ≡ Some file → dsf_in file (coded_seen form.now) ≡ dsf_seen d) }
     ensures lawful { IfOk result (IsSaid form.now) }
-    ensures stops { IfErr result (Stops (λ file. dsfk_fault file (coded_seen form.now)) (S.bytes source.old) (S.faults source.old) (S.faults source.new)) }
+    ensures stops { IfErr result (HasOpenCause (λ file. dsfk_fault file (coded_seen form.now)) (S.bytes source.old) (S.faults source.old) (S.faults source.new)) }
 {
     if head.size != 14 {
         return Err(OpenFault::File(FileFault::DsfKeptBad));

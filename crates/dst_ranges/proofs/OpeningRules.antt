@@ -17,7 +17,7 @@ use Rattle.dsdiff_spec.proofs.CodedFiles.{form_by, refused_by}
 use Rattle.dsdiff_spec.proofs.Lawful.{when_not, first_of}
 use Rattle.dsdiff_chunks.specs.declared.open.OpenFault.{OpenFault}
 use Rattle.dsdiff_chunks.specs.declared.open.OpenFault.TheVariants.{Read, Memory, File}
-use Rattle.dsdiff_chunks.specs.Opening.{Stops}
+use Rattle.dsdiff_chunks.specs.Opening.{HasOpenCause}
 use Rattle.dst_commands.proofs.InOrder.{then_is}
 use Rattle.frame_cache.specs.Reader.{Reader}
 
@@ -33,8 +33,8 @@ refused_first pairs file fault h = rules_of_range pairs file ∙ go (form_fault 
     go (Some other) e = e
     go None e = ap (λ r. r otherwise first_some (past_fault (accepted file)) pairs) e
 
-pub stops_first : (pairs : List (ℕ × ℕ)) (fault : OpenFault) (bytes : Option (List ℕ)) (before now : ℕ) → Stops (form_refusal index) bytes before now fault →
-    Stops (refusal (range pairs)) bytes before now fault
+pub stops_first : (pairs : List (ℕ × ℕ)) (fault : OpenFault) (bytes : Option (List ℕ)) (before now : ℕ) → HasOpenCause (form_refusal index) bytes before now fault →
+    HasOpenCause (refusal (range pairs)) bytes before now fault
 stops_first pairs (File f) bytes before now stops = λ file told. refused_first pairs file f (stops file told)
 stops_first pairs Read bytes before now stops = stops
 stops_first pairs (Memory refused) bytes before now stops = stops

@@ -38,7 +38,7 @@ pub(crate) fn open_parts<S: Source>(
     ensures size { IfOk result (λ o. (n : ℕ) × (S.known source.new ≡ Some n) × (o.reader.end ≤ n)) }
     ensures ready { IfOk result (λ o. IsReady pairs.now o) }
     ensures opened { IfOk result (λ o. (file : List ℕ) → S.bytes source.old ≡ Some file → IsOpened pairs.now file o) }
-    ensures stops { IfErr result (opening.Stops (refusal (words.range pairs.now)) (S.bytes source.old) (S.faults source.old) (S.faults source.new)) }
+    ensures stops { IfErr result (opening.HasOpenCause (refusal (words.range pairs.now)) (S.bytes source.old) (S.faults source.old) (S.faults source.new)) }
 {
     let WalkedForm { form, index } = match open_file(alloc, source, &AllFrames) {
         Ok(walked) => walked,

@@ -199,14 +199,14 @@ pub only_reported : (a : Result Reported ShowFault) (fault : ShowFault) (before 
 only_reported a fault before now h e = (subst (λ a. IfErr a (λ fault. (fault ≡ Report) × Rose before now)) e h).0
 
 pub ends_unopened : (fault : OpenFault) (c : Command) (bytes : Option (List ℕ)) (before now : ℕ) (file : List ℕ) (old new : Option (List ℕ))
-    (room : Option ℕ) (appended_before appended_now : ℕ) → bytes ≡ Some file → opening.Stops (refusal c) bytes before now fault →
+    (room : Option ℕ) (appended_before appended_now : ℕ) → bytes ≡ Some file → opening.HasOpenCause (refusal c) bytes before now fault →
     ReportEnds (Err (Source fault)) c file old new room appended_before appended_now
 ends_unopened (File f) c bytes before now file old new room appended_before appended_now told stops = stops file told
 ends_unopened Read c bytes before now file old new room appended_before appended_now told stops = tt {0}
 ends_unopened (Memory refused) c bytes before now file old new room appended_before appended_now told stops = tt {0}
 
 pub cause_unopened : (fault : OpenFault) (rules : List ℕ → Option FileFault) (bytes : Option (List ℕ)) (source_before source_now before now : ℕ) →
-    opening.Stops rules bytes source_before source_now fault → HasReportCause (Source fault) source_before source_now before now
+    opening.HasOpenCause rules bytes source_before source_now fault → HasReportCause (Source fault) source_before source_now before now
 cause_unopened (File f) rules bytes source_before source_now before now stops = tt {0}
 cause_unopened Read rules bytes source_before source_now before now stops = stops
 cause_unopened (Memory refused) rules bytes source_before source_now before now stops = tt {0}

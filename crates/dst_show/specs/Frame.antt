@@ -30,6 +30,6 @@ HasNoSound f k e Write bytes before now = ⊥
 
 -- why a command on one frame finds no sound: the file or the frame is refused, or the source or memory fails
 abbrev pub FindsNoSound : Command → Option (List ℕ) → (source_before source_now : ℕ) → DecodeFault → Type 0
-FindsNoSound c bytes before now (Source fault) = opening.Stops (refusal c) bytes before now fault
+FindsNoSound c bytes before now (Source fault) = opening.HasOpenCause (refusal c) bytes before now fault
 FindsNoSound c bytes before now (Frame k fault) = (file : List ℕ) → bytes ≡ Some file → OutcomeOf c file (frame_refused k fault [])
 FindsNoSound c bytes before now Write = ⊥

@@ -65,7 +65,7 @@ pub record IsHeaderOf (k : ℕ) (file line : List ℕ) (frames : ℕ) : Type 0 w
 
 -- why the command finds no header: the file or the frame is refused, or the source or memory fails
 abbrev pub FindsNoHeader : ℕ → Option (List ℕ) → (source_before source_now : ℕ) → ShowFault → Type 0
-FindsNoHeader k bytes before now (Source fault) = opening.Stops (refusal (show_frame k)) bytes before now fault
+FindsNoHeader k bytes before now (Source fault) = opening.HasOpenCause (refusal (show_frame k)) bytes before now fault
 FindsNoHeader k bytes before now (Frame j fault) = (file : List ℕ) → bytes ≡ Some file → OutcomeOf (show_frame k) file (frame_refused j fault [])
 FindsNoHeader k bytes before now Report = ⊥
 

@@ -133,7 +133,7 @@ fn open_frame<S: Source>(
     ensures size { IfOk result (λ f. (n : ℕ) × (S.known source.new ≡ Some n) × (f.form.end ≤ n)) }
     ensures accepted { IfOk result (λ _. (file : List ℕ) → S.bytes source.old ≡ Some file → refusal (words.frame number by_index) file ≡ None) }
     ensures found { IfOk result (λ f. (file : List ℕ) → S.bytes source.old ≡ Some file → IsFound by_index file number f) }
-    ensures stops { IfErr result (opening.Stops (refusal (words.frame number by_index)) (S.bytes source.old) (S.faults source.old) (S.faults source.new)) }
+    ensures stops { IfErr result (opening.HasOpenCause (refusal (words.frame number by_index)) (S.bytes source.old) (S.faults source.old) (S.faults source.new)) }
 {
     if by_index {
         open_file(alloc, source, &FrameByIndex { number })

@@ -9,7 +9,7 @@ ghost use Rattle.dsdiff_spec.specs.Rules.{accepted};
 ghost use Rattle.dsdiff_spec.specs.Words.{encode};
 ghost use Rattle.dsdiff_spec.specs.Refusal.{form_refusal, refusal};
 ghost use Rattle.dsdiff_chunks.specs.Forms.{plain_seen};
-ghost use Rattle.dsdiff_chunks.specs.Opening.{Stops};
+ghost use Rattle.dsdiff_chunks.specs.Opening.{HasOpenCause};
 ghost use Rattle.dst_write.specs.Encoding.{EncodingEnds, UnsizedEnds, HasItsCause, of_device};
 ghost use Rattle.dst_write.specs.Frames.{HasRoomFor};
 ghost use Rattle.dst_write.specs.Layout.{before};
@@ -104,7 +104,7 @@ fn open_plain<S: Source>(
     ensures room { IfOk result (λ o. HasRoomFor o.form.channels o.form.frames o.workspace) }
     ensures accepted { IfOk result (λ _. (file : List ℕ) → S.bytes source.old ≡ Some file → form_refusal (encode 1) file ≡ None) }
     ensures opened { IfOk result (λ o. (file : List ℕ) → S.bytes source.old ≡ Some file → accepted file ≡ plain_seen o.form) }
-    ensures stops { IfErr result (Stops (form_refusal (encode 1)) (S.bytes source.old) (S.faults source.old) (S.faults source.new)) }
+    ensures stops { IfErr result (HasOpenCause (form_refusal (encode 1)) (S.bytes source.old) (S.faults source.old) (S.faults source.new)) }
 {
     let form = match open_file(alloc, source, &PlainFile) {
         Ok(form) => form,

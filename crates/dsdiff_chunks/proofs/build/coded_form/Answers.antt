@@ -13,7 +13,7 @@ use Rattle.dsdiff_chunks.specs.Opening.{is_sound, are_bad_origins}
 use Rattle.dsdiff_chunks.specs.Prepared.{heads_of}
 use Rattle.dsdiff_chunks.specs.Seen.{head_seen, origin_seen}
 use Rattle.dsdiff_chunks.proofs.Only.{only_within}
-use Rattle.dsdiff_chunks.proofs.Stopping.{Stops-in}
+use Rattle.dsdiff_chunks.proofs.Stopping.{HasOpenCause-in}
 use Rattle.dsdiff_chunks.proofs.Whole.{kind_left, coded_left, shape_back, coded_at_sound, count_by_parts, form_is, form_is_lawful}
 use Rattle.dsdiff_chunks.proofs.build.coded_form.Given.{Over}
 use Rattle.dsdiff_chunks.proofs.build.coded_form.Goals as goal
@@ -35,7 +35,7 @@ read_frte-requires-clause-most g c =
 
 pub returns-in-Err-clause-stops : goal.returns-in-Err-clause-stops
 returns-in-Err-clause-stops g c =
-    Stops-in _ form_fault (g.S.Source.bytes c.args.source.now) (g.S.Source.bytes c.args.source.now) (g.S.Source.faults c.args.source.now)
+    HasOpenCause-in _ form_fault (g.S.Source.bytes c.args.source.now) (g.S.Source.bytes c.args.source.now) (g.S.Source.faults c.args.source.now)
     (g.S.Source.faults c.args.source.now) _
     c.in-Err.fault refl (omega arith)
     (λ xs f told e.
@@ -55,7 +55,7 @@ origin_left g c xs told =
 
 pub returns-in-Err-read_any_origin-clause-stops : goal.returns-in-Err-read_any_origin-clause-stops
 returns-in-Err-read_any_origin-clause-stops g c =
-    Stops-in _ form_fault (g.S.Source.bytes c.args.source.now) (g.S.Source.bytes c.read_frte.new.source) (g.S.Source.faults c.args.source.now)
+    HasOpenCause-in _ form_fault (g.S.Source.bytes c.args.source.now) (g.S.Source.bytes c.read_frte.new.source) (g.S.Source.faults c.args.source.now)
     (g.S.Source.faults c.read_frte.new.source) _
     c.in-Err-read_any_origin.fault c.in-Ok.ensures.source.same_bytes c.in-Ok.ensures.source.later
     (λ xs f told e. origin_left g c.before.before.before.before xs told ∙ e)

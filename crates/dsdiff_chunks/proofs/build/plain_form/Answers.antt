@@ -7,7 +7,7 @@ use Rattle.dsdiff_spec.specs.Form.{frames_for}
 use Rattle.dsdiff_spec.specs.Parts.{channel_count, multiple}
 use Rattle.dsdiff_spec.specs.Rules.{form_fault}
 use Rattle.dsdiff_chunks.specs.Seen.{head_seen}
-use Rattle.dsdiff_chunks.proofs.Stopping.{Stops-in}
+use Rattle.dsdiff_chunks.proofs.Stopping.{HasOpenCause-in}
 use Rattle.dsdiff_chunks.proofs.Whole.{shape_back, plain_left, plain_padded, plain_frames, behind_by_parts, form_is, form_is_lawful}
 use Rattle.dsdiff_chunks.proofs.build.plain_form.Goals as goal
 
@@ -16,7 +16,7 @@ read_plain-requires-clause-padded g c = plain_padded c.requires.parts c.requires
 
 pub returns-in-Err-clause-stops : goal.returns-in-Err-clause-stops
 returns-in-Err-clause-stops g c =
-    Stops-in _ form_fault (g.S.Source.bytes c.args.source.now) (g.S.Source.bytes c.args.source.now) (g.S.Source.faults c.args.source.now)
+    HasOpenCause-in _ form_fault (g.S.Source.bytes c.args.source.now) (g.S.Source.bytes c.args.source.now) (g.S.Source.faults c.args.source.now)
     (g.S.Source.faults c.args.source.now) _
     c.in-Err.fault refl (omega arith)
     (λ xs f told e. plain_left c.requires.parts c.requires.kind xs told ∙ e)

@@ -10,21 +10,21 @@ use Rattle.dsdiff_chunks.specs.Opening.{first_fault}
 use Rattle.dsdiff_chunks.specs.Seen.{head_seen}
 use Rattle.dsdiff_chunks.specs.Steps.{IsTheSound}
 use Rattle.dsdiff_chunks.proofs.Chain.{at_opening, at_version, at_props, the_prop, the_body, at_prop, past_prop, at_sound, past_sound, the_sound}
-use Rattle.dsdiff_chunks.proofs.Stopping.{Stops-in}
+use Rattle.dsdiff_chunks.proofs.Stopping.{HasOpenCause-in}
 use Rattle.dsdiff_chunks.proofs.build.read_parts.Given.{Over}
 use Rattle.dsdiff_chunks.proofs.build.read_parts.Goals as goal
 use Rattle.dsdiff_chunks.proofs.build.read_parts.Goals.{After-find_sound-arg-1, In-Ok-check_version}
 
 pub returns-in-Err-clause-stops : goal.returns-in-Err-clause-stops
 returns-in-Err-clause-stops g c =
-    Stops-in opening_fault form_fault (g.S.Source.bytes c.args.source.now) (g.S.Source.bytes c.args.source.now) (g.S.Source.faults c.args.source.now)
+    HasOpenCause-in opening_fault form_fault (g.S.Source.bytes c.args.source.now) (g.S.Source.bytes c.args.source.now) (g.S.Source.faults c.args.source.now)
     (g.S.Source.faults c.args.source.now) _
     c.in-Err.fault refl (omega arith) (λ xs f told e. at_opening xs f e) c.in-Err.ensures.stops
 
 pub returns-in-Err-check_version-clause-stops : goal.returns-in-Err-check_version-clause-stops
 returns-in-Err-check_version-clause-stops g c =
     let heads = map head_seen c.as_slice-heads.result.now in
-    Stops-in _ form_fault (g.S.Source.bytes c.args.source.now) (g.S.Source.bytes c.read_chunks.new.source) (g.S.Source.faults c.args.source.now)
+    HasOpenCause-in _ form_fault (g.S.Source.bytes c.args.source.now) (g.S.Source.bytes c.read_chunks.new.source) (g.S.Source.faults c.args.source.now)
     (g.S.Source.faults c.read_chunks.new.source) _
     c.in-Err-check_version.fault c.in-Ok.ensures.bytes c.in-Ok.ensures.later
     (λ xs f told e.
@@ -49,7 +49,7 @@ returns-in-Err-find_prop-clause-stops g c xs told =
 pub returns-in-Err-read_body_of_prop-clause-stops : goal.returns-in-Err-read_body_of_prop-clause-stops
 returns-in-Err-read_body_of_prop-clause-stops g c =
     let version = c.in-Ok-check_version.ensures.source in
-    Stops-in _ form_fault (g.S.Source.bytes c.args.source.now) (g.S.Source.bytes c.check_version.new.source) (g.S.Source.faults c.args.source.now)
+    HasOpenCause-in _ form_fault (g.S.Source.bytes c.args.source.now) (g.S.Source.bytes c.check_version.new.source) (g.S.Source.faults c.args.source.now)
     (g.S.Source.faults c.check_version.new.source) _
     c.in-Err-read_body_of_prop.fault (version.same_bytes ∙ c.in-Ok.ensures.bytes) (omega (arith, version.later, c.in-Ok.ensures.later))
     (λ xs f told e.

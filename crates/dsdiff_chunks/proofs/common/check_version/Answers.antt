@@ -3,7 +3,7 @@ use Rattle.std.proofs.Common.{◌≡◌, ℕ, List, length, sym, arith, subst, S
 use Rattle.std.specs.Prelude.{OnOk, IfErr}
 use Rattle.std.proofs.lemmas.Bool.{eqb-false}
 use Rattle.dsdiff_spec.specs.Chunks.{Head}
-use Rattle.dsdiff_chunks.specs.Opening.{Stops, first_fault}
+use Rattle.dsdiff_chunks.specs.Opening.{HasOpenCause, first_fault}
 use Rattle.dsdiff_chunks.proofs.Versions.{the_first_seen, the_first_within}
 use Rattle.dsdiff_chunks.proofs.common.check_version.Goals as goal
 
@@ -24,6 +24,6 @@ returns-clause-stops g c =
     let some = eqb-false (length c.args.heads.now) 0 (sym c.if-is_empty.ensures) in
     subst
     (λ (h : Head). IfErr c.check_first.result
-    (Stops (λ xs. first_fault xs h) (g.S.Source.bytes c.args.source.now) (g.S.Source.faults c.args.source.now)
+    (HasOpenCause (λ xs. first_fault xs h) (g.S.Source.bytes c.args.source.now) (g.S.Source.faults c.args.source.now)
     (g.S.Source.faults c.check_first.new.source)))
     (sym (the_first_seen c.args.heads.now _ (omega (arith, some)))) c.check_first.ensures.stops

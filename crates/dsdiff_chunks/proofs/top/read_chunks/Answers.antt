@@ -5,7 +5,7 @@ use Rattle.dsdiff_spec.specs.Chunks.{chunks_from}
 use Rattle.dsdiff_spec.specs.Rules.{opening_fault}
 use Rattle.dsdiff_chunks.specs.Opening.{may_lack_pad}
 use Rattle.dsdiff_chunks.proofs.Extents.{opened_by_chunks, refused_by_chunks}
-use Rattle.dsdiff_chunks.proofs.Stopping.{Stops-in}
+use Rattle.dsdiff_chunks.proofs.Stopping.{HasOpenCause-in}
 use Rattle.dsdiff_chunks.proofs.top.read_chunks.Goals as goal
 
 pub returns-in-Err-clause-stops : goal.returns-in-Err-clause-stops
@@ -13,7 +13,7 @@ returns-in-Err-clause-stops g c = c.in-Err.ensures.stops
 
 pub returns-in-Err-read_heads-clause-stops : goal.returns-in-Err-read_heads-clause-stops
 returns-in-Err-read_heads-clause-stops g c =
-    Stops-in (λ xs. (chunks_from may_lack_pad xs c.in-Ok.extent.end 1024 16).fault) opening_fault (g.S.Source.bytes c.args.source.now)
+    HasOpenCause-in (λ xs. (chunks_from may_lack_pad xs c.in-Ok.extent.end 1024 16).fault) opening_fault (g.S.Source.bytes c.args.source.now)
     (g.S.Source.bytes c.read_extent.new.source) (g.S.Source.faults c.args.source.now) (g.S.Source.faults c.read_extent.new.source) _
     c.in-Err-read_heads.fault c.in-Ok.ensures.bytes c.in-Ok.ensures.later
     (λ xs f told refused. refused_by_chunks f (c.in-Ok.ensures.told xs told) refused)

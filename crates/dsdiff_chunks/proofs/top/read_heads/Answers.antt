@@ -7,7 +7,7 @@ use Rattle.dsdiff_chunks.specs.Lawful.{TileTo}
 use Rattle.dsdiff_chunks.specs.Opening.{may_lack_pad}
 use Rattle.dsdiff_chunks.specs.Seen.{head_seen}
 use Rattle.dsdiff_chunks.proofs.TopLevel.{in_front, in_front_of_none, nothing_left, too_many, overrun_found, found_more, tiled_more}
-use Rattle.dsdiff_chunks.proofs.Stopping.{Stops-in}
+use Rattle.dsdiff_chunks.proofs.Stopping.{HasOpenCause-in}
 use Rattle.dsdiff_chunks.proofs.top.read_heads.Goals as goal
 
 pub returns-then-len-eq-MOST_CHUNKS-clause-stops : goal.returns-then-len-eq-MOST_CHUNKS-clause-stops
@@ -23,7 +23,7 @@ pub returns-in-Err-next_head-clause-stops : goal.returns-in-Err-next_head-clause
 returns-in-Err-next_head-clause-stops g c =
     let heads = c.loop-place.heads.items in
     let few : 1024 - length heads ≡ suc (1023 - length heads) = omega (arith, c.loop-place.heads.ok.0, c.if-len-eq-MOST_CHUNKS.false) in
-    Stops-in _ (λ xs. (chunks_from may_lack_pad xs c.args.end 1024 16).fault) (g.S.Source.bytes c.args.source.now) _
+    HasOpenCause-in _ (λ xs. (chunks_from may_lack_pad xs c.args.end 1024 16).fault) (g.S.Source.bytes c.args.source.now) _
     (g.S.Source.faults c.args.source.now) _ _ c.in-Err-next_head.fault c.loop-place.invariant.bytes c.loop-place.invariant.faults
     (λ xs f told refused.
     overrun_found may_lack_pad xs c.args.end (1023 - length heads) c.loop-place.place (map head_seen heads) _ f few

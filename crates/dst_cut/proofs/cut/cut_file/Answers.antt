@@ -37,7 +37,7 @@ returns-in-Err-clause-later g c = (c.open_cut.ensures.later, le_refl (g.K.Sink.f
 pub returns-in-Err-clause-file : goal.returns-in-Err-clause-file
 returns-in-Err-clause-file g c fault e file told =
     rules_of_cut c.args.first c.args.last file
-    ∙ (subst (λ f. opening.Stops (form_refusal (words.cut c.args.first c.args.last)) (g.S.Source.bytes c.args.source.now)
+    ∙ (subst (λ f. opening.HasOpenCause (form_refusal (words.cut c.args.first c.args.last)) (g.S.Source.bytes c.args.source.now)
     (g.S.Source.faults c.args.source.now) (g.S.Source.faults c.open_cut.new.source) f) (same_source c.in-Err.fault _ e) c.in-Err.ensures.stops) file told
 
 pub returns-in-Err-clause-untouched : goal.returns-in-Err-clause-untouched
@@ -48,7 +48,7 @@ returns-in-Err-clause-refused g c file told fault e = refl
 
 pub returns-in-Err-clause-read : goal.returns-in-Err-clause-read
 returns-in-Err-clause-read g c e =
-    subst (λ f. opening.Stops (form_refusal (words.cut c.args.first c.args.last)) (g.S.Source.bytes c.args.source.now)
+    subst (λ f. opening.HasOpenCause (form_refusal (words.cut c.args.first c.args.last)) (g.S.Source.bytes c.args.source.now)
     (g.S.Source.faults c.args.source.now) (g.S.Source.faults c.open_cut.new.source) f) (same_source c.in-Err.fault Read e) c.in-Err.ensures.stops
 
 pub returns-in-Err-clause-write : goal.returns-in-Err-clause-write

@@ -30,12 +30,12 @@ same_source a b e = cc
 pub returns-in-Err-clause-file : goal.returns-in-Err-clause-file
 returns-in-Err-clause-file g c fault e file told =
     rules_of_decode file
-    ∙ (subst (λ f. opening.Stops (form_refusal index) (g.S.Source.bytes c.args.source.now) (g.S.Source.faults c.args.source.now)
+    ∙ (subst (λ f. opening.HasOpenCause (form_refusal index) (g.S.Source.bytes c.args.source.now) (g.S.Source.faults c.args.source.now)
     (g.S.Source.faults c.open_file.new.source) f) (same_source c.in-Err.fault _ e) c.in-Err.ensures.stops) file told
 
 pub returns-in-Err-clause-read : goal.returns-in-Err-clause-read
 returns-in-Err-clause-read g c e =
-    subst (λ f. opening.Stops (form_refusal index) (g.S.Source.bytes c.args.source.now) (g.S.Source.faults c.args.source.now)
+    subst (λ f. opening.HasOpenCause (form_refusal index) (g.S.Source.bytes c.args.source.now) (g.S.Source.faults c.args.source.now)
     (g.S.Source.faults c.open_file.new.source) f) (same_source c.in-Err.fault _ e) c.in-Err.ensures.stops
 
 pub returns-in-Err-clause-cut_short : goal.returns-in-Err-clause-cut_short

@@ -49,12 +49,12 @@ returns-in-Err-clause-later g c = (c.open_plain.ensures.later, le_refl (g.K.Sink
 pub returns-in-Err-clause-file : goal.returns-in-Err-clause-file
 returns-in-Err-clause-file g c fault e file told level =
     rules_of_encode level file
-    ∙ (subst (λ f. opening.Stops (form_refusal (encode 1)) (g.S.Source.bytes c.args.source.now) (g.S.Source.faults c.args.source.now)
+    ∙ (subst (λ f. opening.HasOpenCause (form_refusal (encode 1)) (g.S.Source.bytes c.args.source.now) (g.S.Source.faults c.args.source.now)
     (g.S.Source.faults c.open_plain.new.source) f) (same_source c.in-Err.fault _ e) c.in-Err.ensures.stops) file told
 
 pub returns-in-Err-clause-read : goal.returns-in-Err-clause-read
 returns-in-Err-clause-read g c e =
-    subst (λ f. opening.Stops (form_refusal (encode 1)) (g.S.Source.bytes c.args.source.now) (g.S.Source.faults c.args.source.now)
+    subst (λ f. opening.HasOpenCause (form_refusal (encode 1)) (g.S.Source.bytes c.args.source.now) (g.S.Source.faults c.args.source.now)
     (g.S.Source.faults c.open_plain.new.source) f) (same_source c.in-Err.fault Read e) c.in-Err.ensures.stops
 
 pub returns-in-Err-clause-untouched : goal.returns-in-Err-clause-untouched

@@ -4,7 +4,7 @@ use Rattle.dsdiff_spec.specs.Refusal.{command_fault}
 use Rattle.dsdiff_spec.specs.Walk.{entries, walk_fault}
 use Rattle.dsdiff_spec.specs.Words.{index}
 use Rattle.dsdiff_chunks.specs.Forms.{coded_seen, form_seen}
-use Rattle.dsdiff_chunks.specs.Opening.{Stops}
+use Rattle.dsdiff_chunks.specs.Opening.{HasOpenCause}
 use Rattle.dsdiff_chunks.specs.declared.form.CodedForm.{CodedForm}
 use Rattle.dsdiff_chunks.specs.declared.form.Form.{Form}
 use Rattle.dst_commands.proofs.InOrder.{plain_refused}
@@ -16,7 +16,7 @@ returns-in-Err-clause-stops g c file told =
 
 pub returns-in-Err-walk_form-clause-stops : goal.returns-in-Err-walk_form-clause-stops
 returns-in-Err-walk_form-clause-stops g c =
-    subst (λ (f : Form). Stops (λ file. command_fault index file (form_seen f)) (g.S.Source.bytes c.args.source.now) (g.S.Source.faults c.args.source.now)
+    subst (λ (f : Form). HasOpenCause (λ file. command_fault index file (form_seen f)) (g.S.Source.bytes c.args.source.now) (g.S.Source.faults c.args.source.now)
     (g.S.Source.faults c.walk_form.new.source) c.in-Err-walk_form.fault) (sym c.in-Ok.ensures.coded) c.in-Err-walk_form.ensures.stops
 
 pub returns-in-Ok-walk_form-clause-passes : goal.returns-in-Ok-walk_form-clause-passes

@@ -7,7 +7,7 @@ use Rattle.dsdiff_spec.specs.Words.{check}
 use Rattle.dsdiff_chunks.specs.Forms.{coded_seen, form_seen}
 use Rattle.dsdiff_chunks.specs.declared.form.CodedForm.{CodedForm}
 use Rattle.dsdiff_chunks.specs.declared.form.Form.{Form}
-use Rattle.dsdiff_chunks.specs.Opening.{Stops}
+use Rattle.dsdiff_chunks.specs.Opening.{HasOpenCause}
 use Rattle.dst_commands.proofs.InOrder.{index_left, stops_ahead, stops_by}
 use Rattle.dst_commands.proofs.rules.CheckedFileRules.keep.Goals as goal
 
@@ -16,7 +16,7 @@ returns-in-Err-check_index-clause-stops g c =
     let faults = g.S.Source.faults in
     let form = coded_seen c.in-Coded.form in
     let walked = c.in-Ok.ensures in
-    subst (λ (f : Form). Stops (λ file. command_fault check file (form_seen f)) (g.S.Source.bytes c.args.source.now) (faults c.args.source.now)
+    subst (λ (f : Form). HasOpenCause (λ file. command_fault check file (form_seen f)) (g.S.Source.bytes c.args.source.now) (faults c.args.source.now)
     (faults c.check_index.new.source) c.in-Err-check_index.fault) (sym c.in-Coded.is)
     (stops_by (λ file. command_fault check file form) c.in-Err-check_index.fault (g.S.Source.bytes c.args.source.now) (faults c.args.source.now)
     (faults c.check_index.new.source)
@@ -35,7 +35,7 @@ returns-in-Plain-clause-opened g c file told is = is ∙ ap form_seen c.in-Plain
 pub returns-in-Err-clause-stops : goal.returns-in-Err-clause-stops
 returns-in-Err-clause-stops g c =
     let form = coded_seen c.in-Coded.form in
-    subst (λ (f : Form). Stops (λ file. command_fault check file (form_seen f)) (g.S.Source.bytes c.args.source.now) (g.S.Source.faults c.args.source.now)
+    subst (λ (f : Form). HasOpenCause (λ file. command_fault check file (form_seen f)) (g.S.Source.bytes c.args.source.now) (g.S.Source.faults c.args.source.now)
     (g.S.Source.faults c.walk_form.new.source) c.in-Err.fault) (sym c.in-Coded.is)
     (stops_ahead (λ file. walk_fault file form) (λ file. check_index_fault file form) c.in-Err.fault (g.S.Source.bytes c.args.source.now)
     (g.S.Source.faults c.args.source.now) (g.S.Source.faults c.walk_form.new.source) c.in-Err.ensures.stops)

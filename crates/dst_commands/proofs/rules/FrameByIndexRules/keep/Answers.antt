@@ -6,14 +6,14 @@ use Rattle.dsdiff_spec.specs.Walk.{by_index_fault}
 use Rattle.dsdiff_spec.specs.Words.{frame}
 use Rattle.dsdiff_chunks.specs.Forms.{coded_seen, form_seen}
 use Rattle.dsdiff_chunks.specs.declared.form.Form.{Form}
-use Rattle.dsdiff_chunks.specs.Opening.{Stops}
+use Rattle.dsdiff_chunks.specs.Opening.{HasOpenCause}
 use Rattle.dst_commands.proofs.InOrder.{stops_by, indexed_is, plain_refused}
 use Rattle.dst_commands.proofs.rules.FrameByIndexRules.keep.Goals as goal
 
 pub returns-in-Err-locate_by_index-clause-stops : goal.returns-in-Err-locate_by_index-clause-stops
 returns-in-Err-locate_by_index-clause-stops g c =
     let k = c.args.self.now.number in
-    subst (λ (f : Form). Stops (λ file. command_fault (frame k true) file (form_seen f)) (g.S.Source.bytes c.args.source.now)
+    subst (λ (f : Form). HasOpenCause (λ file. command_fault (frame k true) file (form_seen f)) (g.S.Source.bytes c.args.source.now)
     (g.S.Source.faults c.args.source.now) (g.S.Source.faults c.locate_by_index.new.source) c.in-Err-locate_by_index.fault)
     (sym c.in-Ok.ensures.coded)
     (stops_by (λ file. command_fault (frame k true) file (coded_seen c.in-Ok.form)) c.in-Err-locate_by_index.fault (g.S.Source.bytes c.args.source.now)

@@ -5,7 +5,7 @@ use Rattle.dsdiff_spec.specs.Refusal.{command_fault, no_frame}
 use Rattle.dsdiff_spec.specs.Walk.{entries, entry, walk_fault}
 use Rattle.dsdiff_spec.specs.Words.{show_frame}
 use Rattle.dsdiff_chunks.specs.Forms.{coded_seen, form_seen}
-use Rattle.dsdiff_chunks.specs.Opening.{Stops}
+use Rattle.dsdiff_chunks.specs.Opening.{HasOpenCause}
 use Rattle.dsdiff_chunks.specs.declared.form.CodedForm.{CodedForm}
 use Rattle.dsdiff_chunks.specs.declared.form.Form.{Form}
 use Rattle.frame_index.specs.Fitting.{IsInside}
@@ -27,7 +27,7 @@ returns-in-Err-clause-stops g c file told =
 pub returns-in-Err-walk_form-clause-stops : goal.returns-in-Err-walk_form-clause-stops
 returns-in-Err-walk_form-clause-stops g c =
     let k = c.args.self.now.number in
-    subst (λ (f : Form). Stops (λ file. command_fault (show_frame k) file (form_seen f)) (g.S.Source.bytes c.args.source.now)
+    subst (λ (f : Form). HasOpenCause (λ file. command_fault (show_frame k) file (form_seen f)) (g.S.Source.bytes c.args.source.now)
     (g.S.Source.faults c.args.source.now) (g.S.Source.faults c.walk_form.new.source) c.in-Err-walk_form.fault) (sym c.in-Ok.ensures.coded)
     (stops_ahead (λ file. walk_fault file (coded_seen c.in-Ok.form)) (λ file. no_frame k c.in-Ok.form.frames) c.in-Err-walk_form.fault
     (g.S.Source.bytes c.args.source.now) (g.S.Source.faults c.args.source.now) (g.S.Source.faults c.walk_form.new.source)

@@ -4,7 +4,7 @@ use Rattle.dsdiff_spec.specs.Refusal.{command_fault}
 use Rattle.dsdiff_spec.specs.Walk.{entries}
 use Rattle.dsdiff_spec.specs.Words.{show}
 use Rattle.dsdiff_chunks.specs.Forms.{coded_seen, form_seen}
-use Rattle.dsdiff_chunks.specs.Opening.{Stops}
+use Rattle.dsdiff_chunks.specs.Opening.{HasOpenCause}
 use Rattle.dsdiff_chunks.specs.declared.form.CodedForm.{CodedForm}
 use Rattle.dsdiff_chunks.specs.declared.form.Form.{Form}
 use Rattle.dst_commands.proofs.rules.ShownFileRules.keep.Goals as goal
@@ -17,7 +17,7 @@ returns-in-Plain-clause-opened g c file told is = is ∙ ap form_seen c.in-Plain
 
 pub returns-in-Err-clause-stops : goal.returns-in-Err-clause-stops
 returns-in-Err-clause-stops g c =
-    subst (λ (f : Form). Stops (λ file. command_fault show file (form_seen f)) (g.S.Source.bytes c.args.source.now) (g.S.Source.faults c.args.source.now)
+    subst (λ (f : Form). HasOpenCause (λ file. command_fault show file (form_seen f)) (g.S.Source.bytes c.args.source.now) (g.S.Source.faults c.args.source.now)
     (g.S.Source.faults c.walk_form.new.source) c.in-Err.fault) (sym c.in-Coded.is) c.in-Err.ensures.stops
 
 pub returns-in-Ok-clause-passes : goal.returns-in-Ok-clause-passes

@@ -8,7 +8,7 @@ use Rattle.dsdiff_spec.specs.Walk.{entries, walk_fault}
 use Rattle.dsdiff_spec.specs.Words.{cut}
 use Rattle.dsdiff_spec.specs.declared.faults.FileFault.{FileFault}
 use Rattle.dsdiff_chunks.specs.Forms.{coded_seen, form_seen}
-use Rattle.dsdiff_chunks.specs.Opening.{Stops}
+use Rattle.dsdiff_chunks.specs.Opening.{HasOpenCause}
 use Rattle.dsdiff_chunks.specs.declared.form.CodedForm.{CodedForm}
 use Rattle.dsdiff_chunks.specs.declared.form.Form.{Form}
 use Rattle.dst_commands.proofs.InOrder.{plain_refused, stops_ahead}
@@ -46,7 +46,7 @@ returns-in-Err-clause-stops g c file told =
 pub returns-in-Err-walk_form-clause-stops : goal.returns-in-Err-walk_form-clause-stops
 returns-in-Err-walk_form-clause-stops g c =
     let self = c.args.self.now in
-    subst (λ (f : Form). Stops (λ file. command_fault (cut self.first self.last) file (form_seen f)) (g.S.Source.bytes c.args.source.now)
+    subst (λ (f : Form). HasOpenCause (λ file. command_fault (cut self.first self.last) file (form_seen f)) (g.S.Source.bytes c.args.source.now)
     (g.S.Source.faults c.args.source.now) (g.S.Source.faults c.walk_form.new.source) c.in-Err-walk_form.fault) (sym c.in-Ok.ensures.coded)
     (stops_ahead (λ file. walk_fault file (coded_seen c.in-Ok.form)) (λ file. behind_walk self.first self.last file (coded_seen c.in-Ok.form))
     c.in-Err-walk_form.fault (g.S.Source.bytes c.args.source.now) (g.S.Source.faults c.args.source.now) (g.S.Source.faults c.walk_form.new.source)

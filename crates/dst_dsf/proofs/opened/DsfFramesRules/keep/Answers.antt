@@ -10,8 +10,8 @@ use Rattle.dsdiff_spec.specs.Words.{decode_dsf}
 use Rattle.dsdiff_chunks.specs.declared.form.CodedForm.{CodedForm}
 use Rattle.dsdiff_chunks.specs.declared.form.Form.{Form}
 use Rattle.dsdiff_chunks.specs.Forms.{coded_seen, end_of, form_seen}
-use Rattle.dsdiff_chunks.specs.Opening.{Reads, Stops}
-use Rattle.dsdiff_chunks.proofs.Stopping.{Stops-in}
+use Rattle.dsdiff_chunks.specs.Opening.{Reads, HasOpenCause}
+use Rattle.dsdiff_chunks.proofs.Stopping.{HasOpenCause-in}
 use Rattle.dst_commands.proofs.InOrder.{plain_refused, stops_ahead, then_is}
 use Rattle.dst_dsf.proofs.opened.DsfFramesRules.keep.Goals as goal
 
@@ -53,7 +53,7 @@ returns-in-Err-walk_form-clause-source g c =
 
 pub returns-in-Err-walk_form-clause-stops : goal.returns-in-Err-walk_form-clause-stops
 returns-in-Err-walk_form-clause-stops g c =
-    subst (λ (f : Form). Stops (λ file. command_fault decode_dsf file (form_seen f)) (g.S.Source.bytes c.args.source.now)
+    subst (λ (f : Form). HasOpenCause (λ file. command_fault decode_dsf file (form_seen f)) (g.S.Source.bytes c.args.source.now)
     (g.S.Source.faults c.args.source.now) (g.S.Source.faults c.walk_form.new.source) c.in-Err-walk_form.fault) (sym c.in-Ok.ensures.coded)
     (stops_ahead (λ file. walk_fault file (coded_seen c.in-Ok.form)) (λ file. dsfk_fault file (coded_seen c.in-Ok.form))
     c.in-Err-walk_form.fault (g.S.Source.bytes c.args.source.now) (g.S.Source.faults c.args.source.now) (g.S.Source.faults c.walk_form.new.source)
@@ -88,7 +88,7 @@ returns-in-Ok-read_said-clause-opened g c file told accepts =
 pub returns-in-Err-read_said-clause-stops : goal.returns-in-Err-read_said-clause-stops
 returns-in-Err-read_said-clause-stops g c =
     let same : coded_seen c.in-Ok.form ≡ coded_seen c.in-Ok-walk_form.walked.form = ap coded_seen (sym c.in-Ok-walk_form.ensures.form) in
-    Stops-in _ (λ file. command_fault decode_dsf file (form_seen c.args.form)) (g.S.Source.bytes c.args.source.now) (g.S.Source.bytes c.walk_form.new.source)
+    HasOpenCause-in _ (λ file. command_fault decode_dsf file (form_seen c.args.form)) (g.S.Source.bytes c.args.source.now) (g.S.Source.bytes c.walk_form.new.source)
     (g.S.Source.faults c.args.source.now) (g.S.Source.faults c.walk_form.new.source) _
     c.in-Err-read_said.fault c.in-Ok-walk_form.ensures.source.same_bytes c.in-Ok-walk_form.ensures.source.later
     (λ file f told e.
