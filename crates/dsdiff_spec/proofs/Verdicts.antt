@@ -44,7 +44,7 @@ pub record StopsAt (c : Command) (f : Shape) (frames : List (List ℕ)) (k : ℕ
   pub refuses : Refuses c f (get_or frames k []) fault
 
 -- the sounds in front of the first frame that is refused, or all sounds
-pub record Stops (c : Command) (f : Shape) (frames : List (List ℕ)) : Type 0 where
+pub record Verdict (c : Command) (f : Shape) (frames : List (List ℕ)) : Type 0 where
   pub k : ℕ
   pub fault : FrameFault
   pub stops : StopsAt c f frames k fault
@@ -56,7 +56,7 @@ pub record Goes (c : Command) (f : Shape) (frames : List (List ℕ)) : Type 0 wh
   pub sounds : List (List ℕ)
   pub each : AllZip (Means f) frames sounds
 
-pub verdict : (c : Command) (f : Shape) (frames : List (List ℕ)) → AreAnswered c f frames → Stops c f frames ⊎ Goes c f frames
+pub verdict : (c : Command) (f : Shape) (frames : List (List ℕ)) → AreAnswered c f frames → Verdict c f frames ⊎ Goes c f frames
 verdict c f [] a = inr (record { none = tt; sounds = []; each = tt })
 verdict c f (x ∷ xs) (inl r, more) = inl
     (record { k = 0; fault = r.fault; stops = record { within = omega arith; first = tt; refuses = r.refuses }; sounds = []; each = tt })

@@ -49,7 +49,8 @@ stops_by rules Read bytes before now h read = read refl
 stops_by rules (Memory refused) bytes before now h read = tt
 
 -- a rule that refuses a file before others does
-pub stops_ahead : (rule rest : List ℕ → Option FileFault) (fault : OpenFault) (bytes : Option (List ℕ)) (before now : ℕ) → HasOpenCause rule bytes before now fault →
+pub stops_ahead : (rule rest : List ℕ → Option FileFault) (fault : OpenFault) (bytes : Option (List ℕ)) (before now : ℕ) →
+    HasOpenCause rule bytes before now fault →
     HasOpenCause (λ file. rule file otherwise rest file) bytes before now fault
 stops_ahead rule rest (File f) bytes before now stops = λ file told. ap (λ o. o otherwise rest file) (stops file told)
 stops_ahead rule rest Read bytes before now stops = stops

@@ -33,7 +33,8 @@ refused_first pairs file fault h = rules_of_range pairs file ∙ go (form_fault 
     go (Some other) e = e
     go None e = ap (λ r. r otherwise first_some (past_fault (accepted file)) pairs) e
 
-pub stops_first : (pairs : List (ℕ × ℕ)) (fault : OpenFault) (bytes : Option (List ℕ)) (before now : ℕ) → HasOpenCause (form_refusal index) bytes before now fault →
+pub stops_first : (pairs : List (ℕ × ℕ)) (fault : OpenFault) (bytes : Option (List ℕ)) (before now : ℕ) →
+    HasOpenCause (form_refusal index) bytes before now fault →
     HasOpenCause (refusal (range pairs)) bytes before now fault
 stops_first pairs (File f) bytes before now stops = λ file told. refused_first pairs file f (stops file told)
 stops_first pairs Read bytes before now stops = stops

@@ -12,7 +12,7 @@ use Rattle.dsdiff_spec.specs.Walk.{Entry, entry}
 use Rattle.dsdiff_spec.proofs.OneSound.{one_sound}
 use Rattle.dst_commands.specs.Writing.{Adds}
 use Rattle.frame_cache.specs.Reader.{Reader, KeepsSounds, frame_in, order, stored_bytes}
-use Rattle.frame_cache.specs.Slots.{Held, frames_in}
+use Rattle.frame_cache.specs.Slots.{HeldSound, frames_in}
 use Rattle.dst_read.specs.declared.faults.DecodeFault.{DecodeFault}
 use Rattle.dst_ranges.specs.Asked.{groups_asked, bytes_read}
 use Rattle.dst_ranges.specs.Ending.{RangeEnds}
@@ -47,7 +47,7 @@ parts_same pairs file o ready is =
 
 keeps_none : (pairs : List (ℕ × ℕ)) (file : List ℕ) (o : OpenedParts) → IsReady pairs o → KeepsSounds file o.reader
 keeps_none pairs file o ready =
-    subst (λ (ks : List Held). AllByRecursion (λ x. Means o.reader.shape (frame_in file o.reader x.frame) x.sound) ks) (sym ready.held_is) tt
+    subst (λ (ks : List HeldSound). AllByRecursion (λ x. Means o.reader.shape (frame_in file o.reader x.frame) x.sound) ks) (sym ready.held_is) tt
 
 -- ---- all is written
 pub ends_done : (pairs : List (ℕ × ℕ)) (file : List ℕ) (o : OpenedParts) (r' : Reader) (s : RangeWritten) (bytes : Option (List ℕ)) (given given' : ℕ)

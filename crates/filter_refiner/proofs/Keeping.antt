@@ -7,7 +7,7 @@ use Rattle.std.proofs.lemmas.List.FromFn.{length-map-range_with_len, get_or-map-
 use Rattle.std.specs.List.{range_with_len}
 use Rattle.level_spec.specs.Recursion.{State}
 use Rattle.level_spec.specs.Rows.{no_row}
-use Rattle.filter_refiner.specs.SideBySide.{states, IsNthRow, AreRows}
+use Rattle.filter_refiner.specs.SideBySide.{states, IsNthRow, AreNthRows}
 
 pub length-states : (errors : List ℤ) (values : List (List ℤ)) (n : ℕ) → length (states errors values n) ≡ n
 length-states errors values n = length-map-range_with_len (λ k. record { error = get_or errors k (pos 0); values = take k (get_or values k []) }) 0 n
@@ -40,8 +40,8 @@ states-push errors more values others n row h k e =
     ∙ ap (λ v. S (get_or errors p (pos 0)) (take p v)) (k p (omega arith))))
     ∙ ap (λ v. map F (range_with_len 0 n) ++ S (get_or more n (pos 0)) v ∷ []) e
 
-pub AreRows-push : (rows : List State) (s : State) → AreRows rows → IsNthRow (length rows) s → AreRows (rows ++ s ∷ [])
-AreRows-push rows s h last = record {
+pub AreNthRows-push : (rows : List State) (s : State) → AreNthRows rows → IsNthRow (length rows) s → AreNthRows (rows ++ s ∷ [])
+AreNthRows-push rows s h last = record {
   each = λ k inside.
       let long : length (rows ++ s ∷ []) ≡ length rows + 1 = omega (arith, length-append {A = State}) in
       elim (cases_lt k (length rows)) [
@@ -56,7 +56,7 @@ AreRows-push rows s h last = record {
 }
 
 -- a row, by the arrays
-pub row-of : (errors : List ℤ) (values : List (List ℤ)) {n k : ℕ} {rows : List State} → states errors values n ≡ rows → AreRows (states errors values n) →
+pub row-of : (errors : List ℤ) (values : List (List ℤ)) {n k : ℕ} {rows : List State} → states errors values n ≡ rows → AreNthRows (states errors values n) →
     k < length rows →
     (k < n) × (get_or rows k no_row ≡ record { error = get_or errors k (pos 0); values = take k (get_or values k []) })
     × IsNthRow k (record { error = get_or errors k (pos 0); values = take k (get_or values k []) })

@@ -15,5 +15,5 @@ pub record IsNthRow (k : ℕ) (s : State) : Type 0 where
   pub least : pos 1 ≤ℤ s.error
   pub most : s.error ≤ℤ pos (2 ^ 45)
 
-pub record AreRows (rows : List State) : Type 0 where
+pub record AreNthRows (rows : List State) : Type 0 where
   pub each : (k : ℕ) → k < length rows → IsNthRow k (get_or rows k no_row)

@@ -16,13 +16,13 @@ pub struct Rows {
 impl Model for Rows {
     ghost use Rattle.std.specs.Prelude.{List, ◌≤◌};
     ghost use Rattle.level_spec.specs.Recursion.{State};
-    ghost use Rattle.filter_refiner.specs.SideBySide.{states, AreRows};
+    ghost use Rattle.filter_refiner.specs.SideBySide.{states, AreNthRows};
 
     ghost Value = { List State };
 
     ghost view = { λ r. states r.errors r.values r.count };
 
-    ghost invariant = { λ r. (r.count ≤ 128) × AreRows (states r.errors r.values r.count) };
+    ghost invariant = { λ r. (r.count ≤ 128) × AreNthRows (states r.errors r.values r.count) };
 }
 
 impl Rows {

@@ -8,23 +8,23 @@ use Rattle.dst_spec.proofs.Lists.{all_take}
 use Rattle.dst_streams.specs.Told.{counted}
 use Rattle.dsdiff_spec.specs.Walk.{entry}
 use Rattle.dsdiff_spec.specs.Ranges.{is_held, decoded_of}
-use Rattle.frame_cache.specs.Slots.{Held, held, found, moved}
+use Rattle.frame_cache.specs.Slots.{HeldSound, held, found, moved}
 use Rattle.frame_cache.specs.Reader.{Reader, order, stored_bytes, frame_in, IsSame, KeepsSounds, HoldsTogether}
 use Rattle.frame_cache.specs.Reads.{MeanSounds, HasWanted}
 use Rattle.frame_cache.proofs.Orders.{held_is_found, frame-found, order-moved, order-taken, all-found, all-moved}
 
 -- a reader that keeps something else
-pub seen_with : (r : Reader) (n : ℕ) (ks js : List Held) → n ≡ r.capacity → ks ≡ js → record r { capacity = n; held = ks } ≡ record r { held = js }
+pub seen_with : (r : Reader) (n : ℕ) (ks js : List HeldSound) → n ≡ r.capacity → ks ≡ js → record r { capacity = n; held = ks } ≡ record r { held = js }
 seen_with r n ks js e f = ap (λ m. record r { capacity = m; held = ks }) e ∙ ap (λ l. record r { held = l }) f
 
-is_same : (r r' : Reader) (ks : List Held) → r' ≡ record r { held = ks } → IsSame r r'
+is_same : (r r' : Reader) (ks : List HeldSound) → r' ≡ record r { held = ks } → IsSame r r'
 is_same r r' ks e = e ∙ ap (λ l. record r { held = l }) (sym (ap (λ (x : Reader). x.held) e))
 
 -- a frame that is held means a sound
 means_held : (file : List ℕ) (r : Reader) (k : ℕ) → is_some (found r.held k) ≡ true → KeepsSounds file r → MeanSounds file r (k ∷ [])
 means_held file r k there keeps = go (found r.held k) refl
   where
-    go : (o : Option Held) → found r.held k ≡ o → MeanSounds file r (k ∷ [])
+    go : (o : Option HeldSound) → found r.held k ≡ o → MeanSounds file r (k ∷ [])
     go None is = let none = rw is at there in absurd cc
     go (Some x) is =
         let here = (all-found (λ x. Means r.shape (frame_in file r x.frame) x.sound) r.held k x is keeps).0 in
@@ -63,15 +63,15 @@ wanted_of_decoded r r' k sound bytes given given' none e gave means =
     }
 
 -- a frame that isn't held leaves what is held as it is
-pub moved_none : (ks : List Held) (k : ℕ) → is_some (found ks k) ≡ false → moved ks k ≡ ks
+pub moved_none : (ks : List HeldSound) (k : ℕ) → is_some (found ks k) ≡ false → moved ks k ≡ ks
 moved_none ks k none = go (found ks k) refl
   where
-    go : (o : Option Held) → found ks k ≡ o → moved ks k ≡ ks
+    go : (o : Option HeldSound) → found ks k ≡ o → moved ks k ≡ ks
     go None is = rw is refl
     go (Some x) is = let some = rw is at none in absurd cc
 
 -- what holds together still does
-pub together_with : (r : Reader) (n : ℕ) (ks : List Held) → n ≡ r.capacity → HoldsTogether r → HoldsTogether (record r { capacity = n; held = ks })
+pub together_with : (r : Reader) (n : ℕ) (ks : List HeldSound) → n ≡ r.capacity → HoldsTogether r → HoldsTogether (record r { capacity = n; held = ks })
 together_with r n ks e h =
     record {
       some = omega (arith, e, h.some);

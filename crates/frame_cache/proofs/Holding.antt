@@ -5,9 +5,9 @@ use Rattle.std.specs.List.{AllByRecursion, IsDistinct, cons_option}
 use Rattle.std.specs.Map.{keys_of, lookup_entry, remove_entry}
 use Rattle.lru.specs.LruCache.{promoted}
 use Rattle.frame_cache.specs.declared.slots.Slot.{Slot}
-use Rattle.frame_cache.specs.Slots.{Held, held, held_in, found, others, moved, holds, slot_of, NoneBehind, AreFilledFirst, AreSlots}
+use Rattle.frame_cache.specs.Slots.{HeldSound, held, held_in, found, others, moved, holds, slot_of, NoneBehind, AreFilledFirst, AreSlots}
 
-take-none : (n : ℕ) → take {A = Held} n [] ≡ []
+take-none : (n : ℕ) → take {A = HeldSound} n [] ≡ []
 take-none zero = refl
 take-none (suc n) = refl
 
@@ -178,11 +178,12 @@ slots-promoted n bytes es k s h slots =
     })
 
 -- ---- the frame in front
-pub none_first : (es : List (ℕ × Slot)) (x : Held) (xs : List Held) → slice_get es 0 ≡ None → held_in es ≡ x ∷ xs → ⊥
+pub none_first : (es : List (ℕ × Slot)) (x : HeldSound) (xs : List HeldSound) → slice_get es 0 ≡ None → held_in es ≡ x ∷ xs → ⊥
 none_first [] x xs none h = absurd cc
 none_first (e ∷ es) x xs none h = absurd cc
 
-pub sound_first : (es : List (ℕ × Slot)) (e : ℕ × Slot) (x : Held) (xs : List Held) → AreFilledFirst es → slice_get es 0 ≡ Some e → held_in es ≡ x ∷ xs →
+pub sound_first : (es : List (ℕ × Slot)) (e : ℕ × Slot) (x : HeldSound) (xs : List HeldSound) → AreFilledFirst es → slice_get es 0 ≡ Some e →
+    held_in es ≡ x ∷ xs →
     e.1.sound.items ≡ x.sound
 sound_first [] e x xs filled first h = absurd cc
 sound_first (f ∷ es) e x xs filled first h = subst (λ (e : ℕ × Slot). e.1.sound.items ≡ x.sound) same (by_frame f.1.frame filled.0 h)

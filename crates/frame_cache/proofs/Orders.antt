@@ -6,10 +6,10 @@ use Rattle.std.specs.List.{AllByRecursion, range_with_len}
 use Rattle.std.proofs.lemmas.List.{take-map, map-append}
 use Rattle.std.proofs.lemmas.List.Sums.{sum_by-append}
 use Rattle.dsdiff_spec.specs.Ranges.{is_held, without, keys, keys_after, decoded_of}
-use Rattle.frame_cache.specs.Slots.{Held, held, frames_in, found, others, in_front, moved}
+use Rattle.frame_cache.specs.Slots.{HeldSound, held, frames_in, found, others, in_front, moved}
 
 -- ---- one frame that is wanted
-pub held_is_found : (ks : List Held) (k : ℕ) → is_held (frames_in ks) k ≡ is_some (found ks k)
+pub held_is_found : (ks : List HeldSound) (k : ℕ) → is_held (frames_in ks) k ≡ is_some (found ks k)
 held_is_found [] k = refl
 held_is_found (x ∷ xs) k = go (x.frame == k) refl (held_is_found xs k)
   where
@@ -17,7 +17,7 @@ held_is_found (x ∷ xs) k = go (x.frame == k) refl (held_is_found xs k)
     go true is more = rw is refl
     go false is more = rw is more
 
-frames-others : (ks : List Held) (k : ℕ) → frames_in (others ks k) ≡ without (frames_in ks) k
+frames-others : (ks : List HeldSound) (k : ℕ) → frames_in (others ks k) ≡ without (frames_in ks) k
 frames-others [] k = refl
 frames-others (x ∷ xs) k = go (x.frame == k) refl (frames-others xs k)
   where
@@ -25,7 +25,7 @@ frames-others (x ∷ xs) k = go (x.frame == k) refl (frames-others xs k)
     go true is more = rw is refl
     go false is more = rw is (ap (λ l. x.frame ∷ l) more)
 
-pub frame-found : (ks : List Held) (k : ℕ) (x : Held) → found ks k ≡ Some x → x.frame ≡ k
+pub frame-found : (ks : List HeldSound) (k : ℕ) (x : HeldSound) → found ks k ≡ Some x → x.frame ≡ k
 frame-found [] k x h = absurd cc
 frame-found (y ∷ ys) k x h = go (y.frame == k) refl (frame-found ys k x)
   where
@@ -36,22 +36,24 @@ frame-found (y ∷ ys) k x h = go (y.frame == k) refl (frame-found ys k x)
         sym (ap (λ z. z.frame) same) ∙ eqb-true y.frame k is
     go false is more = more (rw is at h)
 
-pub order-moved : (ks : List Held) (k n : ℕ) → is_some (found ks k) ≡ true → frames_in (moved ks k) ≡ keys (frames_in ks) k n
+pub order-moved : (ks : List HeldSound) (k n : ℕ) → is_some (found ks k) ≡ true → frames_in (moved ks k) ≡ keys (frames_in ks) k n
 order-moved ks k n there = go (found ks k) refl
   where
-    go : (o : Option Held) → found ks k ≡ o → frames_in (moved ks k) ≡ keys (frames_in ks) k n
+    go : (o : Option HeldSound) → found ks k ≡ o → frames_in (moved ks k) ≡ keys (frames_in ks) k n
     go None is = let none = rw is at there in absurd cc
     go (Some x) is =
         let one : is_held (frames_in ks) k ≡ true = held_is_found ks k ∙ there in
         rw (one, is) (ap (λ j. j ∷ frames_in (others ks k)) (frame-found ks k x is) ∙ ap (λ l. k ∷ l) (frames-others ks k))
 
-pub order-taken : (ks : List Held) (k n : ℕ) (sound : List ℕ) → is_some (found ks k) ≡ false → frames_in (take n (held k sound ∷ ks)) ≡ keys (frames_in ks) k n
+pub order-taken : (ks : List HeldSound) (k n : ℕ) (sound : List ℕ) → is_some (found ks k) ≡ false →
+    frames_in (take n (held k sound ∷ ks)) ≡ keys (frames_in ks) k n
 order-taken ks k n sound none =
     let not_there : is_held (frames_in ks) k ≡ false = held_is_found ks k ∙ none in
-    rw not_there (sym (take-map (λ (x : Held). x.frame) n (held k sound ∷ ks)))
+    rw not_there (sym (take-map (λ (x : HeldSound). x.frame) n (held k sound ∷ ks)))
 
 -- what holds of all that is held
-pub all-found : (P : Held → Type 0) (ks : List Held) (k : ℕ) (x : Held) → found ks k ≡ Some x → AllByRecursion P ks → P x × AllByRecursion P (others ks k)
+pub all-found : (P : HeldSound → Type 0) (ks : List HeldSound) (k : ℕ) (x : HeldSound) → found ks k ≡ Some x → AllByRecursion P ks →
+    P x × AllByRecursion P (others ks k)
 all-found P [] k x h all = absurd cc
 all-found P (y ∷ ys) k x h all = go (y.frame == k) refl (all-found P ys k x)
   where
@@ -65,10 +67,10 @@ all-found P (y ∷ ys) k x h all = go (y.frame == k) refl (all-found P ys k x)
         let later = more (rw is at h) all.1 in
         rw is (later.0, (all.0, later.1))
 
-pub all-moved : (P : Held → Type 0) (ks : List Held) (k : ℕ) → AllByRecursion P ks → AllByRecursion P (moved ks k)
+pub all-moved : (P : HeldSound → Type 0) (ks : List HeldSound) (k : ℕ) → AllByRecursion P ks → AllByRecursion P (moved ks k)
 all-moved P ks k all = go (found ks k) refl
   where
-    go : (o : Option Held) → found ks k ≡ o → AllByRecursion P (in_front o ks k)
+    go : (o : Option HeldSound) → found ks k ≡ o → AllByRecursion P (in_front o ks k)
     go None is = all
     go (Some x) is = all-found P ks k x is all
 
@@ -94,17 +96,17 @@ few_decoded order (k ∷ ks) n = go (is_held order k) (few_decoded (keys order k
     go false more = omega arith
 
 -- the frame that was wanted last stands in front
-pub record HasInFront (ks : List Held) (k : ℕ) : Type 0 where
-  pub first : Held
-  pub rest : List Held
+pub record HasInFront (ks : List HeldSound) (k : ℕ) : Type 0 where
+  pub first : HeldSound
+  pub rest : List HeldSound
   pub parts : ks ≡ first ∷ rest
   pub frame_is : first.frame ≡ k
 
-pub in_front_of : (ks : List Held) (order : List ℕ) (k n : ℕ) → frames_in ks ≡ keys order k n → 0 < n → HasInFront ks k
+pub in_front_of : (ks : List HeldSound) (order : List ℕ) (k n : ℕ) → frames_in ks ≡ keys order k n → 0 < n → HasInFront ks k
 in_front_of ks order k zero is some = absurd (omega arith)
 in_front_of ks order k (suc n) is some = go (is_held order k) is
   where
-    first_of : (ks : List Held) (rest : List ℕ) → frames_in ks ≡ k ∷ rest → HasInFront ks k
+    first_of : (ks : List HeldSound) (rest : List ℕ) → frames_in ks ≡ k ∷ rest → HasInFront ks k
     first_of [] rest is = absurd cc
     first_of (x ∷ xs) rest is = record { first = x; rest = xs; parts = refl; frame_is = cc }
 

@@ -6,7 +6,7 @@ use Rattle.dst_spec.specs.Means.{Means}
 use Rattle.dsdiff_spec.specs.Form.{Form, shape, size_of_sound}
 use Rattle.dsdiff_spec.specs.Walk.{Entry, entry, entries, frame_at}
 use Rattle.dsdiff_spec.specs.Ranges.{touched}
-use Rattle.frame_cache.specs.Slots.{Held, frames_in}
+use Rattle.frame_cache.specs.Slots.{HeldSound, frames_in}
 
 -- The frames of a file and where they stand, the bytes of its sound, the place behind its form; how many sounds of frames the
 -- reader has room for, and those that it keeps, the one that was wanted last in front.
@@ -16,7 +16,7 @@ pub record Reader : Type 0 where
   pub size : ℕ
   pub end : ℕ
   pub capacity : ℕ
-  pub held : List Held
+  pub held : List HeldSound
 
 -- a reader of a form with these frames, before its first read
 abbrev pub fresh_reader : Form → List Entry → ℕ → Reader

@@ -13,7 +13,7 @@ ghost use Rattle.dsdiff_spec.specs.Ranges.{Sound, is_held, keys_after, decoded_o
 ghost use Rattle.dsdiff_chunks.specs.Forms.{coded_seen};
 ghost use Rattle.frame_index.specs.Entries.{entry_seen};
 ghost use Rattle.frame_index.specs.Fitting.{IsIndexOf};
-ghost use Rattle.frame_cache.specs.Slots.{Held};
+ghost use Rattle.frame_cache.specs.Slots.{HeldSound};
 ghost use Rattle.frame_cache.specs.Reader.{HoldsTogether, fresh_reader, order, wanted, stored_bytes, frame_in, IsSame, IsReaderOf, KeepsSounds};
 ghost use Rattle.frame_cache.specs.Reads.{HasWanted, MeanSounds, IsPartWay, IsRefusedAt};
 
@@ -184,8 +184,8 @@ impl RangeReader {
 
     // The sound of the frame in front.
     fn front(&self) -> &[u8]
-        requires some { (x : Held) × (xs : List Held) × (self.now.held ≡ x ∷ xs) }
-        ensures sound { (x : Held) (xs : List Held) → self.now.held ≡ x ∷ xs → result.now ≡ x.sound }
+        requires some { (x : HeldSound) × (xs : List HeldSound) × (self.now.held ≡ x ∷ xs) }
+        ensures sound { (x : HeldSound) (xs : List HeldSound) → self.now.held ≡ x ∷ xs → result.now ≡ x.sound }
         ensures long { length result.now ≡ sound_bytes self.now.shape }
     {
         newest(&self.slots)

@@ -2,7 +2,7 @@
 ghost use Rattle.std.specs.Prelude.{◌≡◌, ◌<◌, ℕ, List, [], ◌∷◌, length, take, nat_eq, slice_get, is_some, IsSome, IfOk, IfSome, Some};
 ghost use Rattle.std.specs.Map.{lookup, set_value};
 ghost use Rattle.lru.specs.LruCache.{promoted};
-ghost use Rattle.frame_cache.specs.Slots.{Held, held, held_in, frames_in, found, moved, slot_of, AreSlots};
+ghost use Rattle.frame_cache.specs.Slots.{HeldSound, held, held_in, frames_in, found, moved, slot_of, AreSlots};
 
 use lru::LruCache;
 use std::alloc::{AllocError, Global};
@@ -112,9 +112,9 @@ fn renew(slots: &mut LruCache<u32, Slot>, spare: &mut Vec<u8>, number: u32, fram
 
 /// The sound of the frame in front.
 pub(crate) fn newest(slots: &LruCache<u32, Slot>) -> &[u8]
-    requires some { (x : Held) × (xs : List Held) × (held_in slots.now.entries ≡ x ∷ xs) }
+    requires some { (x : HeldSound) × (xs : List HeldSound) × (held_in slots.now.entries ≡ x ∷ xs) }
     requires slots { (count : ℕ) × (bytes : ℕ) × AreSlots count bytes slots.now.entries }
-    ensures sound { (x : Held) (xs : List Held) → held_in slots.now.entries ≡ x ∷ xs → result.now ≡ x.sound }
+    ensures sound { (x : HeldSound) (xs : List HeldSound) → held_in slots.now.entries ≡ x ∷ xs → result.now ≡ x.sound }
     ensures long { (count bytes : ℕ) → AreSlots count bytes slots.now.entries → length result.now ≡ bytes }
 {
     let Some((_, slot)) = slots.peek_mru() else {

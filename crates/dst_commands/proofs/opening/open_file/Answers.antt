@@ -26,7 +26,8 @@ returns-in-Ok-keep-clause-opened g c file told =
 pub returns-in-Err-keep-clause-stops : goal.returns-in-Err-keep-clause-stops
 returns-in-Err-keep-clause-stops g c =
     let command = g.R.Rules.command c.args.rules.now in
-    HasOpenCause-in _ (form_refusal command) (g.S.Source.bytes c.args.source.now) (g.S.Source.bytes c.open_form.new.source) (g.S.Source.faults c.args.source.now)
+    HasOpenCause-in _ (form_refusal command) (g.S.Source.bytes c.args.source.now) (g.S.Source.bytes c.open_form.new.source)
+    (g.S.Source.faults c.args.source.now)
     (g.S.Source.faults c.open_form.new.source) _
     c.in-Err-keep.fault c.in-Ok.ensures.bytes c.in-Ok.ensures.later
     (λ file f told e. refusal_of command file (Ok (form_seen c.in-Ok.form)) (c.in-Ok.ensures.form file told) ∙ e)

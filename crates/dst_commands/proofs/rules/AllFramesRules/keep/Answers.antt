@@ -16,7 +16,8 @@ returns-in-Err-clause-stops g c file told =
 
 pub returns-in-Err-walk_form-clause-stops : goal.returns-in-Err-walk_form-clause-stops
 returns-in-Err-walk_form-clause-stops g c =
-    subst (λ (f : Form). HasOpenCause (λ file. command_fault index file (form_seen f)) (g.S.Source.bytes c.args.source.now) (g.S.Source.faults c.args.source.now)
+    subst (λ (f : Form). HasOpenCause (λ file. command_fault index file (form_seen f)) (g.S.Source.bytes c.args.source.now)
+    (g.S.Source.faults c.args.source.now)
     (g.S.Source.faults c.walk_form.new.source) c.in-Err-walk_form.fault) (sym c.in-Ok.ensures.coded) c.in-Err-walk_form.ensures.stops
 
 pub returns-in-Ok-walk_form-clause-passes : goal.returns-in-Ok-walk_form-clause-passes

@@ -35,7 +35,8 @@ returns-in-Plain-clause-opened g c file told is = is ∙ ap form_seen c.in-Plain
 pub returns-in-Err-clause-stops : goal.returns-in-Err-clause-stops
 returns-in-Err-clause-stops g c =
     let form = coded_seen c.in-Coded.form in
-    subst (λ (f : Form). HasOpenCause (λ file. command_fault check file (form_seen f)) (g.S.Source.bytes c.args.source.now) (g.S.Source.faults c.args.source.now)
+    subst (λ (f : Form). HasOpenCause (λ file. command_fault check file (form_seen f)) (g.S.Source.bytes c.args.source.now)
+    (g.S.Source.faults c.args.source.now)
     (g.S.Source.faults c.walk_form.new.source) c.in-Err.fault) (sym c.in-Coded.is)
     (stops_ahead (λ file. walk_fault file form) (λ file. check_index_fault file form) c.in-Err.fault (g.S.Source.bytes c.args.source.now)
     (g.S.Source.faults c.args.source.now) (g.S.Source.faults c.walk_form.new.source) c.in-Err.ensures.stops)

@@ -88,7 +88,8 @@ returns-in-Ok-read_said-clause-opened g c file told accepts =
 pub returns-in-Err-read_said-clause-stops : goal.returns-in-Err-read_said-clause-stops
 returns-in-Err-read_said-clause-stops g c =
     let same : coded_seen c.in-Ok.form ≡ coded_seen c.in-Ok-walk_form.walked.form = ap coded_seen (sym c.in-Ok-walk_form.ensures.form) in
-    HasOpenCause-in _ (λ file. command_fault decode_dsf file (form_seen c.args.form)) (g.S.Source.bytes c.args.source.now) (g.S.Source.bytes c.walk_form.new.source)
+    HasOpenCause-in _ (λ file. command_fault decode_dsf file (form_seen c.args.form)) (g.S.Source.bytes c.args.source.now)
+    (g.S.Source.bytes c.walk_form.new.source)
     (g.S.Source.faults c.args.source.now) (g.S.Source.faults c.walk_form.new.source) _
     c.in-Err-read_said.fault c.in-Ok-walk_form.ensures.source.same_bytes c.in-Ok-walk_form.ensures.source.later
     (λ file f told e.

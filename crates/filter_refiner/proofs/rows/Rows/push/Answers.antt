@@ -3,9 +3,9 @@ use Rattle.std.proofs.Common.{◌≡◌, ◌≢◌, ◌+◌, ◌<◌, ℤ, pos, 
 use Rattle.std.proofs.Common.{ℕ, refl, ap, sym, ◌∙◌, subst, arith}
 use mir.Syntax.{w64}
 use Rattle.std.proofs.lemmas.Int.{ints}
-use Rattle.filter_refiner.specs.SideBySide.{states, AreRows}
+use Rattle.filter_refiner.specs.SideBySide.{states, AreNthRows}
 use Rattle.filter_refiner.proofs.Numbers.{same_64}
-use Rattle.filter_refiner.proofs.Keeping.{length-states, states-push, AreRows-push}
+use Rattle.filter_refiner.proofs.Keeping.{length-states, states-push, AreNthRows-push}
 use Rattle.filter_refiner.proofs.rows.Rows.push.Goals as goal
 
 -- the arrays with one more row
@@ -38,7 +38,7 @@ pub invariant_of-self : goal.invariant_of-self
 invariant_of-self c =
     let same = length-states c.self.inside.errors c.self.inside.values c.self.inside.count in (
       omega (arith, ap length c.self.view_is, c.requires.room),
-      subst AreRows (sym (returns c)) (AreRows-push c.args.self.now (record { error = c.args.error; values = c.args.values.now })
-          (subst AreRows c.self.view_is c.self.invariant.1)
+      subst AreNthRows (sym (returns c)) (AreNthRows-push c.args.self.now (record { error = c.args.error; values = c.args.values.now })
+          (subst AreNthRows c.self.view_is c.self.invariant.1)
           (record { long = c.requires.long; small = c.requires.small; least = c.requires.least; most = c.requires.most })),
     )
