@@ -11,7 +11,7 @@ use Rattle.dsdiff_spec.specs.declared.faults.FileFault.{FileFault}
 use Rattle.dsdiff_spec.specs.declared.faults.FileFault.TheVariants.{PropTooLong}
 use Rattle.dsdiff_chunks.specs.Opening.{first_fault, props_fault, sounds_fault, is_sound}
 
--- ---- the rules on all forms, as far as they are kept
+-- ---- the rules on all forms, as far as they are holds
 pub past_opening : (xs : List ℕ) → opening_fault xs ≡ None →
     form_fault xs ≡ (version_fault xs otherwise prop_fault xs otherwise sound_fault xs otherwise kind_fault (kind xs) xs)
 unfolding form_fault
@@ -55,16 +55,16 @@ the_prop xs heads h top e = ap (λ hs. the_first (named "PROP" hs)) top ∙ ap t
 pub the_body : (xs : List ℕ) (heads : List Head) (h : Head) → (top_level xs).heads ≡ heads → named "PROP" heads ≡ h ∷ [] → prop xs ≡ body_of xs h
 the_body xs heads h top e = ap (body_of xs) (the_prop xs heads h top e)
 
-props_kept : (h : Head) (props : List Head) → props ≡ h ∷ [] → h.size ≤ 65536 → props_fault props ≡ None
-props_kept h props e le = ap props_fault e ∙ kept (nat_lt 65536 h.size) (le-ltb 65536 h.size le)
+props_hold : (h : Head) (props : List Head) → props ≡ h ∷ [] → h.size ≤ 65536 → props_fault props ≡ None
+props_hold h props e le = ap props_fault e ∙ holds (nat_lt 65536 h.size) (le-ltb 65536 h.size le)
   where
-    kept : (b : Bool) → b ≡ false → (PropTooLong when b) ≡ None
-    kept b q = rw q refl
+    holds : (b : Bool) → b ≡ false → (PropTooLong when b) ≡ None
+    holds b q = rw q refl
 
 prop_of : (xs : List ℕ) (heads : List Head) (h : Head) (o : Option FileFault) → (top_level xs).heads ≡ heads → named "PROP" heads ≡ h ∷ [] →
     h.size ≤ 65536 → local_fault (body_place h) (body_of xs h) ≡ o → prop_fault xs ≡ o
 prop_of xs heads h o top found le e =
-    ap (λ p. p otherwise local_fault (body_place (prop_head xs)) (prop xs)) (props_of xs heads None top (props_kept h (named "PROP" heads) found le))
+    ap (λ p. p otherwise local_fault (body_place (prop_head xs)) (prop xs)) (props_of xs heads None top (props_hold h (named "PROP" heads) found le))
     ∙ ap (λ i. local_fault (body_place i) (body_of xs i)) (the_prop xs heads h top found)
     ∙ e
 

@@ -68,8 +68,8 @@ one_is_kept = refl
 pub each_is_decoded_anew : decoded_of [] (0 ∷ 1 ∷ 0 ∷ []) 1 ≡ 0 ∷ 1 ∷ 0 ∷ []
 each_is_decoded_anew = refl
 
-pub same_frame_is_kept : decoded_of [] (0 ∷ 0 ∷ []) 1 ≡ 0 ∷ []
-same_frame_is_kept = refl
+pub same_frame_is_held : decoded_of [] (0 ∷ 0 ∷ []) 1 ≡ 0 ∷ []
+same_frame_is_held = refl
 
 -- ---- room for two: a frame that is held moves to the front, and one that is decoded puts out the last
 pub two_are_kept : keys_after [] (0 ∷ 1 ∷ 0 ∷ []) 2 ≡ 0 ∷ 1 ∷ []

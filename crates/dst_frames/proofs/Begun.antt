@@ -12,7 +12,7 @@ use Rattle.dst_spec.proofs.Meaning.{meaning_is_no_fault}
 use Rattle.dst_spec.proofs.Unique.{meaning_of_tail}
 use Rattle.arith_decoder.specs.Decoding.{Decoding, StandsFor}
 use Rattle.arith_lanes.specs.Chances.{IsChance}
-use Rattle.arith_lanes.specs.Lanes.{IsLane, IsKept, Begins, TakesSymbol, given_of, decoding_at, first_at, used_at, ahead_at}
+use Rattle.arith_lanes.specs.Lanes.{IsLane, IsUnchanged, Begins, TakesSymbol, given_of, decoding_at, first_at, used_at, ahead_at}
 use Rattle.arith_lanes.specs.declared.lanes.ArithLanes.{ArithLanes}
 use Rattle.dst_frames.specs.Coded.{IsCodeOfSound}
 use Rattle.dst_frames.specs.Eight.{states_at, tables_at}
@@ -28,8 +28,8 @@ use Rattle.dst_frames.proofs.Lanes.{one_of}
 use Rattle.dst_frames.proofs.Running.{code_of, no_code}
 use Rattle.dst_frames.proofs.Whole.{frame_begins, frame_ends}
 
-pub begins_kept : (s t : ArithLanes) (n : ℕ) (bytes : List ℕ) (place : ℕ) → Begins s n bytes place → IsKept s t n → Begins t n bytes place
-begins_kept s t n bytes place b k =
+pub begins_still : (s t : ArithLanes) (n : ℕ) (bytes : List ℕ) (place : ℕ) → Begins s n bytes place → IsUnchanged s t n → Begins t n bytes place
+begins_still s t n bytes place b k =
     let same = k.same bytes in
     record {
       lane = k.lane bytes b.lane;
@@ -39,12 +39,12 @@ begins_kept s t n bytes place b k =
       stands = subst (λ d. StandsFor d []) (sym same) b.stands;
     }
 
-pub begun_kept : (f : Shape) (s t : ArithLanes) (n : ℕ) (bytes : List ℕ) (tables : List ChannelTables) (states : List ChannelState) (chance : ℕ) →
-    HasBegun f s n bytes tables states chance → IsKept s t n → HasBegun f t n bytes tables states chance
-begun_kept f s t n bytes tables states chance b k = record {
+pub begun_still : (f : Shape) (s t : ArithLanes) (n : ℕ) (bytes : List ℕ) (tables : List ChannelTables) (states : List ChannelState) (chance : ℕ) →
+    HasBegun f s n bytes tables states chance → IsUnchanged s t n → HasBegun f t n bytes tables states chance
+begun_still f s t n bytes tables states chance b k = record {
   params = b.params;
   place = b.place;
-  begins = begins_kept s t n bytes b.place b.begins k;
+  begins = begins_still s t n bytes b.place b.begins k;
   inside = b.inside;
   header = b.header;
   first_bit = b.first_bit;

@@ -5,7 +5,7 @@ use Rattle.std.proofs.Common.{get_or-set_same, get_or-set_other, length-set, ref
 use Rattle.std.proofs.lemmas.Bool.{eqb-true, eqb-false}
 use Rattle.arith_decoder.specs.Decoding.{Decoding}
 use Rattle.arith_lanes.specs.Chances.{IsChance}
-use Rattle.arith_lanes.specs.Lanes.{IsLane, IsKept, decoding_at, used_at}
+use Rattle.arith_lanes.specs.Lanes.{IsLane, IsUnchanged, decoding_at, used_at}
 use Rattle.arith_lanes.specs.declared.lanes.ArithLanes.{ArithLanes}
 use Rattle.dst_frames.specs.Eight.{state_in}
 use Rattle.dst_frames.specs.Batch.{IsChanceOf, HasEnough, IsLaneFurther, AreLanes, stored_in, code_at}
@@ -29,25 +29,25 @@ no_code (x ∷ xs) zero h = absurd (omega arith)
 no_code (x ∷ xs) (suc n) h = no_code xs n (omega arith)
 
 -- ---- lanes that are as they were
-pub kept_none : (s : ArithLanes) (n : ℕ) → IsKept s s n
-kept_none s n = record { lane = λ bytes lane. lane; same = λ bytes. refl; ahead = refl }
+pub unchanged_none : (s : ArithLanes) (n : ℕ) → IsUnchanged s s n
+unchanged_none s n = record { lane = λ bytes lane. lane; same = λ bytes. refl; ahead = refl }
 
-pub kept_more : (s t u : ArithLanes) (n : ℕ) → IsKept s t n → IsKept t u n → IsKept s u n
-kept_more s t u n a b = record {
+pub unchanged_more : (s t u : ArithLanes) (n : ℕ) → IsUnchanged s t n → IsUnchanged t u n → IsUnchanged s u n
+unchanged_more s t u n a b = record {
   lane = λ bytes lane. b.lane bytes (a.lane bytes lane);
   same = λ bytes. b.same bytes ∙ a.same bytes;
   ahead = b.ahead ∙ a.ahead;
 }
 
-pub enough_kept : (s t u : ArithLanes) (n : ℕ) (bytes : List ℕ) → HasEnough s t n bytes → IsKept t u n → HasEnough s u n bytes
-enough_kept s t u n bytes a b = record {
+pub enough_still : (s t u : ArithLanes) (n : ℕ) (bytes : List ℕ) → HasEnough s t n bytes → IsUnchanged t u n → HasEnough s u n bytes
+enough_still s t u n bytes a b = record {
   lane = b.lane bytes a.lane;
   same = b.same bytes ∙ a.same;
   ahead = rw b.ahead a.ahead;
 }
 
-pub used_kept : (s t : ArithLanes) (n : ℕ) (bytes : List ℕ) → decoding_at t n bytes ≡ decoding_at s n bytes → used_at t n ≡ used_at s n
-used_kept s t n bytes same = ap (λ (d : Decoding). d.used) same
+pub used_still : (s t : ArithLanes) (n : ℕ) (bytes : List ℕ) → decoding_at t n bytes ≡ decoding_at s n bytes → used_at t n ≡ used_at s n
+used_still s t n bytes same = ap (λ (d : Decoding). d.used) same
 
 -- ---- lanes that go on
 pub lane_still : (s : ArithLanes) (n : ℕ) (bytes : List ℕ) → IsLane s n bytes → IsLaneFurther s s n bytes 0

@@ -9,7 +9,7 @@ ghost use Rattle.byte_predictor.specs.Samples.{samples_of};
 ghost use Rattle.byte_predictor.specs.Upward.{size_sum};
 ghost use Rattle.dst_spec.specs.Symbols.{reserved_probability as probability_of};
 ghost use Rattle.arith_lanes.specs.Chances.{IsChance};
-ghost use Rattle.arith_lanes.specs.Lanes.{IsKept, Begins};
+ghost use Rattle.arith_lanes.specs.Lanes.{IsUnchanged, Begins};
 ghost use Rattle.dst_frames.specs.Coded.{IsCodeOfSound};
 ghost use Rattle.dst_frames.specs.Tables.{IsBuilt, AreBuilt};
 ghost use Rattle.dst_frames.specs.Ready.{IsReady};
@@ -236,7 +236,7 @@ fn begin_lane(
     requires chances { AreChances rows.old n }
     ensures begun { IfSome result (HasBegun channels lanes.new n frame.now (tables_in eight.new n) (states_at rows.new n)) }
     ensures chances { IfSome result (λ _. AreChances rows.new (n + 1)) }
-    ensures others { (m : ℕ) → m ≢ n → IsKept lanes.old lanes.new m }
+    ensures others { (m : ℕ) → m ≢ n → IsUnchanged lanes.old lanes.new m }
     ensures tables { (m : ℕ) → m < n → tables_in eight.new m ≡ tables_in eight.old m }
     ensures states { (m : ℕ) → m ≢ n → states_at rows.new m ≡ states_at rows.old m }
     ensures eight { IsPool eight.new channels.channels }

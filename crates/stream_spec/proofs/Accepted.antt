@@ -47,9 +47,9 @@ one_is (suc (suc n)) e le = absurd (omega (arith, le))
 abbrev pub OfBoth : {A : Type 0} → (A → Type 0) → (A → Bool) → A → Type 0
 OfBoth P p x = P x × (p x ≡ true)
 
-kept_by_filter : {A : Type 0} (P : A → Type 0) (p : A → Bool) (xs : List A) → AllByRecursion P xs → AllByRecursion (OfBoth P p) (filter p xs)
-kept_by_filter P p [] every = tt
-kept_by_filter P p (x ∷ xs) every = go (p x) refl (kept_by_filter P p xs every.1)
+by_filter : {A : Type 0} (P : A → Type 0) (p : A → Bool) (xs : List A) → AllByRecursion P xs → AllByRecursion (OfBoth P p) (filter p xs)
+by_filter P p [] every = tt
+by_filter P p (x ∷ xs) every = go (p x) refl (by_filter P p xs every.1)
   where
     go : (b : Bool) → p x ≡ b → AllByRecursion (OfBoth P p) (filter p xs) → AllByRecursion (OfBoth P p) (if b then x ∷ filter p xs else filter p xs)
     go true e later = ((every.0, e), later)
@@ -198,7 +198,7 @@ one_sound file is_coded none of_coded =
     let c = when_not Compression (not (bytes_eq (compression (prop file)) s.id)) (first_gives_none _ fourth n3) in
     let d = when_not PropMissing _ (later_gives_none (Compression when not (bytes_eq (compression (prop file)) s.id)) fourth n3) in
     let one = the_only (sounds file) (one_is (length (sounds file)) a (ltb-false 1 (length (sounds file)) b)) in
-    let every = kept_by_filter (Stands file (form_end file) 16) is_sound (top_level file).heads (found_stand m file (form_end file) 1024 16) in
+    let every = by_filter (Stands file (form_end file) 16) is_sound (top_level file).heads (found_stand m file (form_end file) 1024 16) in
     let it = (subst (AllByRecursion (OfBoth (Stands file (form_end file) 16) is_sound)) one every).0 in
     let name = named_dst (s.id is "DSD ") (s.id is "DST ") it.1 (not_plain (s.id is "DSD ") is_coded) in
     let same : compression (prop file) ≡ s.id = (bytes_eq-Decides (compression (prop file)) s.id).0 (is_not_false _ c) in
@@ -261,15 +261,15 @@ frames_of_form file form there most none =
     ∙ ap then_ended (bodies file (frame_heads file form))
 
 -- ---- all rules, and the whole stream
-pub record Kept (file : List ℕ) : Type 0 where
+pub record HasRules (file : List ℕ) : Type 0 where
   pub opening : opening_fault file ≡ None
   pub version : version_fault file ≡ None
   pub prop : prop_fault file ≡ None
   pub sound : sound_fault file ≡ None
 
-all_kept : (file : List ℕ) → form_fault file ≡ None → Kept file
+has_rules : (file : List ℕ) → form_fault file ≡ None → HasRules file
 unfolding form_fault
-all_kept file none =
+has_rules file none =
     let fourth = sound_fault file otherwise kind_fault (kind file) file in
     let third = prop_fault file otherwise fourth in
     let second = version_fault file otherwise third in
@@ -315,7 +315,7 @@ pub accepted_file_streams : StreamLaw
 unfolding streams_as
 accepted_file_streams file (bytes, ok) =
     let both = no_rule_fails file ok in
-    let k = all_kept file both.0 in
+    let k = has_rules file both.0 in
     let o = opened file k.opening in
     let not_plain = first_gives_none (not_coded (accepted file)) (walk_fault file (accepted file)) both.1 in
     let e : kind file ≡ coded = is_coded_kind (kind file) (when_not NotCoded _ not_plain) in

@@ -67,10 +67,10 @@ reached P w c place later none go_on = go (nat_lt (length w) place) refl
     go true e = none
     go false e = go_on (ltb-false (length w) place e)
 
-kept_then : (P : Stream → Type 0) (fault : Option FileFault) (later : Stream) → ((f : FileFault) → P (nothing_but (stopped f))) → (fault ≡ None → P later) →
+unless_then : (P : Stream → Type 0) (fault : Option FileFault) (later : Stream) → ((f : FileFault) → P (nothing_but (stopped f))) → (fault ≡ None → P later) →
     P (unless fault later)
-kept_then P (Some f) later none go_on = none f
-kept_then P None later none go_on = go_on refl
+unless_then P (Some f) later none go_on = none f
+unless_then P None later none go_on = go_on refl
 
 -- ---- in `DST `, behind so many frames
 record FramesAre (w : List ℕ) (f : Shape) (count found : ℕ) (s : Stream) : Type 0 where
@@ -199,7 +199,7 @@ sound_lawful : (w v p : List ℕ) (h : Head) → CameLawful (record { version = 
 sound_lawful w v p h came =
     let front : Front = record { version = v; prop = p; frames = number_at w (body_place h + 12) 4 } in
     reached (IsLawful w) w (body_place h) (body_place h + 18) _ (early_form w (cut_off (Overrun (body_place h))) (tt {0}))
-    (λ there. kept_then (IsLawful w) (frte_fault_at w (body_place h)) _ (λ f. early_form w (stopped f) (tt {0}))
+    (λ there. unless_then (IsLawful w) (frte_fault_at w (body_place h)) _ (λ f. early_form w (stopped f) (tt {0}))
     (λ none. lawful_front w front _
     (record { version = came.version v refl; most = came.most p refl; rules = came.rules p refl; frames = count_few w (body_place h) none })
     (frames_are w (shape_in p) front.frames (body_end h) 4000000 0 (body_place h + 18) (omega arith))))
@@ -209,7 +209,7 @@ chunk_lawful : (w : List ℕ) (end : ℕ) (came : Came) (h : Head) (later : Stre
     (body_end h ≤ length w → chunk_body_fault w came h ≡ None → IsLawful w later) → IsLawful w (in_form_chunk w end came h later)
 chunk_lawful w end came h later next =
     reached (IsLawful w) w h.place (body_end h) _ (early_form w (cut_off (Overrun h.place)) (tt {0}))
-    (λ there. kept_then (IsLawful w) (chunk_body_fault w came h) _ (λ f. early_form w (stopped f) (tt {0}))
+    (λ there. unless_then (IsLawful w) (chunk_body_fault w came h) _ (λ f. early_form w (stopped f) (tt {0}))
     (λ none. reached (IsLawful w) w h.place (whole_end end h) later (early_form w (cut_off (Overrun h.place)) (tt {0})) (λ all. next there none)))
 
 no_version_and_coded : (id : List ℕ) → (id is "FVER") ≡ true → (id is "DST ") ≡ true → ⊥
@@ -346,5 +346,5 @@ streams_are_lawful w = go (nat_lt (length w) 16)
           unless (form_head_fault w) (in_form w (form_end w) 1024 nothing_came 16)
     ])
     go true = early_form w (cut_off NotForm) (tt {0})
-    go false = kept_then (IsLawful w) (form_head_fault w) _ (λ f. early_form w (stopped f) (tt {0}))
+    go false = unless_then (IsLawful w) (form_head_fault w) _ (λ f. early_form w (stopped f) (tt {0}))
         (λ none. form_lawful w (form_end w) 1024 None None 16 nothing_lawful)

@@ -7,7 +7,7 @@ use Rattle.dst_frames.specs.Eight.{states_at, tables_in}
 use Rattle.dst_frames.specs.Batch.{HasBegun, stored_in}
 use Rattle.dst_frames.specs.Running.{AreChances}
 use Rattle.dst_frames.specs.declared.stored.StoredFrame.{StoredFrame}
-use Rattle.dst_frames.proofs.Begun.{begins_kept, begun_kept}
+use Rattle.dst_frames.proofs.Begun.{begins_still, begun_still}
 use Rattle.dst_frames.proofs.batch.begin_all.Goals as goal
 
 pub loop-n-init : goal.loop-n-init
@@ -58,7 +58,7 @@ loop-n-preserved c =
     let below : (m : ℕ) → m < i → P m = λ m h frame.
     let ne : m ≢ i = omega arith in
     rw (c.begin_lane.ensures.tables m h, c.begin_lane.ensures.states m ne, get_or-set_other chances i m x 0 ne)
-    (begun_kept f lanes new m (stored_in (get_or frames m frame)) (tables_in c.loop-n.eight m) (states_at c.loop-n.rows m) (get_or chances m 0)
+    (begun_still f lanes new m (stored_in (get_or frames m frame)) (tables_in c.loop-n.eight m) (states_at c.loop-n.rows m) (get_or chances m 0)
     (inv.begun m frame h) (c.begin_lane.ensures.others m ne)) in
     let bytes : (frame : StoredFrame) → c.stored.result.now ≡ stored_in (get_or frames i frame) = λ frame.
     c.stored.ensures.bytes ∙ ap (λ (q : StoredFrame). stored_in q) (c.index-frames-n.is ∙ get_or_default frames i c.index-frames-n.result frame lt_frames) in
@@ -71,7 +71,7 @@ loop-n-preserved c =
       empty = λ m a h.
           let ne : m ≢ i = omega arith in
           let was = inv.empty m (omega arith) h in
-          (begins_kept lanes new m [] 0 was.0 (c.begin_lane.ensures.others m ne), rw (get_or-set_other chances i m x 0 ne) was.1);
+          (begins_still lanes new m [] 0 was.0 (c.begin_lane.ensures.others m ne), rw (get_or-set_other chances i m x 0 ne) was.1);
       eight = c.begin_lane.ensures.eight;
       taken = c.in-Some.ensures.taken;
       chances = c.in-Some.ensures.chances;

@@ -11,7 +11,7 @@ use Rattle.dst_frames.specs.declared.eight.EightStates.{EightStates}
 use Rattle.dst_frames.proofs.History.{Predicts}
 use Rattle.dst_frames.proofs.Rows.{IsRow, row_begins, row_ends}
 use Rattle.dst_frames.proofs.LaneRows.{row_on}
-use Rattle.dst_frames.proofs.Running.{lane_still, lane_on, used_kept, chances_on}
+use Rattle.dst_frames.proofs.Running.{lane_still, lane_on, used_still, chances_on}
 use Rattle.dst_frames.proofs.OneOfEight.{no_row, no_numbers, length-states, get_or-states, states-set, get_or-tables}
 use Rattle.dst_frames.proofs.octets.decode_place.Goals as goal
 
@@ -54,7 +54,7 @@ loop-c-preserved c =
     let enough : (n : ℕ) → n < 8 → HasEnough s r n (code_at c.args.frames.now n) = c.refill_where_short.ensures in
     let ahead : (n : ℕ) → n < 8 → 8 ≤ ahead_at r n = λ n h. omega (arith, (enough n h).ahead) in
     let used : (n : ℕ) → n < 8 → used_at r n ≤ 2 ^ 40 = λ n h.
-    omega (arith, used_kept s r n (code_at c.args.frames.now n) (enough n h).same, (inv.lanes n h).used, c.requires.lanes.used n h) in
+    omega (arith, used_still s r n (code_at c.args.frames.now n) (enough n h).same, (inv.lanes n h).used, c.requires.lanes.used n h) in
     let table : ℕ → ChannelTables = table_at tables (get_or numbers i one).of in
     let step : (n : ℕ) → n < count → LaneSteps place (c.args.start && nat_lt (8 * byte + place) (table n).early) (table n) (state_in was n) (state_in row n)
     (decoding_at r n (code_at c.args.frames.now n)) (decoding_at t n (code_at c.args.frames.now n)) (get_or row.chances n 0) = λ n h.

@@ -10,9 +10,9 @@ use Rattle.std.proofs.lemmas.List.{get_or_default}
 use Rattle.dst_frames.proofs.samples.finish_byte.Goals as goal
 
 -- what a state with the same next entry keeps
-next_kept : (states : List ChannelState) (i j : ℕ) (was new other : ChannelState) → i < length states → new.next ≡ (get_or states i was).next →
+next_still : (states : List ChannelState) (i j : ℕ) (was new other : ChannelState) → i < length states → new.next ≡ (get_or states i was).next →
     (get_or (set states i new) j other).next ≡ (get_or states j other).next
-next_kept states i j was new other lt same = go (nat_eq j i) refl
+next_still states i j was new other lt same = go (nat_eq j i) refl
   where
     go : (e : Bool) → nat_eq j i ≡ e → (get_or (set states i new) j other).next ≡ (get_or states j other).next
     go true e =
@@ -61,7 +61,7 @@ loop-c-preserved c =
     record {
       newest = λ j other filter probs samples place h. below_more N i n_below n_here j h other filter probs samples place;
       added = λ j table other probs samples h. below_more A i a_below a_here j h table other probs samples;
-      next = λ j other. next_kept states i j was new other lt_states refl ∙ inv.next j other;
+      next = λ j other. next_still states i j was new other lt_states refl ∙ inv.next j other;
       left = λ j other h.
           let ne : j ≢ i = omega arith in
           get_or-set_other states i j new other ne ∙ inv.left j other (omega arith);
