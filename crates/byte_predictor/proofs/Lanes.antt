@@ -156,7 +156,7 @@ added-lane n total xs older lanes row new byte each short few room sums is moved
         let still_none = lane-below n xs lane (rising_bits 8 byte ++ older) each short in
         omega (arith, old, none, still_none, stays lane le)
 
--- the same where the samples are told whole
+-- the same where the samples are given whole
 pub taken-lane : (coefs : List ℤ) (samples lanes row new : List ℕ) (byte : ℕ) → AllByRecursion (InRange filter_kind) coefs → length coefs ≤ 128 →
     rising_bits 8 byte ≡ take 8 samples → ((lane : ℕ) → lane < 136 → get_or lanes lane 0 ≡ upward_sum (drop lane (far coefs)) (drop 8 samples)) →
     ((lane : ℕ) → lane < 128 → get_or row lane 0 ≡ upward_sum (drop lane (far coefs)) (rising_bits 8 byte)) →

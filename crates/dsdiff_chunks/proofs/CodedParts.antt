@@ -13,8 +13,8 @@ use Rattle.dsdiff_chunks.specs.Opening.{coded_sound_fault, frte_fault}
 use Rattle.dsdiff_chunks.proofs.Fields.{number_within}
 use Rattle.chunk_view.proofs.InParts.{bytes_in_part, number_in_part}
 
-pub told_in_part : (xs w : List ℕ) (place : ℕ) → w ≡ bytes_at xs place 18 → number_at w 12 4 ≡ number_at xs (place + 12) 4
-told_in_part xs w place at = ap (λ v. number_at v 12 4) at ∙ number_in_part xs place 18 12 4 (omega arith)
+pub count_in_part : (xs w : List ℕ) (place : ℕ) → w ≡ bytes_at xs place 18 → number_at w 12 4 ≡ number_at xs (place + 12) 4
+count_in_part xs w place at = ap (λ v. number_at v 12 4) at ∙ number_in_part xs place 18 12 4 (omega arith)
 
 by_parts : (short : Bool) (id : List ℕ) (size rate told : ℕ) → short ≡ false →
     (FrameRate when short || not (id is "FRTE" && size == 6) || not (rate == 75) otherwise TooManyFrames when told above 1000000)
@@ -36,7 +36,7 @@ frte_in_part xs w sound le at =
     let rate : number_at w 16 2 ≡ number_at xs (p + 16) 2 = ap (λ v. number_at v 16 2) at ∙ number_in_part xs p 18 16 2 (omega arith) in
     by_parts (nat_lt sound.size 18) (bytes_at xs p 4) (number_at xs (p + 4) 8) (number_at xs (p + 16) 2) (number_at xs (p + 12) 4) (le-ltb sound.size 18 le)
     ∙ sym (by_numbers (bytes_at w 0 4) (bytes_at xs p 4) (number_at w 4 8) (number_at xs (p + 4) 8) (number_at w 16 2) (number_at xs (p + 16) 2)
-    (number_at w 12 4) (number_at xs (p + 12) 4) id size rate (told_in_part xs w p at))
+    (number_at w 12 4) (number_at xs (p + 12) 4) id size rate (count_in_part xs w p at))
 
 -- ---- the rules on the first eighteen bytes, one after the other, by the fields that are read of them
 size_in : (w : List ℕ) → big_number 8 (take 14 (drop 4 w)) ≡ number_at w 4 8

@@ -1,4 +1,4 @@
--- What a file has that is accepted for decoding: frames of a lawful shape, as many as are told, and as many as its
+-- What a file has that is accepted for decoding: frames of a lawful shape, as many as the frame count says, and as many as its
 -- sound needs.
 use Rattle.std.proofs.lemmas.Bool.{ltb-false}
 use Rattle.std.proofs.Common.{◌≡◌, inl, inr, ℕ, ◌+◌, ◌-◌, ◌*◌, ◌%◌, ◌<◌, ◌≤◌, ◌==◌, Bool, true, false, List, [], ◌∷◌, length, drop, map, refl}
@@ -68,7 +68,7 @@ not_false : (b : Bool) → not b ≡ false → b ≡ true
 not_false true q = refl
 not_false false q = absurd cc
 
--- ---- the frames are as many as are told
+-- ---- the frames are as many as the frame count says
 pub count_is_right : (file : List ℕ) (form : Form) → walk_fault file form ≡ None → length (frame_heads file form) ≡ form.frames
 unfolding walk_fault
 count_is_right file form h =

@@ -159,16 +159,16 @@ pub blocks_pass_the_file : is_refused_so (Overrun 80) (dsf_fault (take 4187 dsf)
 unfolding dsf_faults_open
 blocks_pass_the_file = refl
 
--- the size of the blocks is told in eight bytes: 2 ^ 56 is enough
-pub size_told_in_the_last_byte : are_accepted (dsf_fault (but 84 0 (but 91 1 silent)) ∷ dsf_fault (but 84 0 (but 85 0 (but 91 1 dsf))) ∷ [])
+-- the size of the blocks stands in eight bytes: 2 ^ 56 is enough
+pub size_in_the_last_byte : are_accepted (dsf_fault (but 84 0 (but 91 1 silent)) ∷ dsf_fault (but 84 0 (but 85 0 (but 91 1 dsf))) ∷ [])
 unfolding dsf_faults_open
-size_told_in_the_last_byte = refl
+size_in_the_last_byte = refl
 
-pub size_told_too_small : dsf_fault (but 84 11 dsf) ≡ Some (DsfCount 12 4107)
+pub size_too_small : dsf_fault (but 84 11 dsf) ≡ Some (DsfCount 12 4107)
 unfolding dsf_faults_open
-size_told_too_small = refl
+size_too_small = refl
 
--- ---- of two faults the earlier in their order is told
+-- ---- of two faults the earlier in their order is answered
 pub faults_in_order :
     dsf_fault (but 40 2 (take 91 silent))
     ∷ dsf_fault (but 40 2 (but 52 7 silent))

@@ -127,11 +127,11 @@ of_sound channels size heads = record {
 abbrev at : ℕ → ℕ → Head
 at place size = record { id = codes "DSFK"; place = place; size = size }
 
-abbrev told : ℕ → ℕ → ℕ → ℕ → List ℕ
-told version samples type order = replicate 12 0 ++ version ∷ big_bytes 8 samples ++ big_bytes 4 type ++ order ∷ []
+abbrev dsfk_of : ℕ → ℕ → ℕ → ℕ → List ℕ
+dsfk_of version samples type order = replicate 12 0 ++ version ∷ big_bytes 8 samples ++ big_bytes 4 type ++ order ∷ []
 
 pub dsfk_is_read :
-    dsf_in (told 1 17 70000 8) (of_sound 5 15 (at 0 14 ∷ [])) ≡ record { channels = 5; multiple = 2; samples = 17; type = 70000; bits = 8 }
+    dsf_in (dsfk_of 1 17 70000 8) (of_sound 5 15 (at 0 14 ∷ [])) ≡ record { channels = 5; multiple = 2; samples = 17; type = 70000; bits = 8 }
 dsfk_is_read = refl
 
 pub without_dsfk : map (λ c. dsf_in [] (of_sound c (3 * c) [])) (1 ∷ 2 ∷ 3 ∷ 4 ∷ 5 ∷ 6 ∷ [])
@@ -144,19 +144,19 @@ pub without_dsfk : map (λ c. dsf_in [] (of_sound c (3 * c) [])) (1 ∷ 2 ∷ 3 
 without_dsfk = refl
 
 -- a chunk with this version, samples and bits per sample, in a form of two channels with six bytes of sound
-abbrev of_told : ℕ → ℕ → ℕ → Option FileFault
-of_told version samples order = dsfk_fault (told version samples 0 order) (of_sound 2 6 (at 0 14 ∷ []))
+abbrev of_dsfk : ℕ → ℕ → ℕ → Option FileFault
+of_dsfk version samples order = dsfk_fault (dsfk_of version samples 0 order) (of_sound 2 6 (at 0 14 ∷ []))
 
-pub lawful_dsfk : of_told 1 17 1 ∷ of_told 1 24 8 ∷ dsfk_fault [] (of_sound 2 6 []) ∷ [] ≡ None ∷ None ∷ None ∷ []
+pub lawful_dsfk : of_dsfk 1 17 1 ∷ of_dsfk 1 24 8 ∷ dsfk_fault [] (of_sound 2 6 []) ∷ [] ≡ None ∷ None ∷ None ∷ []
 lawful_dsfk = refl
 
 pub unlawful_dsfk :
-    of_told 0 17 1 ∷ of_told 2 17 1 ∷ of_told 1 16 1 ∷ of_told 1 25 1 ∷ of_told 1 17 0 ∷ of_told 1 17 2 ∷ of_told 1 17 7 ∷ of_told 1 17 9 ∷ []
+    of_dsfk 0 17 1 ∷ of_dsfk 2 17 1 ∷ of_dsfk 1 16 1 ∷ of_dsfk 1 25 1 ∷ of_dsfk 1 17 0 ∷ of_dsfk 1 17 2 ∷ of_dsfk 1 17 7 ∷ of_dsfk 1 17 9 ∷ []
     ≡ Some DsfKeptBad ∷ Some DsfKeptBad ∷ Some DsfKeptBad ∷ Some DsfKeptBad ∷ Some DsfKeptBad ∷ Some DsfKeptBad ∷ Some DsfKeptBad ∷ Some DsfKeptBad ∷ []
 unlawful_dsfk = refl
 
 pub dsfk_of_another_size_or_twice :
-    map (λ heads. dsfk_fault (told 1 17 0 1) (of_sound 2 6 heads)) ((at 0 13 ∷ []) ∷ (at 0 15 ∷ []) ∷ (at 0 14 ∷ at 0 14 ∷ []) ∷ [])
+    map (λ heads. dsfk_fault (dsfk_of 1 17 0 1) (of_sound 2 6 heads)) ((at 0 13 ∷ []) ∷ (at 0 15 ∷ []) ∷ (at 0 14 ∷ at 0 14 ∷ []) ∷ [])
     ≡ Some DsfKeptBad ∷ Some DsfKeptBad ∷ Some DsfKeptBad ∷ []
 dsfk_of_another_size_or_twice = refl
 

@@ -58,7 +58,7 @@ pub compression_of_version_1 :
     ≡ true ∷ true ∷ true ∷ true ∷ true ∷ true ∷ false ∷ []
 compression_of_version_1 = refl
 
--- in version 2 as many kept bytes as are told stand behind it
+-- in version 2 as many kept bytes as it says stand behind it
 pub kept_bytes_of_version_2 :
     is_bad_origin 1 4704 0 (two (0 ∷ 0 ∷ 0 ∷ 1 ∷ []) (cmpr "DSD "))
     ∷ is_bad_origin 1 4704 0 (two (0 ∷ 0 ∷ 0 ∷ 1 ∷ []) (cmpr "DSD " ++ 9 ∷ []))

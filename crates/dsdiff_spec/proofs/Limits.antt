@@ -16,7 +16,7 @@ pub sound_is_of_whole_groups :
 unfolding forms_open
 sound_is_of_whole_groups = refl
 
--- a plain form whose sound is told to have so many bytes, though they don't stand in it
+-- a plain form whose sound has so many bytes by its head, though they don't stand in it
 abbrev telling : List ℕ → List ℕ → List ℕ
 telling form_size sound_size =
     codes "FRM8" ++ form_size ++ codes "DSD " ++ version ++ prop 1 2822400 "DSD " ++ codes "DSD " ++ sound_size
@@ -44,7 +44,7 @@ pub room_for_encoding :
     ≡ None ∷ Some TooManyChunks ∷ Some PropTooLong ∷ Some FormTooLarge ∷ []
 room_for_encoding = refl
 
--- ---- the size of `PROP`, told with the sizes of the form and of a chunk in it
+-- ---- the size of `PROP`, with the sizes of the form and of a chunk in it
 abbrev of_sizes : List ℕ → List ℕ → List ℕ → List ℕ
 of_sizes form_size prop_size size =
     codes "FRM8" ++ (0 ∷ 0 ∷ 0 ∷ 0 ∷ []) ++ form_size ++ codes "DSD " ++ version
@@ -71,13 +71,13 @@ pub rates_of_frames :
 unfolding forms_open
 rates_of_frames = refl
 
--- the body of `DST ` is told to have one byte too few, which stands in the file as its pad byte
+-- the body of `DST ` has one byte too few by its head, which stands in the file as its pad byte
 pub frte_is_in_dst : faults (but 109 17 (mono_coded []) ∷ []) ≡ Some FrameRate ∷ []
 unfolding forms_open
 frte_is_in_dst = refl
 
-pub a_million_frames_are_told :
+pub a_million_frames_in_frte :
     faults_of ((version ∷ prop 1 2822400 "DST " ∷ dst 1000000 [] ∷ []) ∷ (version ∷ prop 1 2822400 "DST " ∷ dst 1000001 [] ∷ []) ∷ [])
     ≡ None ∷ Some TooManyFrames ∷ []
 unfolding forms_open
-a_million_frames_are_told = refl
+a_million_frames_in_frte = refl

@@ -46,11 +46,11 @@ unfolding forms_open
 chunks_that_are_not_whole = refl
 
 -- a frame that is too long comes before a later chunk that isn't whole, and before another number of frames
-pub first_fault_is_told :
+pub first_fault_is_answered :
     walk_of 9 (frame 0 ∷ frame 9411 ∷ (0 ∷ []) ∷ replicate 11 0 ∷ []) ∷ walk_of 9 (frame 9410 ∷ replicate 11 0 ∷ []) ∷ []
     ≡ Err (FrameTooLong 1 9411) ∷ Err (Overrun 9550) ∷ []
 unfolding forms_open
-first_fault_is_told = refl
+first_fault_is_answered = refl
 
 -- twice a frame's sound and its first byte, at the least and at the greatest shape
 abbrev of_shape : ℕ → ℕ → Form

@@ -34,13 +34,13 @@ same_keys file end (h ∷ hs) (c ∷ cs) (d ∷ ds) p q =
     let later = same_keys file end hs cs ds p.1 q.1 in
     cc
 
-pub record AreFour (front middle last : List Chunk) (told : List ℕ) : Type 0 where
+pub record AreFour (front middle last : List Chunk) (said : List ℕ) : Type 0 where
   pub front_none : front ≡ []
   pub middle_none : middle ≡ []
   pub dsfk : Chunk
   pub last_one : last ≡ dsfk ∷ []
   pub id : dsfk.id ≡ codes "DSFK"
-  pub body : dsfk.body ≡ told
+  pub body : dsfk.body ≡ said
 
 never_true : false ≡ true → ⊥
 never_true e = cc
@@ -57,21 +57,21 @@ empty_key x xs e = cc
 no_more : (x : Key) (xs : List Key) → [] ≡ x ∷ xs → ⊥
 no_more x xs e = cc
 
-pub four : (version prop sound : Chunk) (front middle last : List Chunk) (first : Key) (body s told : List ℕ) → Lacks prop_id (version ∷ front) →
+pub four : (version prop sound : Chunk) (front middle last : List Chunk) (first : Key) (body s said : List ℕ) → Lacks prop_id (version ∷ front) →
     Lacks sound_id middle →
     map key ((version ∷ front ++ prop ∷ middle) ++ sound ∷ last)
-    ≡ first ∷ record { id = codes "PROP"; body = body } ∷ record { id = codes "DSD "; body = s } ∷ record { id = codes "DSFK"; body = told } ∷ [] →
-    AreFour front middle last told
-four version prop sound (x ∷ front) middle last first body s told apart none e =
+    ≡ first ∷ record { id = codes "PROP"; body = body } ∷ record { id = codes "DSD "; body = s } ∷ record { id = codes "DSFK"; body = said } ∷ [] →
+    AreFour front middle last said
+four version prop sound (x ∷ front) middle last first body s said apart none e =
     let here = first_of _ _ _ _ (rest_of _ _ _ _ e) in
     absurd (never_true (sym apart.1.0 ∙ ap (λ (k : Key). prop_id k.id) here))
-four version prop sound [] (y ∷ middle) last first body s told apart none e =
+four version prop sound [] (y ∷ middle) last first body s said apart none e =
     let here = first_of _ _ _ _ (rest_of _ _ _ _ (rest_of _ _ _ _ e)) in
     absurd (never_true (sym none.0 ∙ ap (λ (k : Key). sound_id k.id) here))
-four version prop sound [] [] [] first body s told apart none e =
+four version prop sound [] [] [] first body s said apart none e =
     absurd (no_more _ _ (rest_of _ _ _ _ (rest_of _ _ _ _ (rest_of _ _ _ _ e))))
-four version prop sound [] [] (k ∷ []) first body s told apart none e =
+four version prop sound [] [] (k ∷ []) first body s said apart none e =
     let here = first_of _ _ _ _ (rest_of _ _ _ _ (rest_of _ _ _ _ (rest_of _ _ _ _ e))) in
     record { front_none = refl; middle_none = refl; dsfk = k; last_one = refl; id = ap (λ (x : Key). x.id) here; body = ap (λ (x : Key). x.body) here }
-four version prop sound [] [] (k ∷ l ∷ last) first body s told apart none e =
+four version prop sound [] [] (k ∷ l ∷ last) first body s said apart none e =
     absurd (empty_key _ _ (rest_of _ _ _ _ (rest_of _ _ _ _ (rest_of _ _ _ _ (rest_of _ _ _ _ e)))))

@@ -44,10 +44,11 @@ use Rattle.dsf_laws.proofs.Chunks.{AreFour, same_keys, four}
 use Rattle.dsf_laws.proofs.PlainForm.{dsf_chunks, is_file, is_accepted, its_channels, its_multiple, its_sound}
 
 -- what `DSFK` tells
-abbrev pub told : Dsf → List ℕ
-told d = 1 ∷ big_bytes 8 d.samples ++ big_bytes 4 d.type ++ d.bits ∷ []
+abbrev pub dsfk_body : Dsf → List ℕ
+dsfk_body d = 1 ∷ big_bytes 8 d.samples ++ big_bytes 4 d.type ++ d.bits ∷ []
 
-form_is : (f : List ℕ) → dsdiff f ≡ form_of (map bytes_of_chunk (dsf_chunks (dsf_of f).channels (dsf_of f).multiple (sound f (dsf_of f)) (told (dsf_of f))))
+form_is : (f : List ℕ) → dsdiff f ≡ form_of
+    (map bytes_of_chunk (dsf_chunks (dsf_of f).channels (dsf_of f).multiple (sound f (dsf_of f)) (dsfk_body (dsf_of f))))
 unfolding plain_form
 form_is f = refl
 
@@ -100,13 +101,13 @@ module _ (f : List ℕ) (picks : Picks) (bytes : AreBytes f) (a : IsAcceptedDsf 
         ap (frames_for (4704 * (dsf_of f).multiple * (dsf_of f).channels)) s_long in
         omega (arith, less, same, a.few)
 
-    bytes_here : AreBytes (form_of (map bytes_of_chunk (dsf_chunks (dsf_of f).channels (dsf_of f).multiple (sound f (dsf_of f)) (told (dsf_of f)))))
+    bytes_here : AreBytes (form_of (map bytes_of_chunk (dsf_chunks (dsf_of f).channels (dsf_of f).multiple (sound f (dsf_of f)) (dsfk_body (dsf_of f)))))
     bytes_here = subst AreBytes (form_is f) form_bytes
 
     pub accepts_at : (level : ℕ) → refusal (encode level) (dsdiff f) ≡ None
     accepts_at level =
         ap (refusal (encode level)) (form_is f)
-        ∙ is_accepted (dsf_of f).channels (dsf_of f).multiple (sound f (dsf_of f)) (told (dsf_of f)) is_made refl s_whole s_few bytes_here level
+        ∙ is_accepted (dsf_of f).channels (dsf_of f).multiple (sound f (dsf_of f)) (dsfk_body (dsf_of f)) is_made refl s_whole s_few bytes_here level
 
     accepts : refusal (encode 1) (dsdiff f) ≡ None
     accepts = accepts_at 1
@@ -117,24 +118,25 @@ module _ (f : List ℕ) (picks : Picks) (bytes : AreBytes f) (a : IsAcceptedDsf 
     e : IsEncoded (dsdiff f) picks
     e = encoded_is (dsdiff f) picks plain_file are
 
-    formed_here : IsFile (dsdiff f) (dsf_chunks (dsf_of f).channels (dsf_of f).multiple (sound f (dsf_of f)) (told (dsf_of f))) []
+    formed_here : IsFile (dsdiff f) (dsf_chunks (dsf_of f).channels (dsf_of f).multiple (sound f (dsf_of f)) (dsfk_body (dsf_of f))) []
     formed_here =
-        subst (λ w. IsFile w (dsf_chunks (dsf_of f).channels (dsf_of f).multiple (sound f (dsf_of f)) (told (dsf_of f))) []) (sym (form_is f))
-        (is_file (dsf_of f).channels (dsf_of f).multiple (sound f (dsf_of f)) (told (dsf_of f)) is_made refl s_whole s_few bytes_here)
+        subst (λ w. IsFile w (dsf_chunks (dsf_of f).channels (dsf_of f).multiple (sound f (dsf_of f)) (dsfk_body (dsf_of f))) []) (sym (form_is f))
+        (is_file (dsf_of f).channels (dsf_of f).multiple (sound f (dsf_of f)) (dsfk_body (dsf_of f)) is_made refl s_whole s_few bytes_here)
 
-    heads_here : (top_level (dsdiff f)).heads ≡ heads_from 16 (dsf_chunks (dsf_of f).channels (dsf_of f).multiple (sound f (dsf_of f)) (told (dsf_of f)))
+    heads_here : (top_level (dsdiff f)).heads ≡ heads_from 16 (dsf_chunks (dsf_of f).channels (dsf_of f).multiple (sound f (dsf_of f)) (dsfk_body (dsf_of f)))
     heads_here = ap (λ (x : Found). x.heads) (found_is (dsdiff f) _ [] formed_here)
 
     -- its chunks are those four
-    are_four : AreFour e.p.parts.front e.p.parts.middle e.p.parts.last (told (dsf_of f))
+    are_four : AreFour e.p.parts.front e.p.parts.middle e.p.parts.last (dsfk_body (dsf_of f))
     are_four =
         let p = e.p.parts in
         let cs = (p.version ∷ p.front ++ p.prop ∷ p.middle) ++ p.sound ∷ p.last in
-        let ds = dsf_chunks (dsf_of f).channels (dsf_of f).multiple (sound f (dsf_of f)) (told (dsf_of f)) in
+        let ds = dsf_chunks (dsf_of f).channels (dsf_of f).multiple (sound f (dsf_of f)) (dsfk_body (dsf_of f)) in
         let theirs = subst (λ hs. AllZip (Holds (dsdiff f) (form_end (dsdiff f))) hs cs) (sym p.heads)
         (file_holds (dsdiff f) cs (behind_form (dsdiff f)) p.formed) in
         let ours = subst (λ hs. AllZip (Holds (dsdiff f) (form_end (dsdiff f))) hs ds) (sym heads_here) (file_holds (dsdiff f) ds [] formed_here) in
-        four p.version p.prop p.sound p.front p.middle p.last _ (made_prop_body (dsf_of f).channels (dsf_of f).multiple) (sound f (dsf_of f)) (told (dsf_of f))
+        four p.version p.prop p.sound p.front p.middle p.last _ (made_prop_body (dsf_of f).channels (dsf_of f).multiple) (sound f (dsf_of f))
+        (dsfk_body (dsf_of f))
         p.apart_front.props p.apart_middle.sounds (same_keys (dsdiff f) (form_end (dsdiff f)) (top_level (dsdiff f)).heads cs ds theirs ours)
 
     -- ---- the coded form
@@ -173,9 +175,9 @@ module _ (f : List ℕ) (picks : Picks) (bytes : AreBytes f) (a : IsAcceptedDsf 
     held : Holds (coded_file picks (dsdiff f)) (form_end (coded_file picks (dsdiff f))) (head_behind before are_four.dsfk) are_four.dsfk
     held = stands_behind (coded_file picks (dsdiff f)) before [] are_four.dsfk [] made
 
-    number_told : (i n : ℕ) → i + n ≤ 14 → number_at (coded_file picks (dsdiff f)) (body_place (head_behind before are_four.dsfk) + i) n ≡ number_at
-        (told (dsf_of f)) i n
-    number_told i n within =
+    number_said : (i n : ℕ) → i + n ≤ 14 → number_at (coded_file picks (dsdiff f)) (body_place (head_behind before are_four.dsfk) + i) n ≡ number_at
+        (dsfk_body (dsf_of f)) i n
+    number_said i n within =
         number_inside (coded_file picks (dsdiff f)) (form_end (coded_file picks (dsdiff f))) (head_behind before are_four.dsfk) are_four.dsfk i n held
         (omega (arith, within, ap length are_four.body))
         ∙ ap (λ w. number_at w i n) are_four.body
@@ -184,8 +186,8 @@ module _ (f : List ℕ) (picks : Picks) (bytes : AreBytes f) (a : IsAcceptedDsf 
     its_shape =
         same_shape (dsdiff f) picks e
         ∙ ap (λ w. shape (accepted w)) (form_is f)
-        ∙ ap₂ shape_of (its_channels (dsf_of f).channels (dsf_of f).multiple (sound f (dsf_of f)) (told (dsf_of f)) is_made refl s_whole s_few bytes_here)
-        (its_multiple (dsf_of f).channels (dsf_of f).multiple (sound f (dsf_of f)) (told (dsf_of f)) is_made refl s_whole s_few bytes_here)
+        ∙ ap₂ shape_of (its_channels (dsf_of f).channels (dsf_of f).multiple (sound f (dsf_of f)) (dsfk_body (dsf_of f)) is_made refl s_whole s_few bytes_here)
+        (its_multiple (dsf_of f).channels (dsf_of f).multiple (sound f (dsf_of f)) (dsfk_body (dsf_of f)) is_made refl s_whole s_few bytes_here)
 
     said_again : dsf_in (coded_file picks (dsdiff f)) form' ≡ dsf_of f
     said_again =
@@ -195,10 +197,10 @@ module _ (f : List ℕ) (picks : Picks) (bytes : AreBytes f) (a : IsAcceptedDsf 
         let octets_are : 4704 * form'.multiple ≡ 4704 * (dsf_of f).multiple = ap (λ (x : Shape). x.octets) its_shape in
         let multiple : form'.multiple ≡ (dsf_of f).multiple = omega (arith, octets_are) in
         let samples : number_at file (body_place h + 1) 8 ≡ (dsf_of f).samples =
-        number_told 1 8 (omega arith) ∙ big_number-reads_back 8 (dsf_of f).samples [] (omega (arith, a.samples)) in
+        number_said 1 8 (omega arith) ∙ big_number-reads_back 8 (dsf_of f).samples [] (omega (arith, a.samples)) in
         let type : number_at file (body_place h + 9) 4 ≡ (dsf_of f).type =
-        number_told 9 4 (omega arith) ∙ big_number-reads_back 4 (dsf_of f).type [] (omega (arith, a.type)) in
-        let bits : number_at file (body_place h + 13) 1 ≡ (dsf_of f).bits = number_told 13 1 (omega arith) ∙ omega arith in
+        number_said 9 4 (omega arith) ∙ big_number-reads_back 4 (dsf_of f).type [] (omega (arith, a.type)) in
+        let bits : number_at file (body_place h + 13) 1 ≡ (dsf_of f).bits = number_said 13 1 (omega arith) ∙ omega arith in
         ap (λ hs. elim hs as (λ _. Dsf) [
           | [] ↦ dsf_said form' (8 * (size_of_sound form' / form'.channels)) (usual_type form'.channels) 1
           | h ∷ hs ↦ dsf_said form' (number_at file (body_place h + 1) 8) (number_at file (body_place h + 9) 4) (number_at file (body_place h + 13) 1)
@@ -217,7 +219,7 @@ module _ (f : List ℕ) (picks : Picks) (bytes : AreBytes f) (a : IsAcceptedDsf 
     body_here : body_of (dsdiff f) (accepted (dsdiff f)).sound ≡ sound f (dsf_of f)
     body_here =
         ap (λ w. body_of w (accepted w).sound) (form_is f)
-        ∙ its_sound (dsf_of f).channels (dsf_of f).multiple (sound f (dsf_of f)) (told (dsf_of f)) is_made refl s_whole s_few bytes_here
+        ∙ its_sound (dsf_of f).channels (dsf_of f).multiple (sound f (dsf_of f)) (dsfk_body (dsf_of f)) is_made refl s_whole s_few bytes_here
 
     begins : take (octets (dsf_of f) * (dsf_of f).channels) (concat list) ≡ sound f (dsf_of f)
     begins =

@@ -85,7 +85,7 @@ module _ (c m : ℕ) (f : IsMade c m) (body_bytes_are : AreBytes (made_prop_body
         is_dsd false e = absurd cc
 
 -- ---- the chunks of the form
-module _ (c m : ℕ) (s t : List ℕ) (f : IsMade c m) (told : length t ≡ 14) (whole : length s % c ≡ 0)
+module _ (c m : ℕ) (s t : List ℕ) (f : IsMade c m) (said : length t ≡ 14) (whole : length s % c ≡ 0)
     (few : frames_for (sound_bytes (shape_of c m)) (length s) ≤ 1000000) (bytes : AreBytes (form_of (map bytes_of_chunk (dsf_chunks c m s t))))
   where
     abbrev g : List ℕ
@@ -125,7 +125,7 @@ module _ (c m : ℕ) (s t : List ℕ) (f : IsMade c m) (told : length t ≡ 14) 
       is_whole "FVER" (1 ∷ 5 ∷ 0 ∷ 0 ∷ []) 0 refl (lit< tt),
       is_whole "PROP" (made_prop_body c m) 0 refl (omega (arith, prop_long, f.most)),
       is_whole "DSD " s 0 refl (omega (arith, sound_small)),
-      is_whole "DSFK" t 0 refl (omega (arith, told)),
+      is_whole "DSFK" t 0 refl (omega (arith, said)),
     )
 
     pub long : length (body_bytes (dsf_chunks c m s t)) ≡ 16 + (78 + 4 * c) + (12 + length s + length s % 2) + 26
@@ -137,10 +137,10 @@ module _ (c m : ℕ) (s t : List ℕ) (f : IsMade c m) (told : length t ≡ 14) 
         let v : length (bytes_of_chunk version) ≡ 16 = refl in
         let p = length_written "PROP" (made_prop_body c m) 0 refl (omega (arith, prop_long, f.most)) in
         let e = length_written "DSD " s 0 refl (omega (arith, sound_small)) in
-        let l = length_written "DSFK" t 0 refl (omega (arith, told)) in
+        let l = length_written "DSFK" t 0 refl (omega (arith, said)) in
         let even : (66 + 4 * c) % 2 ≡ 0 = omega arith in
         let none : length (body_bytes []) ≡ 0 = refl in
-        omega (arith, a, b, d, k, v, p, e, l, prop_long, even, told, ap (λ n. n % 2) prop_long, ap (λ n. n % 2) told, none)
+        omega (arith, a, b, d, k, v, p, e, l, prop_long, even, said, ap (λ n. n % 2) prop_long, ap (λ n. n % 2) said, none)
 
     pub is_file : IsFile g (dsf_chunks c m s t) []
     is_file =

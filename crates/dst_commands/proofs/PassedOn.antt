@@ -261,7 +261,7 @@ pub failed_since : (fault : CopyFault) (source_first source_before source_now si
 failed_since Read a b c d e f le le' h = Rose-earlier a b c le h
 failed_since Write a b c d e f le le' h = Rose-earlier d e f le' h
 
--- the head of a form of the told size, of a file whose length is known
+-- the head of a form of this size, of a file whose length is known
 pub opening_by : {size n : ℕ} (sound : ℕ) (file : List ℕ) (form : CodedForm) → n ≡ length file → form.end ≤ n →
     ((file : List ℕ) → form.end ≤ length file → size ≡ decoded_size sound file (coded_seen form)) →
     codes "FRM8" ++ big_bytes 8 size ++ codes "DSD " ≡ opening sound file (coded_seen form)

@@ -34,7 +34,7 @@ struct Watch {
     size: u64,
     given: u64,
     begun: Instant,
-    told: u64,
+    shown: u64,
 }
 
 impl<'r, S: Source, R: Clock + Eprint> Watched<'r, S, R> {
@@ -48,7 +48,7 @@ impl<'r, S: Source, R: Clock + Eprint> Watched<'r, S, R> {
                 size: 0,
                 given: 0,
                 begun,
-                told: 0,
+                shown: 0,
             }),
             _ => None,
         };
@@ -58,7 +58,7 @@ impl<'r, S: Source, R: Clock + Eprint> Watched<'r, S, R> {
     /// Takes the line away.
     pub(crate) fn wipe(&self) {
         if let Some(watch) = &self.watch {
-            if watch.told > 0 {
+            if watch.shown > 0 {
                 let _ = eprint!(self.rt; "\r\x1b[K");
             }
         }
@@ -75,8 +75,8 @@ impl Watch {
         let Ok(now) = u64::try_from(elapsed.as_millis()) else {
             return;
         };
-        if now >= FIRST && now >= self.told.saturating_add(STEP) {
-            self.told = now;
+        if now >= FIRST && now >= self.shown.saturating_add(STEP) {
+            self.shown = now;
             self.tell(rt, now);
         }
     }

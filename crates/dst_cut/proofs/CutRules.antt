@@ -12,7 +12,7 @@ use Rattle.dsdiff_chunks.specs.declared.form.Form.TheVariants.{Coded}
 use Rattle.dsdiff_chunks.specs.Forms.{coded_seen, end_of, form_seen}
 use Rattle.dst_commands.proofs.InOrder.{coded_passes, then_is}
 
--- where the walk finds the frames and the last is there, the chunks that would be written are asked; the fault is told of a form that
+-- where the walk finds the frames and the last is there, the chunks that would be written are asked; the fault is answered of a form that
 -- ends within the n bytes of the file
 pub chunks_asked : (file : List ℕ) (given : kinds.Form) (f seen : CodedForm) (index : List Entry) (first last n : ℕ) (fault : Option FileFault) →
     given ≡ Coded f → seen ≡ f → walk_fault file (coded_seen f) ≡ None → entries file (coded_seen f) ≡ index → no_frame last seen.frames ≡ None →

@@ -182,7 +182,7 @@ sounds_whole : (front : Front) (frames sounds : List (List ℕ)) → AreSounds f
     × (length sounds ≡ length frames)
 sounds_whole front frames sounds are = whole (shape_in front.prop) frames sounds (means_or_zeros (shape_in front.prop) frames sounds are.each)
 
--- what is written behind the last frame that came, and behind the last that is told
+-- what is written behind the last frame that came, and behind the last of the frame count
 pub behind_all : (w : List ℕ) (front : Front) (frames sounds : List (List ℕ)) → (stream w).front ≡ Some front → (stream w).frames ≡ frames →
     AreSounds front frames sounds →
     piped_before front (piped front sounds) (length frames) ≡ front_bytes front ++ concat sounds

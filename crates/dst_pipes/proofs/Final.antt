@@ -56,7 +56,7 @@ ends_unsettled p rest work old mid new room left h bytes same sure =
     let stops = stops_unsettled (front_bytes h.front ++ concat sounds) old mid new room left h.wrote.adds same sure in
     (stopped_short (Unit {0}) (p ++ rest) _ old new room bytes begins stops, lacks_room (p ++ rest) _ old new room begins stops)
 
--- ---- the stream is refused: what is told of its frames, and its ending
+-- ---- the stream is refused: what is said of its frames, and its ending
 refused_behind : (w : List ℕ) (front : Front) (frames sounds : List (List ℕ)) (e : Ending) (fault : FileFault) (old new : Option (List ℕ)) →
     (stream w).front ≡ Some front →
     (stream w).frames ≡ frames → (stream w).ending ≡ e → AreSounds front frames sounds → new ≡ and_then old (front_bytes front ++ concat sounds) →

@@ -21,7 +21,7 @@ use Rattle.dst_commands.proofs.Writing.{adds_then, stops_for, stops_then, stops_
 use Rattle.dst_read.proofs.Stopping.{head_of, end_of, whole, head_is_front, sound_is_front, whole_is_front, done_outcome, refused_outcome, stopped_short}
 use Rattle.dst_read.proofs.Stopping.{lacks_room, ends_at_device}
 
--- ---- in front of the sound and behind it, told by the number that is the size of the sound
+-- ---- in front of the sound and behind it, by the number that is the size of the sound
 front_added : (n : ℕ) (file : List ℕ) (form : Form) (old new : Option (List ℕ)) (room left : Option ℕ) → n ≡ size_of_sound form →
     Adds (decoded_front n file form) old new room left → Adds (head_of file form) old new room left
 front_added n file form old new room left size h = subst (λ n. Adds (decoded_front n file form) old new room left) size h

@@ -63,7 +63,7 @@ told_stopped : (c : Command) (file : List ℕ) (old new : Option (List ℕ)) (ro
 told_stopped c file old new room before now reads bytes h o other =
     subst (λ lines. StopsAtALine lines before now) (sym (outcome_lines c file h.0 o reads bytes h.1 other)) h.3
 
--- ---- all of them, of the summary of a file or of the head of a frame, whichever is asked for
+-- ---- all of them, of the summary of a file or of the header of a frame, whichever is asked for
 pub record HasShown (asked : Option ℕ) (r : Result Reported ShowFault) (bytes old new : Option (List ℕ)) (room : Option ℕ) (before now : ℕ) : Type 0 where
   pub lines : IfOk r (λ s. (file : List ℕ) → bytes ≡ Some file →
       (lines : List Line) × OutcomeOf (shown asked) file (done [] lines) × (new ≡ and_then old (report lines)))

@@ -87,17 +87,17 @@ frame_of_ones_and_zeros_in_turn n =
     (zeros_to_the_end (bits (252 ∷ 1 ∷ 255 ∷ 5 ∷ 255 ∷ 248 ∷ [])) 45 2 (omega arith) refl (omega arith))
 
 -- two segmentations, each given for all channels at once
-pub two_segmentations_told_for_all_channels : (n : ℕ) → Means (mono n) (191 ∷ 0 ∷ 0 ∷ 1 ∷ 127 ∷ 254 ∷ []) (replicate n 255)
+pub two_segmentations_spelled_for_all_channels : (n : ℕ) → Means (mono n) (191 ∷ 0 ∷ 0 ∷ 1 ∷ 127 ∷ 254 ∷ []) (replicate n 255)
 unfolding low_bits bits number_from
-two_segmentations_told_for_all_channels n =
+two_segmentations_spelled_for_all_channels n =
     coded_means n 47 (191 ∷ 0 ∷ 0 ∷ 1 ∷ 127 ∷ 254 ∷ []) (params_of (pos 0 ∷ []) (128 ∷ 128 ∷ [])) (replicate n 255) (ones_two_probs 0 n)
     (omega arith) header_of_two_segmentations refl
     (zeros_to_the_end (bits (191 ∷ 0 ∷ 0 ∷ 1 ∷ 127 ∷ 254 ∷ [])) 47 0 (omega arith) refl (omega arith))
 
 -- two segmentations and two maps, each given for each channel; the first code bit is past the end
-pub two_segmentations_and_two_maps_told_for_each_channel : (n : ℕ) → Means (mono n) (148 ∷ 0 ∷ 0 ∷ 0 ∷ 191 ∷ 255 ∷ []) (replicate n 255)
+pub two_segmentations_and_two_maps_spelled_for_each_channel : (n : ℕ) → Means (mono n) (148 ∷ 0 ∷ 0 ∷ 0 ∷ 191 ∷ 255 ∷ []) (replicate n 255)
 unfolding low_bits bits number_from
-two_segmentations_and_two_maps_told_for_each_channel n =
+two_segmentations_and_two_maps_spelled_for_each_channel n =
     coded_means n 48 (148 ∷ 0 ∷ 0 ∷ 0 ∷ 191 ∷ 255 ∷ []) (params_of (pos 0 ∷ []) (128 ∷ 128 ∷ [])) (replicate n 255) (ones_two_probs 0 n)
     (omega arith) header_of_two_maps refl
     (zeros_to_the_end (bits (148 ∷ 0 ∷ 0 ∷ 0 ∷ 191 ∷ 255 ∷ [])) 48 0 (omega arith) refl (omega arith))

@@ -55,27 +55,27 @@ pub zeros_are_read_back : read (map_fields 3) (1 ∷ []) 0 ≡ Ok (0 ∷ 0 ∷ 0
 unfolding fields_open
 zeros_are_read_back = refl
 
-pub zeros_told_by_number : read (map_fields 3) (0 ∷ 0 ∷ 0 ∷ []) 0 ≡ Ok (0 ∷ 0 ∷ 0 ∷ [], [], 3)
+pub zeros_spelled_by_number : read (map_fields 3) (0 ∷ 0 ∷ 0 ∷ []) 0 ≡ Ok (0 ∷ 0 ∷ 0 ∷ [], [], 3)
 unfolding fields_open
-zeros_told_by_number = refl
+zeros_spelled_by_number = refl
 
 -- equal maps, and different ones
-pub equal_maps_are_told_once : read (both_maps 2) (1 ∷ 0 ∷ 1 ∷ 1 ∷ []) 0 ≡ Ok ((0 ∷ 1 ∷ [], 0 ∷ 1 ∷ []), 1 ∷ [], 3)
+pub equal_maps_are_spelled_once : read (both_maps 2) (1 ∷ 0 ∷ 1 ∷ 1 ∷ []) 0 ≡ Ok ((0 ∷ 1 ∷ [], 0 ∷ 1 ∷ []), 1 ∷ [], 3)
 unfolding fields_open
-equal_maps_are_told_once = refl
+equal_maps_are_spelled_once = refl
 
-pub equal_maps_told_twice : read (both_maps 2) (0 ∷ 0 ∷ 1 ∷ 0 ∷ 1 ∷ []) 0 ≡ Ok ((0 ∷ 1 ∷ [], 0 ∷ 1 ∷ []), [], 5)
+pub equal_maps_spelled_twice : read (both_maps 2) (0 ∷ 0 ∷ 1 ∷ 0 ∷ 1 ∷ []) 0 ≡ Ok ((0 ∷ 1 ∷ [], 0 ∷ 1 ∷ []), [], 5)
 unfolding fields_open
-equal_maps_told_twice = refl
+equal_maps_spelled_twice = refl
 
 -- segmentations for all channels at once and for each of three, and two of them
-pub segments_told_at_once : read (segment_fields 3) (1 ∷ 1 ∷ 1 ∷ []) 0 ≡ Ok (1 ∷ [], 1 ∷ [], 2)
+pub segments_spelled_at_once : read (segment_fields 3) (1 ∷ 1 ∷ 1 ∷ []) 0 ≡ Ok (1 ∷ [], 1 ∷ [], 2)
 unfolding fields_open
-segments_told_at_once = refl
+segments_spelled_at_once = refl
 
-pub segments_told_for_each : read (segment_fields 3) (0 ∷ 1 ∷ 1 ∷ 1 ∷ 1 ∷ []) 0 ≡ Ok (1 ∷ 1 ∷ 1 ∷ [], 1 ∷ [], 4)
+pub segments_spelled_for_each : read (segment_fields 3) (0 ∷ 1 ∷ 1 ∷ 1 ∷ 1 ∷ []) 0 ≡ Ok (1 ∷ 1 ∷ 1 ∷ [], 1 ∷ [], 4)
 unfolding fields_open
-segments_told_for_each = refl
+segments_spelled_for_each = refl
 
 pub one_segmentation : read (both_segments 3) (1 ∷ 1 ∷ 1 ∷ 1 ∷ []) 0 ≡ Ok (1 ∷ [], 1 ∷ [], 3)
 unfolding fields_open

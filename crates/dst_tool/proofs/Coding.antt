@@ -25,7 +25,7 @@ use Rattle.dst_tool.specs.Answers.{done_line, line_of, of_encode, status_of, Tel
 use Rattle.dst_tool.specs.Runs.{WholeOf, PartOf, WritesNowhere, ReadsNothing, Counts, Held, Told, IsRun}
 use Rattle.dst_tool.proofs.OneLine.{OfTold, IsWhole, IsPartly, TakesFrame, TellsLine, refusal_is}
 use Rattle.dst_tool.proofs.DoneNumbers.{of_encoded}
-use Rattle.dst_tool.proofs.Inverting.{IsToldAs, to_encode}
+use Rattle.dst_tool.proofs.Inverting.{IsAnsweredAs, to_encode}
 use Rattle.dst_tool.proofs.FileRuns.{always_writes, run_of_file, write_is_no_frame, write_is_no_report}
 
 -- the coded file, the bytes of its stored frames, and where the size of its sound stands
@@ -128,7 +128,7 @@ part_of_coding asks plain codes level picker file old new is refused unfinished 
 pub run_of_coding : {asks : ℕ → Command} {plain : List ℕ → List ℕ} {d : Result Encoded EncodeFault} {r : Result Numbers Fault} {a : Command}
     {level picker result : ℕ} {bytes : Option (List ℕ)} {source sink counts given : Counts} {written : Held} {told : Told}
     {Same Settled Unread Stays Silent : Type 0} →
-    CodesPlainForm asks plain → picker ≡ level → a ≡ asks level → IsToldAs of_encoded of_encode to_encode d r → OfTold bytes AreBytes →
+    CodesPlainForm asks plain → picker ≡ level → a ≡ asks level → IsAnsweredAs of_encoded of_encode to_encode d r → OfTold bytes AreBytes →
     (Same → written.new ≡ written.old) → IfOk d (λ e. OfTold bytes (λ file. (n : ℕ) → refusal (asks n) file ≡ None)) →
     IfOk d (λ e. OfTold bytes (λ file. HoldsNothing written.old → written.new ≡ and_then written.old (coded_of plain picker file))) →
     IfOk d (λ e. OfTold bytes (λ file. e.frames ≡ (accepted (plain file)).frames)) →

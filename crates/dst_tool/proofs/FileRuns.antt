@@ -18,7 +18,7 @@ use Rattle.dst_tool.specs.declared.answers.Fault.TheVariants.{Read, Write, Memor
 use Rattle.dst_tool.specs.Answers.{status_of, line_of, TellsOneLine}
 use Rattle.dst_tool.specs.Runs.{WritesNowhere, ReadsNothing, WritesFile, most_given, longest_sound, Counts, Held, Told, IsRun}
 use Rattle.dst_tool.proofs.OneLine.{OfTold, IsWhole, IsPartly, IsRefusedBehind, TakesFrame, TellsLine, at_file, run_of_answer, same_run, takes_none}
-use Rattle.dst_tool.proofs.Inverting.{IsToldAs, if_answered, if_done, own_fault, told_again, never_told}
+use Rattle.dst_tool.proofs.Inverting.{IsAnsweredAs, if_answered, if_done, own_fault, answered_again, never_answered}
 
 -- ---- faults that are no other
 pub write_is_no_report : Write ≢ Report
@@ -60,7 +60,7 @@ always_writes {A} {E} {c} {d} somewhere no_frame settled = record {
 pub run_of_file : {A E : Type 0} {f : A → Numbers} {h : E → Fault} {back : Fault → E} {d : Result A E} {r : Result Numbers Fault} {a c : Command}
     {result : ℕ} {bytes : Option (List ℕ)} {source sink counts given : Counts} {written : Held} {told : Told}
     {Same Settled Unread Stays Silent : Type 0} →
-    a ≡ c → IsToldAs f h back d r → (h (back Report) ≢ Report) → HasOutcome c → TellsOneLine c → (ReadsNothing c → ⊥) →
+    a ≡ c → IsAnsweredAs f h back d r → (h (back Report) ≢ Report) → HasOutcome c → TellsOneLine c → (ReadsNothing c → ⊥) →
     OfTold bytes AreBytes → (Same → written.new ≡ written.old) →
     IfOk d (λ s. OfTold bytes (λ file. IsWhole c (f s) file written.old written.new)) →
     ((fault : FileFault) → d ≡ Err (back (File fault)) → OfTold bytes (λ file. refusal c file ≡ Some fault)) →
@@ -83,10 +83,10 @@ run_of_file {A} {E} {f} {h} {back} {d} {r} {a} {c} {result} {bytes} {source} {si
           (at_file d (λ s ys. IsWhole c (f s) ys written.old written.new) bytes xs e whole));
       file_is = λ fault q. file fault (own_fault says (File fault) q) xs e;
       untouched = λ fault q. as_written (untouched fault (own_fault says (File fault) q));
-      frame_is = λ k fault q. frame_is k fault (told_again says (Frame k fault) q) (own_fault says (Frame k fault) q) xs e;
+      frame_is = λ k fault q. frame_is k fault (answered_again says (Frame k fault) q) (own_fault says (Frame k fault) q) xs e;
       cut_short = λ q. partly (either (own_fault says Read) (own_fault says Write) q) xs e;
       memory = λ refused q. as_written (memory refused (own_fault says (Memory refused) q));
-      no_report = never_told says Report no_report;
+      no_report = never_answered says Report no_report;
     })
     (λ w. absurd (not_made w))
     (record {
@@ -108,6 +108,6 @@ run_of_file {A} {E} {f} {h} {back} {d} {r} {a} {c} {result} {bytes} {source} {si
           stays_there w;
       by_index = acts.by_index;
       any_source = acts.any_source;
-      no_report = never_told says Report no_report;
+      no_report = never_answered says Report no_report;
     })
     line)

@@ -1,4 +1,4 @@
--- The answer of a command is told from its faults in the words of the report.
+-- The answer of a command is known from its faults in the words of the report.
 use Rattle.std.proofs.Common.{◌≡◌, ◌≢◌, ℕ, Result, Ok, Err, IfOk, OnOk, refl, ap, sym, ◌∙◌}
 use Rattle.std.specs.declared.alloc.AllocError.{AllocError}
 use Rattle.dst_spec.specs.declared.faults.FrameFault.{FrameFault}
@@ -40,7 +40,7 @@ same_fault : (a b : Fault) → ◌≡◌ {A = Result Numbers Fault} (Err a) (Err
 same_fault a b e = cc
 
 -- ---- what a command answered, in its own words and in those of the report
-pub record IsToldAs {A E : Type 0} (f : A → Numbers) (h : E → Fault) (back : Fault → E) (d : Result A E) (r : Result Numbers Fault) : Type 0 where
+pub record IsAnsweredAs {A E : Type 0} (f : A → Numbers) (h : E → Fault) (back : Fault → E) (d : Result A E) (r : Result Numbers Fault) : Type 0 where
   pub is : r ≡ answered f h d
   pub again : (e : E) → back (h e) ≡ e
 
@@ -54,22 +54,22 @@ came_from f h back again (Err x) fault e =
     (ap Err from, ap h (sym from) ∙ same)
 
 pub own_fault : {A E : Type 0} {f : A → Numbers} {h : E → Fault} {back : Fault → E} {d : Result A E} {r : Result Numbers Fault} →
-    IsToldAs f h back d r → (fault : Fault) → r ≡ Err fault → d ≡ Err (back fault)
+    IsAnsweredAs f h back d r → (fault : Fault) → r ≡ Err fault → d ≡ Err (back fault)
 own_fault {A} {E} {f} {h} {back} {d} {r} t fault e = (came_from f h back t.again d fault (sym t.is ∙ e)).0
 
-pub told_again : {A E : Type 0} {f : A → Numbers} {h : E → Fault} {back : Fault → E} {d : Result A E} {r : Result Numbers Fault} →
-    IsToldAs f h back d r → (fault : Fault) → r ≡ Err fault → h (back fault) ≡ fault
-told_again {A} {E} {f} {h} {back} {d} {r} t fault e = (came_from f h back t.again d fault (sym t.is ∙ e)).1
+pub answered_again : {A E : Type 0} {f : A → Numbers} {h : E → Fault} {back : Fault → E} {d : Result A E} {r : Result Numbers Fault} →
+    IsAnsweredAs f h back d r → (fault : Fault) → r ≡ Err fault → h (back fault) ≡ fault
+answered_again {A} {E} {f} {h} {back} {d} {r} t fault e = (came_from f h back t.again d fault (sym t.is ∙ e)).1
 
--- what no fault of the command is told as isn't told
-pub never_told : {A E : Type 0} {f : A → Numbers} {h : E → Fault} {back : Fault → E} {d : Result A E} {r : Result Numbers Fault} →
-    IsToldAs f h back d r → (fault : Fault) → (h (back fault) ≢ fault) → r ≡ Err fault → ⊥
-never_told t fault other e = other (told_again t fault e)
+-- what no fault of the command is answered as isn't answered
+pub never_answered : {A E : Type 0} {f : A → Numbers} {h : E → Fault} {back : Fault → E} {d : Result A E} {r : Result Numbers Fault} →
+    IsAnsweredAs f h back d r → (fault : Fault) → (h (back fault) ≢ fault) → r ≡ Err fault → ⊥
+never_answered t fault other e = other (answered_again t fault e)
 
--- another fault is told of another one
+-- another fault is answered of another one
 pub own_other : {A E : Type 0} {f : A → Numbers} {h : E → Fault} {back : Fault → E} {d : Result A E} {r : Result Numbers Fault} →
-    IsToldAs f h back d r → (x : E) (fault : Fault) → r ≡ Err fault → (fault ≢ h x) → back fault ≢ x
-own_other {A} {E} {f} {h} {back} {d} {r} t x fault e other = λ same. other (sym (told_again t fault e) ∙ ap h same)
+    IsAnsweredAs f h back d r → (x : E) (fault : Fault) → r ≡ Err fault → (fault ≢ h x) → back fault ≢ x
+own_other {A} {E} {f} {h} {back} {d} {r} t x fault e other = λ same. other (sym (answered_again t fault e) ∙ ap h same)
 
 -- ---- each command's own fault for one of the report
 abbrev pub from_fault : {E : Type 0} → (OpenFault → E) → (ℕ → FrameFault → E) → E → Fault → E

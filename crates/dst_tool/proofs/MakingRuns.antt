@@ -18,7 +18,7 @@ use Rattle.dst_tool.specs.declared.answers.Fault.TheVariants.{Read, Write, Memor
 use Rattle.dst_tool.specs.Answers.{answered, status_of, line_of, of_make, of_run, TellsOneLine}
 use Rattle.dst_tool.specs.Runs.{WritesNowhere, WritesFile, Counts, Held, Told, IsRun}
 use Rattle.dst_tool.proofs.OneLine.{OfTold, IsWhole, IsPartly, IsAnswer, TakesFrame, TellsLine, run_of_answer, same_run, takes_none}
-use Rattle.dst_tool.proofs.Inverting.{IsToldAs, never_told, ran_no_other, to_make}
+use Rattle.dst_tool.proofs.Inverting.{IsAnsweredAs, never_answered, ran_no_other, to_make}
 
 -- ---- faults that making hasn't
 abbrev pub IsNotOfMaking : Fault → Type 0
@@ -29,12 +29,12 @@ IsNotOfMaking Report = ⊤
 IsNotOfMaking Write = ⊥
 IsNotOfMaking (Memory refused) = ⊥
 
-pub made_no_other : {A : Type 0} {f : A → Numbers} {d : Result A MakeFault} {r : Result Numbers Fault} → IsToldAs f of_make to_make d r →
+pub made_no_other : {A : Type 0} {f : A → Numbers} {d : Result A MakeFault} {r : Result Numbers Fault} → IsAnsweredAs f of_make to_make d r →
     (fault : Fault) → IsNotOfMaking fault → r ≡ Err fault → ⊥
-made_no_other says Read other = never_told says Read (λ q. absurd cc)
-made_no_other says (File fault) other = never_told says (File fault) (λ q. absurd cc)
-made_no_other says (Frame k fault) other = never_told says (Frame k fault) (λ q. absurd cc)
-made_no_other says Report other = never_told says Report (λ q. absurd cc)
+made_no_other says Read other = never_answered says Read (λ q. absurd cc)
+made_no_other says (File fault) other = never_answered says (File fault) (λ q. absurd cc)
+made_no_other says (Frame k fault) other = never_answered says (Frame k fault) (λ q. absurd cc)
+made_no_other says Report other = never_answered says Report (λ q. absurd cc)
 made_no_other says Write other = absurd other
 made_no_other says (Memory refused) other = absurd other
 

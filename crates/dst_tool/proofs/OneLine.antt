@@ -142,9 +142,9 @@ reports_line status result line old new before now (inl e) whole short added sto
 reports_line status result line old new before now (inr e) whole short added stopped = inr (e, short e, none_of_one line before now (stopped e))
 
 -- a status below 7 is that of the answer
-pub status_told : (status result want : ℕ) → (result ≡ status) ⊎ (result ≡ 7) → result ≡ want → want < 7 → status ≡ want
-status_told status result want (inl e) is below = sym e ∙ is
-status_told status result want (inr e) is below = absurd (omega arith)
+pub status_answered : (status result want : ℕ) → (result ≡ status) ⊎ (result ≡ 7) → result ≡ want → want < 7 → status ≡ want
+status_answered status result want (inl e) is below = sym e ∙ is
+status_answered status result want (inr e) is below = absurd (omega arith)
 
 pub record TellsLine (status : ℕ) (line : Line) (result : ℕ) (counts : Counts) (told : Told) : Type 0 where
   pub reported : (result ≡ status) ⊎ (result ≡ 7)
@@ -233,7 +233,7 @@ run_of_answer c r result bytes source sink counts given written told Same Settle
   later_sink = h.later_sink;
   later_report = t.later;
   memory = λ e. let f = status_is_memory r (status 4 (omega arith) e) in h.memory f.0 f.1;
-  memory_told = λ e.
+  memory_answered = λ e.
       let four = status 4 (omega arith) e in
       let f = status_is_memory r four in
       subst (λ q. told.new ≡ and_then told.old (report (line_of c q ∷ []))) f.1 (t.whole (e ∙ sym four));
@@ -268,7 +268,7 @@ run_of_answer c r result bytes source sink counts given written told Same Settle
     )
 
     status : (want : ℕ) → want < 7 → result ≡ want → status_of r ≡ want
-    status want below e = status_told (status_of r) result want t.reported e below
+    status want below e = status_answered (status_of r) result want t.reported e below
 
     most : (result ≡ status_of r) ⊎ (result ≡ 7) → result ≤ 7
     most (inl e) = let below = status_is_below r h.no_report in omega arith

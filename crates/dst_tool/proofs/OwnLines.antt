@@ -22,8 +22,8 @@ use Rattle.dst_show.specs.LineByLine.{AddsLines, StopsAtALine}
 use Rattle.dst_tool.specs.Runs.{DidNotRise, EndsBy, Reports, WritesNowhere, ReadsNothing, Counts, Held, Told, IsCaused, IsRun}
 use Rattle.dst_tool.proofs.Statuses.{status_is_done, status_is_read, status_is_write, status_is_memory, status_is_not_words}
 use Rattle.dst_tool.proofs.Statuses.{status_is_at_most}
-use Rattle.dst_tool.proofs.Inverting.{IsToldAs, if_answered, if_done, own_fault, own_other, told_again, never_told}
-use Rattle.dst_tool.proofs.OneLine.{OfTold, at_file, same_run, refusal_is, whole_of, nothing_of, not_both_kinds, same_lines, reports_line, status_told}
+use Rattle.dst_tool.proofs.Inverting.{IsAnsweredAs, if_answered, if_done, own_fault, own_other, answered_again, never_answered}
+use Rattle.dst_tool.proofs.OneLine.{OfTold, at_file, same_run, refusal_is, whole_of, nothing_of, not_both_kinds, same_lines, reports_line, status_answered}
 use Rattle.dst_commands.proofs.Writing.{and_then-nothing}
 
 -- what it answered of a file, the report holding `told` before and `mid` then
@@ -60,16 +60,16 @@ pub record TellsFault (r : Result Numbers Fault) (result : ℕ) (middle : Counts
 
 -- ---- how it ends
 -- a fault that isn't the report's is reported
-abbrev IsTold : Fault → Type 0
-IsTold Read = ⊤
-IsTold (Memory refused) = ⊤
-IsTold (File fault) = ⊤
-IsTold (Frame k fault) = ⊤
-IsTold Write = ⊥
-IsTold Report = ⊥
+abbrev IsReported : Fault → Type 0
+IsReported Read = ⊤
+IsReported (Memory refused) = ⊤
+IsReported (File fault) = ⊤
+IsReported (Frame k fault) = ⊤
+IsReported Write = ⊥
+IsReported Report = ⊥
 
-not_report : (fault : Fault) → IsTold fault → fault ≢ Report
-not_report fault h e = subst IsTold e h
+not_report : (fault : Fault) → IsReported fault → fault ≢ Report
+not_report fault h e = subst IsReported e h
 
 abbrev EndsListing : Command → List ℕ → ℕ → Option (List ℕ) → Counts → Counts → Told → Type 0
 EndsListing c file result written source sink told =
@@ -80,7 +80,7 @@ EndsListing c file result written source sink told =
 done_is_caused : (source sink : Counts) → IsCaused 0 source.before source.now sink.before sink.now
 done_is_caused source sink = record { read = λ e. absurd (omega arith); write = λ e. absurd (omega arith) }
 
-fault_ends : (c : Command) (fault : Fault) (file : List ℕ) (written : Option (List ℕ)) (told mid : Told) → WritesNowhere c → IsTold fault →
+fault_ends : (c : Command) (fault : Fault) (file : List ℕ) (written : Option (List ℕ)) (told mid : Told) → WritesNowhere c → IsReported fault →
     IsListing c (Err fault) file told mid →
     EndsBy (OutcomeOf c file) (Some c) file ⊤ (status_of (Err fault)) (fault_line fault ∷ []) written written
 fault_ends c Read file written told mid w h l = inl (refl, refl, (l.some.0, l.some.1, nothing_of c file l.some.0.out written w))
@@ -99,12 +99,12 @@ fault_ends c (Frame k fault) file written told mid w h l =
 fault_ends c Write file written told mid w h l = absurd h
 fault_ends c Report file written told mid w h l = absurd h
 
-told_ends : (c : Command) (fault : Fault) (result : ℕ) (file : List ℕ) (written : Option (List ℕ)) (source sink counts middle : Counts)
+reported_ends : (c : Command) (fault : Fault) (result : ℕ) (file : List ℕ) (written : Option (List ℕ)) (source sink counts middle : Counts)
     (told mid : Told) →
-    WritesNowhere c → IsTold fault → mid.new ≡ told.new → mid.now ≡ told.now →
+    WritesNowhere c → IsReported fault → mid.new ≡ told.new → mid.now ≡ told.now →
     IsListing c (Err fault) file told mid → Lists (Err fault) source counts middle told mid → TellsFault (Err fault) result middle mid →
     EndsListing c file result written source sink told
-told_ends c fault result file written source sink counts middle told mid w h last last_added l s t =
+reported_ends c fault result file written source sink counts middle told mid w h last last_added l s t =
     let other = not_report fault h in
     let same = (s.untouched fault refl other).0 in
     let first = (s.untouched fault refl other).3 in (
@@ -146,13 +146,13 @@ listing_ends c (Err Report) result file written source sink counts middle told m
       ),
     )
 listing_ends c (Err Read) result file written source sink counts middle told mid w last last_added l h t =
-    told_ends c Read result file written source sink counts middle told mid w tt last last_added l h t
+    reported_ends c Read result file written source sink counts middle told mid w tt last last_added l h t
 listing_ends c (Err (Memory refused)) result file written source sink counts middle told mid w last last_added l h t =
-    told_ends c (Memory refused) result file written source sink counts middle told mid w tt last last_added l h t
+    reported_ends c (Memory refused) result file written source sink counts middle told mid w tt last last_added l h t
 listing_ends c (Err (File fault)) result file written source sink counts middle told mid w last last_added l h t =
-    told_ends c (File fault) result file written source sink counts middle told mid w tt last last_added l h t
+    reported_ends c (File fault) result file written source sink counts middle told mid w tt last last_added l h t
 listing_ends c (Err (Frame k fault)) result file written source sink counts middle told mid w last last_added l h t =
-    told_ends c (Frame k fault) result file written source sink counts middle told mid w tt last last_added l h t
+    reported_ends c (Frame k fault) result file written source sink counts middle told mid w tt last last_added l h t
 listing_ends c (Err Write) result file written source sink counts middle told mid w last last_added l h t = absurd (h.no_write refl)
 
 -- ---- causes
@@ -180,7 +180,7 @@ IsSure r c bytes told =
     r ≡ Err Report → (file : List ℕ) → bytes ≡ Some file → (o : Answer) → OutcomeOf c file o → (n : ℕ) → told.room ≡ Some n → length (report o.lines) ≤ n → ⊥
 
 fault_fits : (c : Command) (fault : Fault) (result n : ℕ) (file : List ℕ) (written : Option (List ℕ)) (o : Answer) (source counts middle : Counts)
-    (told mid : Told) → HasOutcome c → AreBytes file → IsTold fault →
+    (told mid : Told) → HasOutcome c → AreBytes file → IsReported fault →
     OutcomeOf c file o → IsListing c (Err fault) file told mid → Lists (Err fault) source counts middle told mid →
     TellsFault (Err fault) result middle mid →
     DidNotRise source.before source.now → told.room ≡ Some n → 7 ≤ n → length (report o.lines) ≤ n → result ≡ 7 → ⊥
@@ -220,7 +220,7 @@ listing_fits c (Err Write) result n bytes file written o source counts middle to
 
 -- ---- the run
 status_of_two : (r : Result Numbers Fault) (result : ℕ) → (result ≡ status_of r) ⊎ (result ≡ 7) → result ≡ 2 → r ≡ Err Read
-status_of_two r result t two = status_is_read r (status_told (status_of r) result 2 t two (omega arith))
+status_of_two r result t two = status_is_read r (status_answered (status_of r) result 2 t two (omega arith))
 
 at_most : (r : Result Numbers Fault) (result : ℕ) → (result ≡ status_of r) ⊎ (result ≡ 7) → result ≤ 7
 at_most r result (inr e) = omega arith
@@ -241,9 +241,9 @@ run_of_listing c r result bytes source sink counts middle given written told mid
           let ends = listing_ends c r result file written.old source sink counts middle told mid nowhere last_told last_added (listing file e) h t in
           (ends.0, ends.1, subst (λ w. EndsBy (OutcomeOf c file) (Some c) file ⊤ ends.0 ends.1 written.old w) still ends.2, ends.3, ends.4);
       read = λ e. h.read (status_of_two r result t.reported e);
-      write = λ e. absurd (h.no_write (status_is_write r (status_told (status_of r) result 3 t.reported e (omega arith))));
+      write = λ e. absurd (h.no_write (status_is_write r (status_answered (status_of r) result 3 t.reported e (omega arith))));
       reported = seven_has_cause r result source counts middle told mid last_count h t;
-      sure_sink = λ file e o is n room fits three. h.no_write (status_is_write r (status_told (status_of r) result 3 t.reported three (omega arith)));
+      sure_sink = λ file e o is n room fits three. h.no_write (status_is_write r (status_answered (status_of r) result 3 t.reported three (omega arith)));
       sure_report = λ file e o is no_read no_write n room least fits seven. listing_fits c r result n bytes file written.old o source counts middle told
           mid reads (are file e) e is (listing file e) h t sure no_read room least fits seven;
       bytes_stay = stays;
@@ -251,26 +251,26 @@ run_of_listing c r result bytes source sink counts middle given written told mid
       later_sink = later_sink;
       later_report = let first = h.later.1 in let then = t.later in let last = last_count in omega arith;
       memory = λ e. same;
-      memory_told = λ e.
-          let status = status_told (status_of r) result 4 t.reported e (omega arith) in
+      memory_answered = λ e.
+          let status = status_answered (status_of r) result 4 t.reported e (omega arith) in
           let f = status_is_memory r status in
           let other : Memory f.0 ≢ Report = λ q. absurd cc in
           let still = (h.untouched (Memory f.0) f.1 other).0 in
           sym last_told ∙ t.whole (Memory f.0) f.1 other (e ∙ sym status) ∙ ap (λ w. and_then w (report (memory_line ∷ []))) still;
       silent = λ e file told_file none zero_status.
-          let d = status_is_done r (status_told (status_of r) result 0 t.reported zero_status (omega arith)) in
+          let d = status_is_done r (status_answered (status_of r) result 0 t.reported zero_status (omega arith)) in
           silent e file told_file none d.0 d.1;
       file_refused = λ e. same;
       no_output = λ file told fault e. same;
       idle = λ w. same;
-      no_write = λ w e. h.no_write (status_is_write r (status_told (status_of r) result 3 t.reported e (omega arith)));
+      no_write = λ w e. h.no_write (status_is_write r (status_answered (status_of r) result 3 t.reported e (omega arith)));
       unread = λ w. absurd (reading w);
       made = λ w. absurd (reading w);
       no_file = λ w. absurd (reading w);
       settled = λ w e. absurd (not_both_kinds c nowhere w);
       by_index = λ k e. absurd (not_by_index k e);
       any_source = λ k e. absurd (not_by_index k e);
-      least_status = λ e. status_is_not_words r (status_told (status_of r) result 1 t.reported e (omega arith));
+      least_status = λ e. status_is_not_words r (status_answered (status_of r) result 1 t.reported e (omega arith));
       most_status = at_most r result t.reported;
     }
 
@@ -285,7 +285,7 @@ report_is_no_frame k fault e = absurd cc
 pub run_of_own_lines : {A E R : Type 0} {f : A → Numbers} {h : E → Fault} {back : Fault → E} {d : Result A E} {r : Result Numbers Fault} {a c : Command}
     {result : ℕ} {bytes : Option (List ℕ)} {source sink given : Counts} {held : Held} {Same Settled Unread Stays : Type 0}
     (written : R → Option (List ℕ)) (faults appended : R → ℕ) (room : R → Option ℕ) (old mid new : R) →
-    a ≡ c → IsToldAs f h back d r → (h (back Write) ≢ Write) → h (back Report) ≡ Report → HasOutcome c → WritesNowhere c → (ReadsNothing c → ⊥) →
+    a ≡ c → IsAnsweredAs f h back d r → (h (back Write) ≢ Write) → h (back Report) ≡ Report → HasOutcome c → WritesNowhere c → (ReadsNothing c → ⊥) →
     OfTold bytes AreBytes → held.old ≡ held.new → Same → sink.before ≤ sink.now →
     IfOk d (λ s. OfTold bytes (λ file. (lines : List Line) × OutcomeOf c file (done [] lines) × (written mid ≡ and_then (written old) (report lines)))) →
     ((fault : FileFault) → d ≡ Err (back (File fault)) → OfTold bytes (λ file. refusal c file ≡ Some fault)) →
@@ -325,7 +325,7 @@ run_of_own_lines {A} {E} {R} {f} {h} {back} {d} {r} {a} {c} {result} {bytes} {so
           (if_answered f h d _ (at_file d (λ s ys. (ls : List Line) × OutcomeOf c ys (done [] ls)
           × (written mid ≡ and_then (written old) (report ls))) bytes xs e lines));
       file_is = λ fault q. file fault (own_fault says (File fault) q) xs e;
-      frame_is = λ k fault q. frame_is k fault (told_again says (Frame k fault) q) (own_fault says (Frame k fault) q) xs e;
+      frame_is = λ k fault q. frame_is k fault (answered_again says (Frame k fault) q) (own_fault says (Frame k fault) q) xs e;
       some = let one = command_has_one_outcome c xs reads (are xs e) in (one.0, one.1);
       cut_short = λ q. cut_short (own_fault says Report q) xs e;
       added = subst (λ q. IfOk q (λ s. (o : Answer) → OutcomeOf c xs o → AddsLines o.lines (appended old) (appended mid))) (sym says.is)
@@ -335,7 +335,7 @@ run_of_own_lines {A} {E} {R} {f} {h} {back} {d} {r} {a} {c} {result} {bytes} {so
     (record {
       later = later;
       read = λ q. read (own_fault says Read q);
-      no_write = never_told says Write no_write;
+      no_write = never_answered says Write no_write;
       reported = λ q. reported (own_fault says Report q);
       untouched = λ fault q other. let is_old =
           untouched (back fault) (own_fault says fault q)

@@ -162,20 +162,20 @@ whole_of_refused (encode_dsf level) file o None old new (inr h) six w =
 whole_of_refused decode_dsf file o r old new h six w = w
 whole_of_refused (range pairs) file o r old new h six w = w
 
-abbrev FrameIsTold : List Word → List ℕ → Held → Told → Type 0
-FrameIsTold words file written told =
+abbrev FrameIsAnswered : List Word → List ℕ → Held → Told → Type 0
+FrameIsAnswered words file written told =
     (k : ℕ) × (fault : FrameFault) × (out : List ℕ) × Outcome words file (frame_refused k fault out) × (written.new ≡ and_then written.old out)
     × (told.new ≡ and_then told.old (report (frame_fault_line k fault ∷ [])))
 
 pub run_refused_frame : (words : List Word) (c : Command) (file : List ℕ) (result : ℕ) (bytes : Option (List ℕ)) (source sink counts given : Counts)
     (written : Held) (told : Told) (Same Settled Unread Stays Silent : Type 0) → command_of words ≡ Some c →
     IsRun c result bytes source sink counts given written told Same Settled Unread Stays Silent → bytes ≡ Some file → result ≡ 6 →
-    FrameIsTold words file written told
+    FrameIsAnswered words file written told
 run_refused_frame words c file result bytes source sink counts given written told Same Settled Unread Stays Silent e r is six =
     go (r.ends file is).0 (r.ends file is).1 (r.ends file is).2 (r.ends file is).4
   where
     go : (status : ℕ) (lines : List Line) → EndsBy (OutcomeOf c file) (Some c) file ⊤ status lines written.old written.new →
-        Reports status lines result told.old told.new told.before told.now → FrameIsTold words file written told
+        Reports status lines result told.old told.new told.before told.now → FrameIsAnswered words file written told
     go status lines ends (inr (seven, piece, stopped)) = absurd (omega arith)
     go status lines (inl (s, l, short)) (inl (same, w, added)) = absurd (omega arith)
     go status lines (inr (inl (s, l, short))) (inl (same, w, added)) = absurd (omega arith)

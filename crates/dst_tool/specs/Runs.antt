@@ -167,7 +167,7 @@ pub record IsRun (c : Command) (status : ℕ) (bytes : Option (List ℕ)) (sourc
   pub later_sink : sink.before ≤ sink.now
   pub later_report : report_counts.before ≤ report_counts.now
   pub memory : status ≡ 4 → Same
-  pub memory_told : status ≡ 4 → told.new ≡ and_then told.old (report (memory_line ∷ []))
+  pub memory_answered : status ≡ 4 → told.new ≡ and_then told.old (report (memory_line ∷ []))
   pub silent : c ≡ index → (file : List ℕ) → bytes ≡ Some file → (accepted file).frames ≡ 0 → status ≡ 0 → Silent
   pub file_refused : status ≡ 5 → Same
   pub no_output : (file : List ℕ) → bytes ≡ Some file → (fault : FileFault) → refusal c file ≡ Some fault → Same

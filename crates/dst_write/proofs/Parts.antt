@@ -1,4 +1,4 @@
--- The coded file of an opened plain one, part by part: it stops in one of the parts, or all but the sizes is there, and then these are told.
+-- The coded file of an opened plain one, part by part: it stops in one of the parts, or all but the sizes is there, and then these are written.
 use Rattle.std.proofs.Common.{◌≡◌, ℕ, ◌+◌, ◌≤◌, List, ◌++◌, length, map, flat_map, Option, Some, Result, Ok, Err, refl, sym, ap, subst, ◌∙◌, arith}
 use Rattle.std.specs.Prelude.{IsOk}
 use Rattle.dst_streams.proofs.Counts.{Rose-earlier}
@@ -84,7 +84,7 @@ module _ (picks : Picks) (file : List ℕ) (seen : PlainForm) (n : ℕ) (within 
         (adds_then (front file form) (flat_map dstf frames) old mid last room half less a b)
         (stops_same P (end sizes file form) (end (map length frames) file form) last new less (ap (λ (w : List ℕ). end w file form) is) h))
 
-    -- all but the sizes is there; by what of the form the sizes are told then
+    -- all but the sizes is there; by what of the form the sizes are known then
     pub record IsUnsized (result : Result (Unit {0}) Failed) (old mid new : Option (List ℕ)) (room left : Option ℕ) : Type 0 where
       pub added : Adds (unsized frames file form) old mid room left
       pub ends : SizesEnd result (sound_place file form) (sound_size (map length frames)) (form_size (map length frames) file form) mid new

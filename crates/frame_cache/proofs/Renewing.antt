@@ -44,7 +44,7 @@ found_last (u ∷ us) x d =
       removed = rw apart (ap (λ l. u ∷ l) later.removed);
     }
 
--- the entry that is told to be the last
+-- the entry that is said to be the last
 pub record IsLast (es : List (ℕ × Slot)) (x : ℕ × Slot) : Type 0 where
   pub front : List (ℕ × Slot)
   pub parts : es ≡ front ++ x ∷ []

@@ -72,7 +72,7 @@ pub count_goes_on : (w version prop part : List ℕ) (form : FormSoFar) (head : 
     still_to_come version prop stage w ≡ still_to_come (version_then stage part version) (prop_then stage part prop) result w
 count_goes_on w version prop part form head stage result e has tells goes =
     let here : HasPart (FrameCount form head) w part = rw e at has in
-    let told : StageTells (FrameCount form head) prop = rw e at tells in
+    let says : StageTells (FrameCount form head) prop = rw e at tells in
     ap (λ s. still_to_come version prop s w) e
-    ∙ goes w version prop told (counted w part (head.place + 12) 18 (here.same refl)) here.there
+    ∙ goes w version prop says (counted w part (head.place + 12) 18 (here.same refl)) here.there
     ∙ ap (λ s. still_to_come (version_then s part version) (prop_then s part prop) result w) (sym e)

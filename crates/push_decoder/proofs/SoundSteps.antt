@@ -15,7 +15,7 @@ use Rattle.dsdiff_spec.specs.declared.faults.FileFault.TheVariants.{Overrun, Too
 use Rattle.dsdiff_spec.proofs.StreamSteps.{head_passes, reaches, head_is_whole, sound_ends, sound_has_no_more, sound_ends_at_head, sound_has_chunk}
 use Rattle.dsdiff_spec.proofs.ManyOfStreams.{frameless}
 use Rattle.dsdiff_chunks.specs.Opening.{frte_fault}
-use Rattle.dsdiff_chunks.proofs.CodedParts.{frte_in_part, told_in_part}
+use Rattle.dsdiff_chunks.proofs.CodedParts.{frte_in_part, count_in_part}
 use Rattle.push_decoder.specs.declared.stage.SoundSoFar.{SoundSoFar}
 use Rattle.push_decoder.specs.Stages.{sound_from, sound_chunk_from}
 use Rattle.push_decoder.proofs.FormSteps.{past}
@@ -154,11 +154,11 @@ pub frte_is_taken : (w frte : List ℕ) (came : Came) (version prop : List ℕ) 
     in_sound w came h
     ≡ with_front (record { version = version; prop = prop; frames = count }) (frames_from w f count (body_end h) 4000000 0 (body_place h + 18))
 unfolding opened_with front_with
-frte_is_taken w frte came version prop h count f le at there no_fault is_told v p is_shape =
+frte_is_taken w frte came version prop h count f le at there no_fault is_count v p is_shape =
     reaches w (body_place h) (body_place h + 18) _ there
     ∙ ap (λ x. unless x (opened_with w (body_end h) (body_place h + 18) came.version came.prop (number_at w (body_place h + 12) 4)))
     (same_rules w frte h le (sym at) ∙ no_fault)
-    ∙ ap (opened_with w (body_end h) (body_place h + 18) came.version came.prop) (sym (is_told ∙ told_in_part w frte (body_place h) (sym at)))
+    ∙ ap (opened_with w (body_end h) (body_place h + 18) came.version came.prop) (sym (is_count ∙ count_in_part w frte (body_place h) (sym at)))
     ∙ ap (λ x. opened_with w (body_end h) (body_place h + 18) x came.prop count) v
     ∙ ap (λ x. opened_with w (body_end h) (body_place h + 18) (Some version) x count) p
     ∙ ap (λ x. with_front (front_with (Some version) (Some prop) count) (frames_from w x count (body_end h) 4000000 0 (body_place h + 18))) (sym is_shape)

@@ -322,9 +322,9 @@ pub seven_channels_to_run : task_of (words ("make" ∷ "7" ∷ "--run" ∷ "1" �
 unfolding task_of
 seven_channels_to_run = refl
 
-pub no_made_channels_told : task_of (words ("make" ∷ "7" ∷ "a" ∷ "1" ∷ [])) ≡ None
+pub no_made_channels_named : task_of (words ("make" ∷ "7" ∷ "a" ∷ "1" ∷ [])) ≡ None
 unfolding task_of
-no_made_channels_told = refl
+no_made_channels_named = refl
 
 pub rate_below_the_lowest : task_of (words ("make" ∷ "7" ∷ "a" ∷ "1" ∷ "1" ∷ "--rate" ∷ "32" ∷ [])) ≡ None
 unfolding task_of

@@ -1,12 +1,12 @@
 -- The first eighteen bytes of the sound have the frame count, and with its size they decide the rules on it.
 use Rattle.std.proofs.Common.{◌∙◌}
 use Rattle.dsdiff_chunks.specs.Seen.{head_seen}
-use Rattle.dsdiff_chunks.proofs.CodedParts.{told_in_part, frte_in_part}
+use Rattle.dsdiff_chunks.proofs.CodedParts.{count_in_part, frte_in_part}
 use Rattle.dsdiff_chunks.proofs.coded.read_frte.Goals as goal
 
 pub returns-in-Ok-frame_count_in-clause-count : goal.returns-in-Ok-frame_count_in-clause-count
 returns-in-Ok-frame_count_in-clause-count g c xs told =
-    c.in-Ok-frame_count_in.ensures.count ∙ told_in_part xs _ _ (c.in-Ok.ensures.read xs told)
+    c.in-Ok-frame_count_in.ensures.count ∙ count_in_part xs _ _ (c.in-Ok.ensures.read xs told)
 
 pub returns-in-Ok-frame_count_in-clause-accepted : goal.returns-in-Ok-frame_count_in-clause-accepted
 returns-in-Ok-frame_count_in-clause-accepted g c xs told =

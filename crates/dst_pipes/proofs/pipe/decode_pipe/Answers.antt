@@ -1,4 +1,4 @@
--- Each answer is told by how the run over the flow ends.
+-- Each answer follows from how the run over the flow ends.
 use Rattle.std.proofs.Common.{subst}
 use Rattle.dst_pipes.proofs.Runs.{ends_decoded, ends_short, ends_lacking}
 use Rattle.dst_pipes.specs.Endings.{PipeEnds}

@@ -1,4 +1,4 @@
--- Each clause from how the summary, or the head of a frame, ends.
+-- Each clause from how the summary, or the header of a frame, ends.
 use Rattle.dst_show.proofs.ShownFiles.{has_shown}
 use Rattle.dst_show.proofs.show.show_file.Goals as goal
 

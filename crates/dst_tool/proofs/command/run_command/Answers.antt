@@ -13,7 +13,18 @@ use Rattle.dst_tool.proofs.DoneNumbers.{of_made, of_checked, of_reported}
 use Rattle.dst_tool.proofs.OneLine.{IsWhole, run_of_answer, at_file, same_run, tells_line, takes_none, nothing_added, nothing_cut, finished_alone}
 use Rattle.dst_show.specs.declared.faults.ListFault.{ListFault}
 use Rattle.dst_tool.specs.Answers.{done_line, of_check, of_list, of_make, of_run, of_show}
-use Rattle.dst_tool.proofs.Inverting.{IsToldAs, if_answered, if_done, own_fault, never_told, check_again, list_again, make_again, show_again, ran_no_other}
+use Rattle.dst_tool.proofs.Inverting.{
+  IsAnsweredAs,
+  if_answered,
+  if_done,
+  own_fault,
+  never_answered,
+  check_again,
+  list_again,
+  make_again,
+  show_again,
+  ran_no_other,
+}
 use Rattle.dst_tool.proofs.Inverting.{to_check, to_list, to_make, to_show}
 use Rattle.dst_make.specs.Making.{made_file, multiple_of}
 use Rattle.dst_show.specs.declared.faults.Reported.{Reported}
@@ -33,9 +44,9 @@ returns-in-Check g c =
     let e = c.check_file-answer.ensures in
     let r = c.checked.result in
     let t = c.tell.ensures in
-    let says : IsToldAs of_checked of_check to_check d r = record { is = c.checked.ensures; again = check_again } in
-    let no_write : r ≡ Err Write → ⊥ = never_told says Write (λ q. absurd cc) in
-    let no_report : r ≡ Err Report → ⊥ = never_told says Report (λ q. absurd cc) in
+    let says : IsAnsweredAs of_checked of_check to_check d r = record { is = c.checked.ensures; again = check_again } in
+    let no_write : r ≡ Err Write → ⊥ = never_answered says Write (λ q. absurd cc) in
+    let no_report : r ≡ Err Report → ⊥ = never_answered says Report (λ q. absurd cc) in
     let bytes = g.S.Source.bytes c.args.source.now in
     let written = g.K.Sink.written c.args.sink.now in
     let same = ap command_seen c.in-Check.is in
@@ -82,7 +93,7 @@ returns-in-Make g c =
     let e = c.make_file-answer.ensures in
     let r = c.made.result in
     let t = c.tell-in-Make.ensures in
-    let says : IsToldAs of_made of_make to_make d r = record { is = c.made.ensures; again = make_again } in
+    let says : IsAnsweredAs of_made of_make to_make d r = record { is = c.made.ensures; again = make_again } in
     let start = c.in-Make.start in
     let frames = c.in-Make.frames in
     let f = c.in-Make.channels in
@@ -135,7 +146,7 @@ pub returns-in-Show : goal.returns-in-Show
 returns-in-Show g c =
     let e = c.show_file-answer.ensures in
     let t = c.tell_fault.ensures in
-    let says : IsToldAs of_reported of_show to_show c.show_file-answer.result c.shown.result =
+    let says : IsAnsweredAs of_reported of_show to_show c.show_file-answer.result c.shown.result =
     record { is = c.shown.ensures; again = show_again } in
     run_of_own_lines g.R.Sink.written g.R.Sink.faults g.R.Sink.appended g.R.Sink.room c.args.report.now
     c.show_file-answer.new.report c.tell_fault.new.report
@@ -148,7 +159,7 @@ pub returns-in-ShowFrame : goal.returns-in-ShowFrame
 returns-in-ShowFrame g c =
     let e = c.show_file-answer-in-ShowFrame.ensures in
     let t = c.tell_fault-in-ShowFrame.ensures in
-    let says : IsToldAs of_reported of_show to_show c.show_file-answer-in-ShowFrame.result c.shown-in-ShowFrame.result =
+    let says : IsAnsweredAs of_reported of_show to_show c.show_file-answer-in-ShowFrame.result c.shown-in-ShowFrame.result =
     record { is = c.shown-in-ShowFrame.ensures; again = show_again } in
     run_of_own_lines g.R.Sink.written g.R.Sink.faults g.R.Sink.appended g.R.Sink.room c.args.report.now
     c.show_file-answer-in-ShowFrame.new.report c.tell_fault-in-ShowFrame.new.report
@@ -161,7 +172,7 @@ pub returns-in-Index : goal.returns-in-Index
 returns-in-Index g c =
     let e = c.index_file-answer.ensures in
     let t = c.tell_fault-in-Index.ensures in
-    let says : IsToldAs of_reported of_list to_list c.index_file-answer.result c.listed.result =
+    let says : IsAnsweredAs of_reported of_list to_list c.index_file-answer.result c.listed.result =
     record { is = c.listed.ensures; again = list_again } in
     run_of_own_lines g.R.Sink.written g.R.Sink.faults g.R.Sink.appended g.R.Sink.room c.args.report.now
     c.index_file-answer.new.report c.tell_fault-in-Index.new.report

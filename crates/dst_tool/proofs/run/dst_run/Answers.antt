@@ -60,7 +60,7 @@ returns g c =
       no_output = λ file fault told (asks, is, refused). (r.run asks is).no_output file told fault refused;
       memory_line = λ four.
           by_status words 4 c.dst_run_by.result _ _ _ _ r.words four (omega arith) (omega arith)
-          (λ asks is. (r.run asks is).memory_told four);
+          (λ asks is. (r.run asks is).memory_answered four);
       silent = λ is file told none zero_status. (r.run index is).silent refl file told none zero_status;
       file = λ five. by_status words 5 c.dst_run_by.result _ _ _ _ r.words five (omega arith) (omega arith) (λ asks is. (r.run asks is).file_refused five);
       refused = λ five file told.

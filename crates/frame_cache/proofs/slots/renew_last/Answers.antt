@@ -14,7 +14,7 @@ renew-requires c =
     is_last _ _ c.len-count.ensures.valid.0 c.requires.some (sym c.peek_lru.ensures ∙ ap (option_map deref_pair) c.in-Some.is) in
     record { there = rw h.looked (search rules) }
 
--- the slot that was told to be the last one is, behind the others
+-- the slot that was said to be the last one is, behind the others
 last : (c : goal.After-renew) → IsLast c.args.slots.now.entries (c.in-Some.number.now, c.in-Some.field-0-1.now)
 last c = is_last _ _ c.len-count.ensures.valid.0 c.requires.some (sym c.peek_lru.ensures ∙ ap (option_map deref_pair) c.in-Some.is)
 

@@ -1,4 +1,4 @@
--- An index that is the walk passes, and else the first entry that differs is told, by the lemmas on comparing.
+-- An index that is the walk passes, and else the first entry that differs is answered, by the lemmas on comparing.
 use Rattle.frame_index.proofs.Comparing.{same_passes, first_is_refused}
 use Rattle.frame_index.proofs.laws.index_beside_walk.Goals as goal
 

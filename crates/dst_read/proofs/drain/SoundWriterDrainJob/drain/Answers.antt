@@ -1,4 +1,4 @@
--- Of the sound as many bytes as are left are written, or the frame is told as refused.
+-- Of the sound as many bytes as are left are written, or the frame is answered as refused.
 use Rattle.std.proofs.Common.{◌≡◌, ℕ, min, List, length, take, refl, ap, sym, subst, ◌∙◌, arith}
 use Rattle.std.proofs.Math.Nat.{le_refl}
 use Rattle.std.proofs.lemmas.List.{take_min}

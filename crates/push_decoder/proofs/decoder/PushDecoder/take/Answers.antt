@@ -1,4 +1,4 @@
--- The reader's answer is told as a step, and what the reader has read stands when the lent bytes are done with.
+-- The reader's answer is given as a step, and what the reader has read stands when the lent bytes are done with.
 use Rattle.std.proofs.Common.{refl}
 use Rattle.push_decoder.proofs.decoder.PushDecoder.take.Goals as goal
 
@@ -9,7 +9,7 @@ returns c = (
     after = tt;
     within = c.in-Ok.ensures.within;
     answer = λ taken answered has.
-        let told = c.in-Ok.ensures.answer taken answered has in
-        (told.0, c.step_of.ensures answered _ (rw c.frame.ensures told.1));
+        let answer = c.in-Ok.ensures.answer taken answered has in
+        (answer.0, c.step_of.ensures answered _ (rw c.frame.ensures answer.1));
   },
 )

@@ -1,4 +1,4 @@
--- A fault is told apart from the other answers, and with it nothing more counts as answered.
+-- A fault is set apart from the other answers, and with it nothing more counts as answered.
 use Rattle.std.proofs.Common.{◌≡◌, ◌++◌, take, Option, Some, subst}
 use Rattle.push_decoder.specs.Events.{Event, has_stopped, due, answered_with}
 use Rattle.push_decoder.specs.Reading.{HasRead}
