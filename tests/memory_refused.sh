@@ -59,7 +59,7 @@ LINES
 run() {
   local status=0
   rm -f out
-  REFUSE=$number LD_PRELOAD="$place/refuse.so" "$program" "$@" >printed 2>told || status=$?
+  REFUSE=$number LD_PRELOAD="$place/refuse.so" "$program" "$@" >printed 2>said || status=$?
   echo "$status" >status
 }
 
@@ -88,7 +88,7 @@ each() {
   done
   rm -f whole
   [ "$seen" -gt 0 ] || fail "$*: no allocation was refused"
-  echo "$1: $((number - 1)) allocations, $seen of them told as memory"
+  echo "$1: $((number - 1)) allocations, $seen of them answered as memory"
 }
 
 "$program" make 7 plain.dff 2 1 >/dev/null

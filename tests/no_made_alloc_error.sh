@@ -1,5 +1,5 @@
 #!/usr/bin/env bash
-# Want of memory is told by the allocator alone: no line of the crates, outside their tests, makes an AllocError. The word may stand in
+# Want of memory is answered by the allocator alone: no line of the crates, outside their tests, makes an AllocError. The word may stand in
 # a type, in an import, in a clause and in the declaration of a variant, and nowhere else.
 set -euo pipefail
 cd "$(dirname "$0")/.."
@@ -39,7 +39,7 @@ use std::alloc::AllocError as Refused;
     AllocError::from(AllocFailed { value: 0 })
     let refused: AllocError = AllocError;
 LINES
-cat >"$place/told.rt" <<'LINES'
+cat >"$place/answered.rt" <<'LINES'
 ghost use Rattle.std.specs.declared.alloc.AllocError.{AllocError};
 use std::alloc::{AllocError, Global};
 pub enum OpenFault {
@@ -56,8 +56,8 @@ if [ "$(making "$place/made.rt" | wc -l)" != "$(wc -l <"$place/made.rt")" ]; the
   echo "not each line that makes an AllocError is found"
   exit 1
 fi
-if [ -n "$(making "$place/told.rt")" ]; then
-  making "$place/told.rt"
+if [ -n "$(making "$place/answered.rt")" ]; then
+  making "$place/answered.rt"
   echo "a line that makes no AllocError is taken for one that does"
   exit 1
 fi

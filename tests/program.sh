@@ -17,11 +17,11 @@ fail() {
   exit 1
 }
 
-# expect STATUS WORDS ..: runs the program, which must end so; what it prints is in printed and told
+# expect STATUS WORDS ..: runs the program, which must end so; what it prints is in printed and said
 expect() {
   local want=$1 status=0
   shift
-  "$program" "$@" >printed 2>told || status=$?
+  "$program" "$@" >printed 2>said || status=$?
   [ "$status" = "$want" ] || fail "status $status, not $want, of: $*"
 }
 
@@ -30,14 +30,14 @@ prints() {
   [ "$(cat printed)" = "$1" ] || fail "printed: $(cat printed)"
 }
 
-# The last run told people this, in one line.
+# The last run showed people this, in one line.
 tells() {
-  [ "$(wc -l <told)" = 1 ] || fail "told: $(cat told)"
-  grep -qF -- "$1" told || fail "told: $(cat told)"
+  [ "$(wc -l <said)" = 1 ] || fail "said: $(cat said)"
+  grep -qF -- "$1" said || fail "said: $(cat said)"
 }
 
 quiet() {
-  [ ! -s told ] || fail "told: $(cat told)"
+  [ ! -s said ] || fail "said: $(cat said)"
 }
 
 absent() {
@@ -130,15 +130,15 @@ tells 'none/other.dff: No such file or directory'
   trap '' XFSZ
   expect 3 make 7 short.dff 60 2
 )
-grep -qF 'short.dff: File too large' told || fail "told: $(cat told)"
-grep -qF "short.dff: holds the beginning alone, $(wc -c <short.dff) bytes" told || fail "told: $(cat told)"
+grep -qF 'short.dff: File too large' said || fail "said: $(cat said)"
+grep -qF "short.dff: holds the beginning alone, $(wc -c <short.dff) bytes" said || fail "said: $(cat said)"
 
 # Memory that is refused: nothing is made.
 status=0
-(ulimit -v 30000 && "$program" make 7 --run 100 6 --rate 256) >printed 2>told || status=$?
+(ulimit -v 30000 && "$program" make 7 --run 100 6 --rate 256) >printed 2>said || status=$?
 [ "$status" = 4 ] || fail "status $status, not 4, without memory"
 
-# A file that is refused, and a frame: what stands in front of the frame is written, and people are told so.
+# A file that is refused, and a frame: what stands in front of the frame is written, and people are shown so.
 head -c 20000 /dev/zero | tr '\0' 'i' >noise
 expect 5 decode noise other.dff
 prints 'file refused: 1 NotForm'
@@ -180,12 +180,12 @@ absent other.dff
 
 # A report that can't be printed.
 status=0
-"$program" show level2.dff >/dev/full 2>told || status=$?
+"$program" show level2.dff >/dev/full 2>said || status=$?
 [ "$status" = 7 ] || fail "status $status, not 7, of a full report"
 
 # Words that aren't text.
 status=0
-"$program" show "$(printf '\377')" >printed 2>told || status=$?
+"$program" show "$(printf '\377')" >printed 2>said || status=$?
 [ "$status" = 8 ] || fail "status $status, not 8, of words that aren't text"
 [ ! -s printed ] || fail "printed: $(cat printed)"
 

@@ -60,13 +60,13 @@ unfolding fields_open
 zeros_spelled_by_number = refl
 
 -- equal maps, and different ones
-pub equal_maps_are_spelled_once : read (both_maps 2) (1 ∷ 0 ∷ 1 ∷ 1 ∷ []) 0 ≡ Ok ((0 ∷ 1 ∷ [], 0 ∷ 1 ∷ []), 1 ∷ [], 3)
+pub equal_maps_stand_once : read (both_maps 2) (1 ∷ 0 ∷ 1 ∷ 1 ∷ []) 0 ≡ Ok ((0 ∷ 1 ∷ [], 0 ∷ 1 ∷ []), 1 ∷ [], 3)
 unfolding fields_open
-equal_maps_are_spelled_once = refl
+equal_maps_stand_once = refl
 
-pub equal_maps_spelled_twice : read (both_maps 2) (0 ∷ 0 ∷ 1 ∷ 0 ∷ 1 ∷ []) 0 ≡ Ok ((0 ∷ 1 ∷ [], 0 ∷ 1 ∷ []), [], 5)
+pub equal_maps_stand_twice : read (both_maps 2) (0 ∷ 0 ∷ 1 ∷ 0 ∷ 1 ∷ []) 0 ≡ Ok ((0 ∷ 1 ∷ [], 0 ∷ 1 ∷ []), [], 5)
 unfolding fields_open
-equal_maps_spelled_twice = refl
+equal_maps_stand_twice = refl
 
 -- segmentations for all channels at once and for each of three, and two of them
 pub segments_spelled_at_once : read (segment_fields 3) (1 ∷ 1 ∷ 1 ∷ []) 0 ≡ Ok (1 ∷ [], 1 ∷ [], 2)
