@@ -1,3 +1,4 @@
+-- The frames that the loop has passed are stored in their bytes, are no longer than frames may be, and their sounds have the right length.
 use Rattle.std.proofs.Common.{◌≡◌, ℕ, ◌+◌, ◌*◌, ◌<◌, ◌≤◌, length, get_or}
 use Rattle.dst_spec.specs.Sample.{sound_bytes}
 use Rattle.dst_frames.specs.declared.stored.StoredFrame.{StoredFrame}

@@ -1,3 +1,4 @@
+-- Each value is brought between the first one and its opposite, and the first one is written at the front.
 use Rattle.std.proofs.Common.{◌≡◌, ◌^◌, ◌<◌, ◌≤ℤ◌, ℤ, pos, nat_abs, to_z, of_z, length, get_or, set, get_or-set_same, length-set, refl, arith}
 use mir.Syntax.{w64}
 use Rattle.std.proofs.lemmas.Int.{ints, clamps}

@@ -1,3 +1,4 @@
+-- No correlation is further from 0 than the first one, which is from 1 to 2 ^ 20.
 use Rattle.std.proofs.Common.{◌≡◌, ℕ, ◌^◌, ◌≤◌, ◌≤ℤ◌, pos, nat_abs, length, get_or}
 use Rattle.pick_tests.proofs.picks.lags_from.Given as goal
 

@@ -1,3 +1,4 @@
+-- Each value is brought between 2 ^ 40 and its opposite.
 use Rattle.std.proofs.Common.{◌^◌, ℤ, to_z, of_z, length-set, refl, arith}
 use mir.Syntax.{w64}
 use Rattle.std.proofs.lemmas.Int.{ints, clamps}

@@ -1,3 +1,4 @@
+-- No value is further from 0 than 2 ^ 40.
 use Rattle.std.proofs.Common.{◌≡◌, ℕ, ◌^◌, ◌≤◌, pos, nat_abs, length, get_or}
 use Rattle.pick_tests.proofs.picks.solution_from.Given as goal
 
