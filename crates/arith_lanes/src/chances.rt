@@ -1,4 +1,4 @@
-// The chances of probabilities.
+// What a lane needs of each probability, in sixteen bits.
 ghost use Rattle.std.specs.Prelude.{◌≡◌, ◌+◌, ◌/◌, ◌%◌};
 ghost use Rattle.arith_lanes.specs.Chances.{IsChance};
 

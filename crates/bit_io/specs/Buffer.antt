@@ -1,4 +1,4 @@
--- What a writer's buffer keeps: whole bytes, and fewer than eight bits behind them, within a capacity in bytes.
+-- What a writer's buffer holds: whole bytes, and fewer than eight bits behind them, within a capacity in bytes.
 use Rattle.std.specs.Prelude.{ℕ, ◌+◌, ◌*◌, ◌^◌, ◌<◌, ◌≤◌}
 
 pub record IsBuffer (bytes allocated capacity pending count : ℕ) : Type 0 where

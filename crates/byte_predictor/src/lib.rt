@@ -11,7 +11,7 @@
 //! let second = predict(&filter, &history);
 //! ```
 //!
-//! Loops over whole frames keep the sums of samples to come instead, and add a row of them for each byte of samples.
+//! Loops over whole frames hold the sums of samples to come instead, and add a row of them for each byte of samples.
 //! They work with what the coefficients add upward, a number from 0 to 32,768: the prediction is twice that, less the
 //! sum of the coefficients' sizes.
 //!

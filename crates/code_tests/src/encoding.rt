@@ -222,7 +222,7 @@ fn of_a_long_code(alloc: Global) -> Result<Option<(usize, bool, u64)>, AllocErro
 
 #[test]
 fn a_long_code_is_that_of_whole_numbers(rt: HostRuntime) {
-    // By another program, which keeps the low end as one whole number.
+    // By another program, which holds the low end as one whole number.
     let wanted = (9_060, true, 0x75ce_7ca4_2cf8_ccf8);
     same(&rt, &of_a_long_code(rt.alloc()), &Ok(Some(wanted)));
 }

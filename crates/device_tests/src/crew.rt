@@ -297,6 +297,15 @@ const DRAIN_FAILS: u8 = 2;
 // How one run ends, with which number, how many jobs were drained, whether each stood at its place, and how often the end was answered.
 type Outcome = (u8, u32, u32, bool, u64);
 
+// How a run ended, and with which number.
+fn end_of_run(answer: Result<u32, RunFault<u32, u32>>) -> (u8, u32) {
+    match answer {
+        Ok(count) => (WHOLE, count),
+        Err(RunFault::Feed(place)) => (FEED_FAILS, place),
+        Err(RunFault::Drain(place)) => (DRAIN_FAILS, place),
+    }
+}
+
 fn run_numbers<R: Threads + Sync>(
     rt: &R,
     end: u32,
@@ -320,19 +329,11 @@ fn run_numbers<R: Threads + Sync>(
     };
     let mut scratches = [IDLE; 16];
     let mut jobs = [Number { value: 0 }; 32];
-    let (how, number) = match run_ordered(
-        rt,
-        &ADD_ONE,
-        &mut feed,
-        &mut drain,
-        &OpenGate,
-        &mut scratches[..workers],
-        &mut jobs,
-    ) {
-        Ok(count) => (WHOLE, count),
-        Err(RunFault::Feed(place)) => (FEED_FAILS, place),
-        Err(RunFault::Drain(place)) => (DRAIN_FAILS, place),
-    };
+    let lent = &mut scratches[..workers];
+    let answer = run_ordered(
+        rt, &ADD_ONE, &mut feed, &mut drain, &OpenGate, lent, &mut jobs,
+    );
+    let (how, number) = end_of_run(answer);
     (
         how,
         number,

@@ -16,10 +16,10 @@ use Rattle.chunk_view.proofs.InParts.{bytes_in_part, number_in_part}
 pub count_in_part : (xs w : List ℕ) (place : ℕ) → w ≡ bytes_at xs place 18 → number_at w 12 4 ≡ number_at xs (place + 12) 4
 count_in_part xs w place at = ap (λ v. number_at v 12 4) at ∙ number_in_part xs place 18 12 4 (omega arith)
 
-by_parts : (short : Bool) (id : List ℕ) (size rate told : ℕ) → short ≡ false →
-    (FrameRate when short || not (id is "FRTE" && size == 6) || not (rate == 75) otherwise TooManyFrames when told above 1000000)
-    ≡ (FrameRate when not (id is "FRTE" && size == 6) || not (rate == 75) otherwise TooManyFrames when told above 1000000)
-by_parts short id size rate told e = rw e refl
+by_parts : (short : Bool) (id : List ℕ) (size rate count : ℕ) → short ≡ false →
+    (FrameRate when short || not (id is "FRTE" && size == 6) || not (rate == 75) otherwise TooManyFrames when count above 1000000)
+    ≡ (FrameRate when not (id is "FRTE" && size == 6) || not (rate == 75) otherwise TooManyFrames when count above 1000000)
+by_parts short id size rate count e = rw e refl
 
 by_numbers : (i j : List ℕ) (s t r q n m : ℕ) → i ≡ j → s ≡ t → r ≡ q → n ≡ m →
     (FrameRate when not (i is "FRTE" && s == 6) || not (r == 75) otherwise TooManyFrames when n above 1000000)
@@ -75,8 +75,8 @@ of_either false false x y p q = refl
 or_more : (t a b c d e : Bool) → t ≡ true → (t || a || b || c || d || e) ≡ true
 or_more t a b c d e q = rw q refl
 
-pub too_long_is_bad : (channels frame_bytes told : ℕ) (body : List ℕ) → 131086 < length body → is_bad_origin channels frame_bytes told body ≡ true
-too_long_is_bad channels frame_bytes told body lt =
+pub too_long_is_bad : (channels bytes count : ℕ) (body : List ℕ) → 131086 < length body → is_bad_origin channels bytes count body ≡ true
+too_long_is_bad channels bytes count body lt =
     let long_1 : nat_lt 65545 (length body) ≡ true = lt-ltb 65545 (length body) (omega arith) in
     let long_2 : nat_lt 131086 (length body) ≡ true = lt-ltb 131086 (length body) lt in
     let outside_1 : bad_version_1 body ≡ true = or_right (nat_lt (length body) 25) (nat_lt 65545 (length body)) long_1 in

@@ -110,7 +110,7 @@ compression_of_one body v h one e long =
     ∙ ap (λ b. Compression when b) (same_compression h.size (bytes_at body (body_place h) 4) (take 4 v) (λ four. bytes_there body v h 4 e four))
     ∙ ap (λ n. Compression when n below 4 || not (take 4 v is "DSD " || take 4 v is "DST ")) (sym long)
 
--- what they tell
+-- what they say
 pub rate_reads : (body v : List ℕ) (h : Head) → local "FS  " body ≡ h ∷ [] → body_of body h ≡ v → length v ≡ h.size →
     is_bad_rate v ≡ false → rate body ≡ big_number 4 v
 rate_reads body v h one e long good =

@@ -172,13 +172,13 @@ ceil_is x y pos = elim (cases_lt 0 (x % y)) [
       zero ∙ sym (ap (λ n. n / y) whole ∙ div-mul-add (x / y) y (y - 1) less)
 ]
 
-pub sound_said : (channels frame_bytes told sound f r t : ℕ) → sound % channels ≡ 0 → f ≡ frame_bytes → 0 < f → r ≡ sound / f + min 1 (sound % f) → t ≡ told →
-    MatchBool (nat_eq r t) (is_bad_sound channels frame_bytes told sound ≡ false) (is_bad_sound channels frame_bytes told sound ≡ true)
-sound_said channels frame_bytes told sound f r t even same pos ceil from =
-    let frames : r ≡ frames_for frame_bytes sound = ceil ∙ ceil_is sound f pos ∙ ap (λ n. (sound + n - 1) / n) same in
-    answered (nat_eq r t) (frames_for frame_bytes sound == told) (is_bad_sound channels frame_bytes told sound)
-    (ap (λ n. nat_eq n t) frames ∙ ap (nat_eq (frames_for frame_bytes sound)) from)
-    (ap (λ b. not b || not (frames_for frame_bytes sound == told)) (eq-eqb (sound % channels) 0 even))
+pub sound_said : (channels bytes count sound f r t : ℕ) → sound % channels ≡ 0 → f ≡ bytes → 0 < f → r ≡ sound / f + min 1 (sound % f) → t ≡ count →
+    MatchBool (nat_eq r t) (is_bad_sound channels bytes count sound ≡ false) (is_bad_sound channels bytes count sound ≡ true)
+sound_said channels bytes count sound f r t even same pos ceil from =
+    let frames : r ≡ frames_for bytes sound = ceil ∙ ceil_is sound f pos ∙ ap (λ n. (sound + n - 1) / n) same in
+    answered (nat_eq r t) (frames_for bytes sound == count) (is_bad_sound channels bytes count sound)
+    (ap (λ n. nat_eq n t) frames ∙ ap (nat_eq (frames_for bytes sound)) from)
+    (ap (λ b. not b || not (frames_for bytes sound == count)) (eq-eqb (sound % channels) 0 even))
 
 -- ---- all parts
 regroup : (v a b c d e : Bool) → (v || a || b || c || d || e) ≡ (v || (a || b || c) || (d || e))

@@ -1,4 +1,4 @@
--- A form is as its parts tell, and the rules on its kind speak of them.
+-- A form is as its parts say, and the rules on its kind speak of them.
 use Rattle.std.proofs.Common.{◌≡◌, ℕ, ◌+◌, ◌-◌, ◌/◌, ◌%◌, ◌≤◌, List, [], length, drop, Bool, true, false, Option, Some, None, Ok, refl, sym, ap, subst}
 use Rattle.std.proofs.Common.{◌∙◌, arith, lit<}
 use Rattle.std.specs.Prelude.{◌==◌, not, ◌||◌, filter, if◌then◌else◌, nat_le}
@@ -72,9 +72,9 @@ pub shape_back : (s : Shape) (c m : ℕ) → s ≡ shape_of c m → shape_of s.c
 shape_back s c m e =
     ap (λ n. shape_of s.channels n) (multiple_back s c m e) ∙ ap (λ t. shape_of t.channels m) e ∙ sym e
 
-pub frame_bytes_of : (xs body : List ℕ) (s : Shape) → prop xs ≡ body → s ≡ shape_of (channel_count body) (multiple body) →
+pub sound_bytes_are : (xs body : List ℕ) (s : Shape) → prop xs ≡ body → s ≡ shape_of (channel_count body) (multiple body) →
     sound_bytes_in (prop xs) ≡ sound_bytes s
-frame_bytes_of xs body s e is_shape = ap sound_bytes_in e ∙ sym (ap sound_bytes is_shape)
+sound_bytes_are xs body s e is_shape = ap sound_bytes_in e ∙ sym (ap sound_bytes is_shape)
 
 channels_of : (xs body : List ℕ) (s : Shape) → prop xs ≡ body → s ≡ shape_of (channel_count body) (multiple body) → channel_count (prop xs) ≡ s.channels
 channels_of xs body s e is_shape = ap channel_count e ∙ sym (ap (λ t. t.channels) is_shape)
@@ -96,9 +96,9 @@ next_fits end h fit id = leb-true (next_place h) end (at (h.id is "DSD ") id (an
 
 -- ---- the rules on a plain form
 abbrev plain_by : List Head → ℕ → ℕ → ℕ → ℕ → ℕ → ℕ → Option FileFault
-plain_by heads prop_size sound_size channels frame_bytes size length_behind =
+plain_by heads prop_size sound_size channels bytes size length_behind =
     SoundUneven when not (sound_size % channels == 0)
-    otherwise TooManyFrames when frames_for frame_bytes sound_size above 1000000
+    otherwise TooManyFrames when frames_for bytes sound_size above 1000000
     otherwise CodedChunk (the_first (filter is_of_coded heads)).place when not (length (filter is_of_coded heads) == 0)
     otherwise room_fault (length heads) prop_size size
     otherwise TailTooLong length_behind when length_behind above 65536
@@ -120,14 +120,14 @@ plain_by_parts xs body heads prop_is sound s size end long ends top p b snd is_s
     let behind_is : length (behind_form xs) ≡ size - end = omega (arith, ends, long, length-drop (form_end xs) xs) in
     same_plain_by (top_level xs).heads heads (prop_head xs).size prop_is.size (sound_head xs).size sound.size (channel_count (prop xs)) s.channels
     (sound_bytes_in (prop xs)) (sound_bytes s) (form_size xs) (end - 12) (length (behind_form xs)) (size - end)
-    top (ap (λ h. h.size) p) (ap (λ h. h.size) snd) (channels_of xs body s b is_shape) (frame_bytes_of xs body s b is_shape) size_is behind_is
+    top (ap (λ h. h.size) p) (ap (λ h. h.size) snd) (channels_of xs body s b is_shape) (sound_bytes_are xs body s b is_shape) size_is behind_is
     ∙ two_and_more (SoundUneven when not (sound.size % s.channels == 0)) (TooManyFrames when frames_for (sound_bytes s) sound.size above 1000000)
     (space_fault size end heads prop_is.size)
 
 pub plain_frames : (xs body : List ℕ) (sound : Head) (s : Shape) → prop xs ≡ body → sound_head xs ≡ sound → s ≡ shape_of (channel_count body) (multiple body) →
     frames_needed xs ≡ frames_for (sound_bytes s) sound.size
 plain_frames xs body sound s b snd is_shape =
-    ap (λ n. frames_for n (sound_head xs).size) (frame_bytes_of xs body s b is_shape) ∙ ap (λ h. frames_for (sound_bytes s) h.size) snd
+    ap (λ n. frames_for n (sound_head xs).size) (sound_bytes_are xs body s b is_shape) ∙ ap (λ h. frames_for (sound_bytes s) h.size) snd
 
 pub behind_by_parts : (xs : List ℕ) (size end : ℕ) → length xs ≡ size → form_end xs ≡ end → behind_form xs ≡ bytes_at xs end (size - end)
 behind_by_parts xs size end long ends =
@@ -183,7 +183,7 @@ coded_past_sound xs body heads sound s n top b snd is_shape is_count e =
     ∙ ap (λ o. o otherwise kept_rule xs (prop xs) (frame_count xs) (top_level xs).heads) e
     ∙ ap (λ c. KeptBad when are_bad_origins c (sound_bytes_in (prop xs)) (frame_count xs) xs (named "KEPT" (top_level xs).heads))
     (channels_of xs body s b is_shape)
-    ∙ ap (λ c. KeptBad when are_bad_origins s.channels c (frame_count xs) xs (named "KEPT" (top_level xs).heads)) (frame_bytes_of xs body s b is_shape)
+    ∙ ap (λ c. KeptBad when are_bad_origins s.channels c (frame_count xs) xs (named "KEPT" (top_level xs).heads)) (sound_bytes_are xs body s b is_shape)
     ∙ ap (λ m. KeptBad when are_bad_origins s.channels (sound_bytes s) m xs (named "KEPT" (top_level xs).heads)) (count_by_parts xs sound n snd is_count)
     ∙ ap (λ hs. KeptBad when are_bad_origins s.channels (sound_bytes s) n xs (named "KEPT" hs)) top
 

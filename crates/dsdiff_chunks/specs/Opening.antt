@@ -71,9 +71,9 @@ sounds_fault sounds prop_place type =
 
 -- on the size of a plain sound
 abbrev pub count_fault : ℕ → ℕ → ℕ → Option FileFault
-count_fault channels frame_bytes sound_size =
+count_fault channels bytes sound_size =
     SoundUneven when not (sound_size % channels == 0)
-    otherwise TooManyFrames when frames_for frame_bytes sound_size above 1000000
+    otherwise TooManyFrames when frames_for bytes sound_size above 1000000
 
 -- on the room that a plain form in a file of some size leaves
 abbrev pub space_fault : ℕ → ℕ → List Head → ℕ → Option FileFault
@@ -84,8 +84,8 @@ space_fault size end heads prop_size =
 
 -- on a plain form
 abbrev pub plain_parts_fault : ℕ → ℕ → List Head → ℕ → ℕ → ℕ → ℕ → Option FileFault
-plain_parts_fault size end heads prop_size sound_size channels frame_bytes =
-    count_fault channels frame_bytes sound_size otherwise space_fault size end heads prop_size
+plain_parts_fault size end heads prop_size sound_size channels bytes =
+    count_fault channels bytes sound_size otherwise space_fault size end heads prop_size
 
 -- on the first eighteen bytes of a coded sound
 abbrev pub frte_fault : List ℕ → Option FileFault

@@ -85,7 +85,7 @@ fn read_pad<S: Source>(source: &mut S, sound: ChunkHead) -> Result<u8, OpenFault
     }
 }
 
-/// What a plain form tells: its frames, the byte behind its sound, and the bytes behind it.
+/// What a plain form says: its frames, the byte behind its sound, and the bytes behind it.
 #[derive(Drop)]
 pub struct PlainParts {
     pub frames: u32,

@@ -64,7 +64,7 @@ fn end_of_form(size: u64, head: &[u8; 16]) -> Result<u64, FileFault>
     Ok(12 + form_size)
 }
 
-/// Reads the first bytes of a file, which tell the place behind its form.
+/// Reads the first bytes of a file, which say the place behind its form.
 pub fn read_extent<S: Source>(source: &mut S) -> Result<Extent, OpenFault>
     ensures bytes { S.bytes source.new ≡ S.bytes source.old }
     ensures loan { S.loan source.new ≡ S.loan source.old }

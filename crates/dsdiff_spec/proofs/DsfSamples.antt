@@ -1,4 +1,4 @@
--- Samples of DSF files, the form that stands for one, and what a coded form tells of a DSF file.
+-- Samples of DSF files, the form that stands for one, and what a coded form says of a DSF file.
 use Rattle.std.proofs.Common.{◌≡◌, ℕ, ◌+◌, ◌++◌, List, [], ◌∷◌, map, replicate, refl, ap, ◌∙◌, Option, Some, None}
 use Rattle.std.specs.Prelude.{codes, ⊤, ◌*◌, ◌==◌, if◌then◌else◌, length, take, drop}
 use Rattle.std.specs.Fmt.{digits}

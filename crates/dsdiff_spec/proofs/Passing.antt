@@ -39,7 +39,7 @@ pub chunks_come_back : Plain coded_file (accepted coded_file) plain_file
 unfolding written_open
 chunks_come_back = record { sounds = []; each = tt; written = refl }
 
--- without a `KEPT` the form's `CMPR` tells sound that isn't compressed; each `DSTI` is left out, also before the sound
+-- without a `KEPT` the form's `CMPR` says that sound isn't compressed; each `DSTI` is left out, also before the sound
 abbrev with_indexes : List ℕ
 with_indexes = file_of (version ∷ piece "DSTI" (1 ∷ 2 ∷ []) ∷ prop_with_more (cmpr "DST " ∷ []) ∷ before ++ dst 0 [] ∷ piece "DSTI" [] ∷ behind)
 

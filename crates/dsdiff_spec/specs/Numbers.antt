@@ -1,4 +1,4 @@
--- The numbers that a refusal keeps, as the list that the definitions have.
+-- The numbers that a refusal has, as the list that the definitions have.
 use Rattle.std.specs.Prelude.{ℕ, List, [], ◌∷◌}
 use Rattle.dsdiff_spec.specs.declared.refusal_texts.Numbers.{Numbers}
 use Rattle.dsdiff_spec.specs.declared.refusal_texts.Numbers.TheVariants.{Nothing, One, Two}

@@ -30,7 +30,7 @@ is_version file h = h.id is "FVER" && h.size == 4 && get_or file (body_place h) 
 abbrev pub version_fault : List ℕ → Option FileFault
 version_fault file = Version when not (is_version file (the_first (top_level file).heads))
 
--- there is one `PROP`, and its chunks tell rate, channels and compression
+-- there is one `PROP`, and its chunks say rate, channels and compression
 abbrev pub is_rate : ℕ → Bool
 is_rate n = n == 2822400 || n == 5644800 || n == 11289600
 

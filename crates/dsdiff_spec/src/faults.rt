@@ -1,12 +1,12 @@
 // Why a file is refused, with the numbers that the refusal has.
 
-use crate::{Numbers, Text, text_of_file};
-use std::fmt::{self, Display, Formatter, Write};
+use crate::text_of_file;
 use thiserror::Error;
 
-/// Why a file is refused. Each fault shows as its number, its name and the numbers that it keeps. Places are those of a chunk's id, in
+/// Why a file is refused. Each fault shows as its number, its name and the numbers that it has. Places are those of a chunk's id, in
 /// bytes from the file's beginning; lengths and sizes are in bytes.
 #[derive(Clone, Copy, Debug, Drop, PartialEq, Eq, Error)]
+#[error("{}", text_of_file(*self))]
 pub enum FileFault {
     /// The file doesn't begin with the head of a chunk `FRM8`.
     NotForm,
@@ -74,15 +74,4 @@ pub enum FileFault {
     DsfKeptBad,
     /// A part ends behind the last group of eight samples of each channel.
     RangePast { end: u64, groups: u64 },
-}
-
-impl Display for FileFault {
-    fn fmt<W: Write>(&self, f: &mut Formatter<W>) -> fmt::Result {
-        let Text(number, name, numbers) = text_of_file(*self);
-        match numbers {
-            Numbers::Nothing => write!(f, "{number} {name}"),
-            Numbers::One(n) => write!(f, "{number} {name} {n}"),
-            Numbers::Two(m, n) => write!(f, "{number} {name} {m} {n}"),
-        }
-    }
 }

@@ -5,17 +5,22 @@ ghost use Rattle.dsdiff_spec.specs.Numbers.{numbers_seen};
 
 use crate::FileFault;
 use Numbers::{Nothing, One, Two};
+use thiserror::Error;
 
-/// The numbers behind a refusal's name.
-#[derive(Clone, Copy, Drop)]
+/// The numbers behind a refusal's name. Each shows with a space in front of it.
+#[derive(Clone, Copy, Debug, Drop, Error)]
 pub enum Numbers {
+    #[error("")]
     Nothing,
+    #[error(" {0}")]
     One(u64),
+    #[error(" {0} {1}")]
     Two(u64, u64),
 }
 
-/// A refusal's number, its name and the numbers behind it.
-#[derive(Clone, Copy, Drop)]
+/// A refusal's number, its name and the numbers behind it, which it shows in this order.
+#[derive(Clone, Copy, Debug, Drop, Error)]
+#[error("{0} {1}{2}")]
 pub struct Text(pub u8, pub &'static str, pub Numbers);
 
 /// Why a file is refused.

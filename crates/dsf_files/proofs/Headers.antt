@@ -61,7 +61,7 @@ rules_are f long =
     ∙ sym (in_turn (DsfForm when not ((a && b && c) && (s && t))) (DsfFormat when not (v && z && k && o)) rest)
     ∙ ap (λ r. layout_fault f otherwise r) (sym (in_turn (Channels when outside 1 6 (little_at f 52 4)) (Rate when not (is_rate (little_at f 56 4))) sizes))
 
--- ---- what the first 92 bytes tell is what the file tells
+-- ---- what the first 92 bytes say is what the file says
 pub number_in_header : (f : List ℕ) (place n : ℕ) → place + n ≤ 92 → little_at (bytes_at f 0 92) place n ≡ little_at f place n
 number_in_header f place n within = little_from-take place n 92 f within
 
@@ -71,10 +71,10 @@ id_in_header f place more all room =
     ∙ ap (take 4) (drop-take place more f)
     ∙ take-take 4 more (drop place f) room
 
-same_of_numbers : {X : Type 0} (F : Bool → (a b c d e g : ℕ) → (count rate told : ℕ) → Dsf → X) (i j : Bool)
-    (a b c d e g count rate told a' b' c' d' e' g' count' rate' told' : ℕ) (x y : Dsf) → i ≡ j → a ≡ a' → b ≡ b' → c ≡ c' → d ≡ d' → e ≡ e' → g ≡ g' →
-    count ≡ count' → rate ≡ rate' → told ≡ told' → x ≡ y → F i a b c d e g count rate told x ≡ F j a' b' c' d' e' g' count' rate' told' y
-same_of_numbers F i j a b c d e g count rate told a' b' c' d' e' g' count' rate' told' x y p q r s t u v w k l m = cc
+same_of_numbers : {X : Type 0} (F : Bool → (a b c d e g : ℕ) → (count rate blocks : ℕ) → Dsf → X) (i j : Bool)
+    (a b c d e g count rate blocks a' b' c' d' e' g' count' rate' blocks' : ℕ) (x y : Dsf) → i ≡ j → a ≡ a' → b ≡ b' → c ≡ c' → d ≡ d' → e ≡ e' → g ≡ g' →
+    count ≡ count' → rate ≡ rate' → blocks ≡ blocks' → x ≡ y → F i a b c d e g count rate blocks x ≡ F j a' b' c' d' e' g' count' rate' blocks' y
+same_of_numbers F i j a b c d e g count rate blocks a' b' c' d' e' g' count' rate' blocks' x y p q r s t u v w k l m = cc
 
 same_dsf : (a b c d e a' b' c' d' e' : ℕ) → a ≡ a' → b ≡ b' → c ≡ c' → d ≡ d' → e ≡ e' →
     ◌≡◌ {A = Dsf} (record { channels = a; multiple = b / 2822400; samples = c; type = d; bits = e })
@@ -92,10 +92,10 @@ said_by_header f =
     (little_at f 52 4) (little_at f 56 4) (little_at f 64 8) (little_at f 48 4) (little_at f 60 4)
     (n 52 4 (omega arith)) (n 56 4 (omega arith)) (n 64 8 (omega arith)) (n 48 4 (omega arith)) (n 60 4 (omega arith))
 
-abbrev by_numbers : ℕ → Bool → (a b c d e g : ℕ) → (count rate told : ℕ) → Dsf → Option FileFault
-by_numbers size ids a b c d e g count rate told x =
+abbrev by_numbers : ℕ → Bool → (a b c d e g : ℕ) → (count rate blocks : ℕ) → Dsf → Option FileFault
+by_numbers size ids a b c d e g count rate blocks x =
     (DsfForm when not (ids && are_sizes a b) otherwise DsfFormat when not (is_format c d e g)) otherwise channels_fault count rate otherwise size_fault
-    size told x
+    size blocks x
 
 rules_of_header : (size : ℕ) (f : List ℕ) → header_fault size (bytes_at f 0 92) ≡ header_fault size f
 rules_of_header size f =

@@ -82,8 +82,8 @@ form_is_bytes f least most order =
     let sound = sound_of (dsf_sample f) d.channels (octets d) in
     let dsd = chunk "DSD " sound in
     let all = fver ++ (prop ++ (dsd ++ (dsfk d ++ []))) in
-    let told = 1 ∷ big_bytes 8 d.samples ++ big_bytes 4 d.type ++ d.bits ∷ [] in
-    let last = chunk_is_bytes "DSFK" told (by_test (codes "DSFK") refl)
+    let body = 1 ∷ big_bytes 8 d.samples ++ big_bytes 4 d.type ++ d.bits ∷ [] in
+    let last = chunk_is_bytes "DSFK" body (by_test (codes "DSFK") refl)
     (bytes_joined (1 ∷ big_bytes 8 d.samples ++ big_bytes 4 d.type) (d.bits ∷ [])
     (bytes_joined (1 ∷ big_bytes 8 d.samples) (big_bytes 4 d.type) (omega arith, number_is_bytes 8 d.samples) (number_is_bytes 4 d.type)) (order, tt)) in
     bytes_joined (codes "FRM8" ++ big_bytes 8 (4 + length all) ++ codes "DSD ") all

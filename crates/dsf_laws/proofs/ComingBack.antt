@@ -43,7 +43,7 @@ use Rattle.dsf_laws.proofs.Alike.{with_alike, samples_again}
 use Rattle.dsf_laws.proofs.Chunks.{AreFour, same_keys, four}
 use Rattle.dsf_laws.proofs.PlainForm.{dsf_chunks, is_file, is_accepted, its_channels, its_multiple, its_sound}
 
--- what `DSFK` tells
+-- what `DSFK` says
 abbrev pub dsfk_body : Dsf → List ℕ
 dsfk_body d = 1 ∷ big_bytes 8 d.samples ++ big_bytes 4 d.type ++ d.bits ∷ []
 

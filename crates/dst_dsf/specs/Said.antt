@@ -10,7 +10,7 @@ use Rattle.dsf_files.specs.Forms.{dsf_seen, is_order}
 use Rattle.dst_commands.specs.Opened.{IsWalked}
 use Rattle.dst_commands.specs.declared.opened.WalkedForm.{WalkedForm}
 
--- the body of `DSFK`: what it tells, and whether it is one that no encoder writes for this form
+-- the body of `DSFK`: what it says, and whether it is one that no encoder writes for this form
 abbrev pub said_in : Form → List ℕ → Dsf
 said_in form body = dsf_said form (number_at body 1 8) (number_at body 9 4) (number_at body 13 1)
 

@@ -3,7 +3,7 @@ ghost use Rattle.std.specs.Prelude.{◌≡◌, ◌+◌, ◌<◌, ◌≤◌, ℕ,
 ghost use Rattle.dsdiff_spec.specs.Form.{size_of_sound};
 ghost use Rattle.dsdiff_chunks.specs.Forms.{coded_seen};
 ghost use Rattle.dst_read.specs.Decoding.{IsOpened, HasItsCause};
-ghost use Rattle.dst_read.specs.Feeding.{frame_bytes};
+ghost use Rattle.dst_read.specs.Feeding.{bytes_of_entries};
 ghost use Rattle.dst_read.specs.Jobs.{AreJobsFor, AreTablesFor};
 ghost use Rattle.dsf_files.specs.Forms.{dsf_seen};
 ghost use Rattle.dst_dsf.specs.Frames.{HasRun, HasWritten, FramesEnd};
@@ -33,7 +33,7 @@ pub(crate) fn write_rows<R: Threads + Sync, S: Source, K: Sink, G: Gate>(
     requires jobs { AreJobsFor opened.now.walked.form.channels jobs.old }
     requires opened { (file : List ℕ) → S.bytes source.old ≡ Some file → IsOpened file (coded_seen opened.now.walked.form) opened.now.walked.index }
     ensures bytes { S.bytes source.new ≡ S.bytes source.old }
-    ensures given { S.given source.new ≤ S.given source.old + frame_bytes opened.now.walked.index }
+    ensures given { S.given source.new ≤ S.given source.old + bytes_of_entries opened.now.walked.index }
     ensures source_later { S.faults source.old ≤ S.faults source.new }
     ensures sink_later { K.faults sink.old ≤ K.faults sink.new }
     ensures cause { IfErr result (λ fault. HasItsCause fault (S.faults source.old) (S.faults source.new) (K.faults sink.old) (K.faults sink.new)) }

@@ -51,9 +51,9 @@ pub one_wrote : (r r' : Reader) (k from count decoded : ℕ) (ks piece : List �
 one_wrote r r' k from count decoded ks piece bytes given given' old new room left one long wanted read adds = record {
   decoded = decoded;
   wanted = subst (λ ks. HasWanted r r' ks decoded bytes given given') one wanted;
-  added = λ file form sound told keeps of whole.
-      let same = read file form sound told keeps of whole in (
-        one_is_read file form sound r k from count ks piece one long of (wanted.means file told keeps) same,
+  added = λ file form sound told holds_sounds of whole.
+      let same = read file form sound told holds_sounds of whole in (
+        one_is_read file form sound r k from count ks piece one long of (wanted.means file told holds_sounds) same,
         adds_same piece (bytes_of sound (part k from count ∷ [])) old new room left (piece_is sound piece k from count same) adds,
       );
 }
@@ -63,13 +63,13 @@ pub one_unwritten : (r r' : Reader) (k from count decoded : ℕ) (ks piece : Lis
     (room : Option ℕ) →
     ks ≡ k ∷ [] → length piece ≡ count → HasWanted r r' ks decoded bytes given given' → OfSound bytes r (λ file form sound. piece ≡ bytes_at sound from count) →
     Stops (Unit {0}) piece old new room → Stopped r (part k from count ∷ []) Write bytes old new room
-one_unwritten r r' k from count decoded ks piece bytes given given' old new room one long wanted read stops file form sound told keeps of whole =
-    let same = read file form sound told keeps of whole in
+one_unwritten r r' k from count decoded ks piece bytes given given' old new room one long wanted read stops file form sound told holds_sounds of whole =
+    let same = read file form sound told holds_sounds of whole in
     record {
       before = part k from count ∷ [];
       behind = [];
       split = refl;
-      are_read = one_is_read file form sound r k from count ks piece one long of (wanted.means file told keeps) same;
+      are_read = one_is_read file form sound r k from count ks piece one long of (wanted.means file told holds_sounds) same;
       stops = stops_for (Unit {0}) (Write ≡ Write) (bytes_of sound (part k from count ∷ [])) old new room (λ e. tt {0})
           (stops_same (Unit {0}) piece (bytes_of sound (part k from count ∷ [])) old new room (piece_is sound piece k from count same) stops);
     }
@@ -86,7 +86,7 @@ only_one (b ∷ c ∷ cs) behind k j e = absurd cc
 pub one_refused : (r : Reader) (k from count j : ℕ) (fault : FrameFault) (ks order : List ℕ) (bytes : Option (List ℕ)) (old : Option (List ℕ))
     (room : Option ℕ) →
     ks ≡ k ∷ [] → IsRefusedAt r ks order bytes j fault → Stopped r (part k from count ∷ []) (Frame j fault) bytes old old room
-one_refused r k from count j fault ks order bytes old room one h file form sound told keeps of whole = record {
+one_refused r k from count j fault ks order bytes old room one h file form sound told holds_sounds of whole = record {
   before = [];
   stop = part k from count;
   behind = [];
@@ -99,7 +99,7 @@ one_refused r k from count j fault ks order bytes old room one h file form sound
 
 pub one_unread : (r : Reader) (k from count : ℕ) (bytes : Option (List ℕ)) (old : Option (List ℕ)) (room : Option ℕ) →
     Stopped r (part k from count ∷ []) (Source Read) bytes old old room
-one_unread r k from count bytes old room file form sound told keeps of whole = record {
+one_unread r k from count bytes old room file form sound told holds_sounds of whole = record {
   before = [];
   behind = part k from count ∷ [];
   split = refl;

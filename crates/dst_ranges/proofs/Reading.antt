@@ -36,7 +36,7 @@ pub wrote_nothing : (r : Reader) (bytes : Option (List ℕ)) (given : ℕ) (old 
 wrote_nothing r bytes given old room = record {
   decoded = 0;
   wanted = none_wanted r bytes given;
-  added = λ file form sound told keeps of whole. (record { means = tt; whole = refl }, adds_nothing old room);
+  added = λ file form sound told holds_sounds of whole. (record { means = tt; whole = refl }, adds_nothing old room);
 }
 
 pub wrote_then : (r r' r'' : Reader) (xs ys : List Part) (bytes : Option (List ℕ)) (g g' g'' : ℕ) (old mid new : Option (List ℕ)) (room half left : Option ℕ) →
@@ -45,9 +45,9 @@ wrote_then r r' r'' xs ys bytes g g' g'' old mid new room half left a b = record
   decoded = a.decoded + b.decoded;
   wanted = subst (λ ks. HasWanted r r'' ks (a.decoded + b.decoded) bytes g g'') (sym (frames_append xs ys))
       (wanted_then r r' r'' (frames_wanted xs) (frames_wanted ys) a.decoded b.decoded bytes g g' g'' a.wanted b.wanted);
-  added = λ file form sound told keeps of whole.
-      let first = a.added file form sound told keeps of whole in
-      let second = b.added file form sound told (a.wanted.keeps file told keeps) (reader_stays file form r r' a.wanted.same of) whole in (
+  added = λ file form sound told holds_sounds of whole.
+      let first = a.added file form sound told holds_sounds of whole in
+      let second = b.added file form sound told (a.wanted.holds_sounds file told holds_sounds) (reader_stays file form r r' a.wanted.same of) whole in (
         are_read_then file form sound xs ys first.0 second.0,
         adds_same (bytes_of sound xs ++ bytes_of sound ys) (bytes_of sound (xs ++ ys)) old new room left (sym (bytes_append sound xs ys))
             (adds_then (bytes_of sound xs) (bytes_of sound ys) old mid new room half left first.1 second.1),
@@ -90,10 +90,10 @@ stops_in_behind (Source f) file form sound xs ys old mid new room half read adds
 pub stopped_behind : (fault : DecodeFault) (r r' : Reader) (xs ys : List Part) (bytes : Option (List ℕ)) (g g' : ℕ) (old mid new : Option (List ℕ))
     (room half : Option ℕ) →
     Wrote r r' xs bytes g g' old mid room half → Stopped r' ys fault bytes mid new half → Stopped r (xs ++ ys) fault bytes old new room
-stopped_behind fault r r' xs ys bytes g g' old mid new room half a s file form sound told keeps of whole =
-    let first = a.added file form sound told keeps of whole in
+stopped_behind fault r r' xs ys bytes g g' old mid new room half a s file form sound told holds_sounds of whole =
+    let first = a.added file form sound told holds_sounds of whole in
     stops_in_behind fault file form sound xs ys old mid new room half first.0 first.1
-    (s file form sound told (a.wanted.keeps file told keeps) (reader_stays file form r r' a.wanted.same of) whole)
+    (s file form sound told (a.wanted.holds_sounds file told holds_sounds) (reader_stays file form r r' a.wanted.same of) whole)
 
 -- ---- and in front of others
 cut_before : (file : List ℕ) (form : Form) (sound : List ℕ) (xs ys : List Part) (fault : DecodeFault) (old new : Option (List ℕ)) (room : Option ℕ) →
@@ -123,8 +123,8 @@ stops_in_before (Source f) file form sound xs ys old new room s = cut_before fil
 
 pub stopped_before : (fault : DecodeFault) (r : Reader) (xs ys : List Part) (bytes : Option (List ℕ)) (old new : Option (List ℕ)) (room : Option ℕ) →
     Stopped r xs fault bytes old new room → Stopped r (xs ++ ys) fault bytes old new room
-stopped_before fault r xs ys bytes old new room s file form sound told keeps of whole =
-    stops_in_before fault file form sound xs ys old new room (s file form sound told keeps of whole)
+stopped_before fault r xs ys bytes old new room s file form sound told holds_sounds of whole =
+    stops_in_before fault file form sound xs ys old new room (s file form sound told holds_sounds of whole)
 
 -- it stops in some parts, behind some and in front of others
 pub stopped_among : (fault : DecodeFault) (r r' : Reader) (xs ys zs : List Part) (bytes : Option (List ℕ)) (g g' : ℕ) (old mid new : Option (List ℕ))
@@ -136,8 +136,8 @@ stopped_among fault r r' xs ys zs bytes g g' old mid new room half a s =
 -- all is written, and the sink can't settle it
 pub stopped_unsettled : (r r' : Reader) (xs : List Part) (bytes : Option (List ℕ)) (g g' : ℕ) (old mid new : Option (List ℕ)) (room left : Option ℕ) →
     Wrote r r' xs bytes g g' old mid room left → new ≡ mid → ((n : ℕ) → left ≡ Some n → false ≡ true) → Stopped r xs Write bytes old new room
-stopped_unsettled r r' xs bytes g g' old mid new room left a same sure file form sound told keeps of whole =
-    let all = a.added file form sound told keeps of whole in
+stopped_unsettled r r' xs bytes g g' old mid new room left a same sure file form sound told holds_sounds of whole =
+    let all = a.added file form sound told holds_sounds of whole in
     record {
       before = xs;
       behind = [];

@@ -101,7 +101,7 @@ pub stopped_as : (fault : DecodeFault) (r : Reader) (xs ys : List Part) (bytes b
 stopped_as fault r xs ys bytes bytes' old new room e f s =
     subst (λ b. Stopped r ys fault b old new room) f (subst (λ ps. Stopped r ps fault bytes old new room) e s)
 
--- the part of a reader that is the same but for what it keeps
+-- the part of a reader that is the same but for what it holds
 pub part_as : (r r' : Reader) (n place k count : ℕ) → IsSame r r' → n ≡ sound_bytes r.shape → k ≡ count →
     part (place / sound_bytes r'.shape) place k ∷ [] ≡ part (place / n) place count ∷ []
 part_as r r' n place k count same is e =

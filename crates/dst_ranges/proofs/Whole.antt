@@ -11,7 +11,7 @@ use Rattle.dsdiff_spec.specs.Rules.{accepted}
 use Rattle.dsdiff_spec.specs.Walk.{Entry, entry}
 use Rattle.dsdiff_spec.proofs.OneSound.{one_sound}
 use Rattle.dst_commands.specs.Writing.{Adds}
-use Rattle.frame_cache.specs.Reader.{Reader, KeepsSounds, frame_in, order, stored_bytes}
+use Rattle.frame_cache.specs.Reader.{Reader, HoldsSounds, frame_in, order, stored_bytes}
 use Rattle.frame_cache.specs.Slots.{HeldSound, frames_in}
 use Rattle.dst_read.specs.declared.faults.DecodeFault.{DecodeFault}
 use Rattle.dst_ranges.specs.Asked.{groups_asked, bytes_read}
@@ -45,8 +45,8 @@ parts_same pairs file o ready is =
     let channels : o.channels.channels ≡ (accepted file).channels = ap (λ (f : Shape). f.channels) (ready.shape_is ∙ sym is.reader_is.shape_is) in
     ap₂ {A = ℕ} {B = ℕ} (λ n c. parts_of n c pairs) bytes channels
 
-keeps_none : (pairs : List (ℕ × ℕ)) (file : List ℕ) (o : OpenedParts) → IsReady pairs o → KeepsSounds file o.reader
-keeps_none pairs file o ready =
+holds_none : (pairs : List (ℕ × ℕ)) (file : List ℕ) (o : OpenedParts) → IsReady pairs o → HoldsSounds file o.reader
+holds_none pairs file o ready =
     subst (λ (ks : List HeldSound). AllByRecursion (λ x. Means o.reader.shape (frame_in file o.reader x.frame) x.sound) ks) (sym ready.held_is) tt
 
 -- ---- all is written
@@ -58,7 +58,7 @@ ends_done pairs file o r' s bytes given given' old mid new room left are ready i
     let form = accepted file in
     let a = asked_of pairs file o are ready is in
     let one = one_sound file form are a.lawful in
-    let added = w.added file form one.0 told (keeps_none pairs file o ready) is.reader_is one.1 in
+    let added = w.added file form one.0 told (holds_none pairs file o ready) is.reader_is one.1 in
     let whole = parts_same pairs file o ready is in
     let channels : o.channels.channels ≡ form.channels = ap (λ (f : Shape). f.channels) (ready.shape_is ∙ sym is.reader_is.shape_is) in
     let ends = all_written pairs file one.0 s.bytes old mid room left a one.1 (count ∙ ap (λ c. groups_asked pairs * c) channels)
@@ -74,7 +74,7 @@ pub ends_short : (fault : DecodeFault) (pairs : List (ℕ × ℕ)) (file : List 
 ends_short fault pairs file o bytes old new room are ready is told stopped =
     ends_stopped fault pairs file old new room (asked_of pairs file o are ready is) (λ sound whole.
     subst (λ ps. StopsIn fault file (accepted file) sound ps old new room) (parts_same pairs file o ready is)
-    (stopped file (accepted file) sound told (keeps_none pairs file o ready) is.reader_is whole))
+    (stopped file (accepted file) sound told (holds_none pairs file o ready) is.reader_is whole))
 
 -- ---- what the source gives
 frames_of_wants : (ps : List Part) → frames_wanted ps ≡ map (λ (w : Want). w.frame) (map want_of ps)

@@ -12,7 +12,7 @@ use Rattle.dst_ranges.specs.declared.opened.OpenedParts.{OpenedParts}
 abbrev pub AreInside : Reader → ℕ → List (ℕ × ℕ) → Type 0
 AreInside r c pairs = AllByRecursion (λ p. (p.0 + p.1) * c ≤ r.size) pairs
 
--- a reader that keeps nothing yet, with room for sixteen frames, and a buffer for the sound of one frame
+-- a reader that holds nothing yet, with room for sixteen frames, and a buffer for the sound of one frame
 pub record IsReady (pairs : List (ℕ × ℕ)) (o : OpenedParts) : Type 0 where
   pub shape_is : o.channels ≡ o.reader.shape
   pub lawful : IsShape o.reader.shape

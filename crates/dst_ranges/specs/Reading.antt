@@ -9,7 +9,7 @@ use Rattle.dsdiff_spec.specs.Form.{Form, shape}
 use Rattle.dsdiff_spec.specs.Outcome.{nth_frame}
 use Rattle.dsdiff_spec.specs.Ranges.{Sound}
 use Rattle.dst_commands.specs.Writing.{Adds, Stops}
-use Rattle.frame_cache.specs.Reader.{Reader, IsReaderOf, KeepsSounds}
+use Rattle.frame_cache.specs.Reader.{Reader, IsReaderOf, HoldsSounds}
 use Rattle.frame_cache.specs.Reads.{HasWanted}
 use Rattle.dst_read.specs.declared.faults.DecodeFault.{DecodeFault}
 use Rattle.dst_read.specs.declared.faults.DecodeFault.TheVariants.{Write, Frame}
@@ -23,7 +23,7 @@ pub record AreRead (file : List ℕ) (form : Form) (sound : List ℕ) (parts : L
 -- what holds of each sound of a file, its form being the reader's
 abbrev pub OfSound : Option (List ℕ) → Reader → (List ℕ → Form → List ℕ → Type 0) → Type 0
 OfSound bytes r holds =
-    (file : List ℕ) (form : Form) (sound : List ℕ) → bytes ≡ Some file → KeepsSounds file r → IsReaderOf file form r →
+    (file : List ℕ) (form : Form) (sound : List ℕ) → bytes ≡ Some file → HoldsSounds file r → IsReaderOf file form r →
     Sound file form sound → holds file form sound
 
 -- some parts were wanted of a reader, and written

@@ -20,9 +20,10 @@ pub given_by_opening : (before now more : ℕ) → now ≤ before + (208948 + 48
 given_by_opening before now more h = omega arith
 
 -- ---- causes
-pub caused_by_device : (told : DecodeFault) (fault : CopyFault) (a b c d : ℕ) → told ≡ of_device fault → FailedBy fault a b c d → HasItsCause told a b c d
-caused_by_device told copying.Read a b c d is h = subst (λ f. HasItsCause f a b c d) (sym is) h
-caused_by_device told copying.Write a b c d is h = subst (λ f. HasItsCause f a b c d) (sym is) h
+pub caused_by_device : (answered : DecodeFault) (fault : CopyFault) (a b c d : ℕ) → answered ≡ of_device fault →
+    FailedBy fault a b c d → HasItsCause answered a b c d
+caused_by_device answered copying.Read a b c d is h = subst (λ f. HasItsCause f a b c d) (sym is) h
+caused_by_device answered copying.Write a b c d is h = subst (λ f. HasItsCause f a b c d) (sym is) h
 
 pub caused_later : (fault : DecodeFault) (a b c d e f : ℕ) → a ≤ b → d ≤ e → HasItsCause fault b c e f → HasItsCause fault a c d f
 caused_later (Source Read) a b c d e f p q h = Rose-earlier a b c p h

@@ -30,15 +30,15 @@ end_added : (n : ℕ) (file : List ℕ) (form : Form) (old new : Option (List �
     Adds (decoded_end n file form) old new room left → Adds (end_of file form) old new room left
 end_added n file form old new room left size h = subst (λ n. Adds (decoded_end n file form) old new room left) size h
 
-told_as : (told : DecodeFault) (fault : CopyFault) (file : List ℕ) (old new : Option (List ℕ)) (room : Option ℕ) → told ≡ of_device fault →
-    DecodingEnds (Err (of_device fault)) file old new room → DecodingEnds (Err told) file old new room
-told_as told fault file old new room is h = subst (λ f. DecodingEnds (Err f) file old new room) (sym is) h
+answered_as : (answered : DecodeFault) (fault : CopyFault) (file : List ℕ) (old new : Option (List ℕ)) (room : Option ℕ) → answered ≡ of_device fault →
+    DecodingEnds (Err (of_device fault)) file old new room → DecodingEnds (Err answered) file old new room
+answered_as answered fault file old new room is h = subst (λ f. DecodingEnds (Err f) file old new room) (sym is) h
 
-pub ends_at_front : (told : DecodeFault) (fault : CopyFault) (n : ℕ) (file : List ℕ) (form : Form) (index : List Entry) (old new : Option (List ℕ))
-    (room : Option ℕ) → told ≡ of_device fault → n ≡ size_of_sound form → AreBytes file → IsOpened file form index →
-    Stops (fault ≡ CopyFault.Write) (decoded_front n file form) old new room → DecodingEnds (Err told) file old new room
-ends_at_front told fault n file form index old new room is size bytes o s =
-    told_as told fault file old new room is
+pub ends_at_front : (answered : DecodeFault) (fault : CopyFault) (n : ℕ) (file : List ℕ) (form : Form) (index : List Entry) (old new : Option (List ℕ))
+    (room : Option ℕ) → answered ≡ of_device fault → n ≡ size_of_sound form → AreBytes file → IsOpened file form index →
+    Stops (fault ≡ CopyFault.Write) (decoded_front n file form) old new room → DecodingEnds (Err answered) file old new room
+ends_at_front answered fault n file form index old new room is size bytes o s =
+    answered_as answered fault file old new room is
     (ends_at_device fault file (head_of file form) old new room bytes (head_is_front file form index bytes o)
     (subst (λ n. Stops (fault ≡ CopyFault.Write) (decoded_front n file form) old new room) size s))
 
@@ -57,7 +57,7 @@ behind_head : (fault : DecodeFault) (file : List ℕ) (form : Form) (index : Lis
 behind_head (Frame k fault) file form index old mid new room half left bytes o front (sounds, at, is) = (
   head_of file form ++ sound_of form sounds,
   refused_outcome file form index k fault sounds o at,
-  is ∙ ap (λ told. and_then told (sound_of form sounds)) front.written ∙ and_then-twice old (head_of file form) (sound_of form sounds),
+  is ∙ ap (λ held. and_then held (sound_of form sounds)) front.written ∙ and_then-twice old (head_of file form) (sound_of form sounds),
 )
 behind_head Write file form index old mid new room half left bytes o front (k, sounds, h, s) =
     let all = stops_then (Write ≡ Write) (head_of file form) (sound_of form sounds) old mid new room half front s in
@@ -76,13 +76,13 @@ ends_in_frames fault n file form index old mid new room half left size bytes o f
     behind_head fault file form index old mid new room half left bytes o (front_added n file form old mid room half size front) h
 
 -- ---- behind them
-pub ends_at_end : (told : DecodeFault) (fault : CopyFault) (n : ℕ) (file : List ℕ) (form : Form) (index : List Entry) (old mid last new : Option (List ℕ))
-    (room half left : Option ℕ) → told ≡ of_device fault → n ≡ size_of_sound form →
+pub ends_at_end : (answered : DecodeFault) (fault : CopyFault) (n : ℕ) (file : List ℕ) (form : Form) (index : List Entry) (old mid last new : Option (List ℕ))
+    (room half left : Option ℕ) → answered ≡ of_device fault → n ≡ size_of_sound form →
     AreBytes file → IsOpened file form index → Adds (decoded_front n file form) old mid room half →
     FramesEnd {A = Unit {0}} (Ok tt) file form mid last half left →
-    Stops (fault ≡ CopyFault.Write) (decoded_end n file form) last new left → DecodingEnds (Err told) file old new room
-ends_at_end told fault n file form index old mid last new room half left is size bytes o front (sounds, h, sound) s =
-    told_as told fault file old new room is
+    Stops (fault ≡ CopyFault.Write) (decoded_end n file form) last new left → DecodingEnds (Err answered) file old new room
+ends_at_end answered fault n file form index old mid last new room half left is size bytes o front (sounds, h, sound) s =
+    answered_as answered fault file old new room is
     (ends_at_device fault file (whole file form sounds) old new room bytes (whole_is_front file form index sounds bytes o h)
     (stops_then (fault ≡ CopyFault.Write) (head_of file form ++ sound_of form sounds) (end_of file form) old last new room left
     (adds_then (head_of file form) (sound_of form sounds) old mid last room half left (front_added n file form old mid room half size front) sound)

@@ -9,27 +9,27 @@ use Rattle.dsdiff_spec.proofs.CodedFiles.{longest_sound_of_frame}
 use Rattle.dsdiff_chunks.specs.Forms.{coded_seen}
 use Rattle.dst_commands.specs.declared.opened.WalkedForm.{WalkedForm}
 use Rattle.frame_index.specs.Fitting.{IsIndexOf}
-use Rattle.dst_read.specs.Feeding.{frame_bytes}
+use Rattle.dst_read.specs.Feeding.{bytes_of_entries}
 
 abbrev none : Entry
 none = record { offset = 0; size = 0 }
 
 -- ---- the next one
-pub next_left : (es : List Entry) (k : ℕ) → k < length es → frame_bytes (drop k es) ≡ (entry es k).size + frame_bytes (drop (k + 1) es)
+pub next_left : (es : List Entry) (k : ℕ) → k < length es → bytes_of_entries (drop k es) ≡ (entry es k).size + bytes_of_entries (drop (k + 1) es)
 next_left es k l = sum_by-drop_more (λ (e : Entry). e.size) es k none l
 
 -- ---- all of them: entries that stand apart between two places
 apart : (place end : ℕ) (es : List Entry) → (0 < length es → place ≤ (entry es 0).offset) →
     ((k : ℕ) → k < length es → (entry es k).offset + (entry es k).size ≤ end) →
     ((k : ℕ) → suc k < length es → (entry es k).offset + (entry es k).size ≤ (entry es (suc k)).offset) →
-    frame_bytes es ≤ end - place
+    bytes_of_entries es ≤ end - place
 apart place end [] first before order = omega arith
 apart place end (e ∷ es) first before order =
     let later = apart (e.offset + e.size) end es (λ l. order 0 (omega (arith, l))) (λ k l. before (suc k) (omega (arith, l)))
     (λ k l. order (suc k) (omega (arith, l))) in
     omega (arith, sum_by-cons (λ (e : Entry). e.size) e es, later, first (omega arith), before 0 (omega arith))
 
-each_most : (es : List Entry) → ((k : ℕ) → k < length es → (entry es k).size ≤ 225794) → frame_bytes es ≤ 225794 * length es
+each_most : (es : List Entry) → ((k : ℕ) → k < length es → (entry es k).size ≤ 225794) → bytes_of_entries es ≤ 225794 * length es
 each_most [] each = omega arith
 each_most (e ∷ es) each =
     let later = each_most es (λ k l. each (suc k) (omega (arith, l))) in
@@ -41,16 +41,16 @@ in_order es k n is le =
     let there : (entry es n).offset ≡ (entry es (suc k)).offset = ap (λ n. (entry es n).offset) is in
     omega (arith, le, there)
 
-pub in_the_sound : (form : Form) (es : List Entry) → IsIndexOf form es → frame_bytes es ≤ form.sound.size - 18
+pub in_the_sound : (form : Form) (es : List Entry) → IsIndexOf form es → bytes_of_entries es ≤ form.sound.size - 18
 in_the_sound form es fits =
     let all = apart (body_place form.sound + 18) (body_end form.sound) es (λ l. omega (arith, (fits.inside 0 l).behind)) (λ k l. (fits.inside k l).before)
     (λ k l. in_order es k (k + 1) (omega arith) (fits.order k (omega (arith, l)))) in
     omega (arith, all)
 
-pub stored_in_sound : (w : WalkedForm) → frame_bytes w.index ≤ w.form.sound.size
+pub stored_in_sound : (w : WalkedForm) → bytes_of_entries w.index ≤ w.form.sound.size
 stored_in_sound w = omega (arith, in_the_sound (coded_seen w.form) w.index w.fits)
 
-pub stored_at_most : (w : WalkedForm) → IsShape w.form.channels → frame_bytes w.index ≤ 225794000000
+pub stored_at_most : (w : WalkedForm) → IsShape w.form.channels → bytes_of_entries w.index ≤ 225794000000
 stored_at_most w lawful =
     let f = w.form.channels in
     let most = longest_sound_of_frame f lawful in

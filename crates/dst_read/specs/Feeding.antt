@@ -21,11 +21,11 @@ feed_shape None index f = 1
 feed_shape (Some size) index f = if f.channels below 8 && list_all (lies_in size f) index then shape_number f else 1
 
 -- bytes of the stored frames that entries name, and of those that a feed has not come to
-abbrev pub frame_bytes : List Entry → ℕ
-frame_bytes es = sum_by (λ e. e.size) es
+abbrev pub bytes_of_entries : List Entry → ℕ
+bytes_of_entries es = sum_by (λ e. e.size) es
 
 abbrev pub bytes_left : {S : Type 0} → StoredFrames S → ℕ
-bytes_left s = frame_bytes (drop s.next s.walked.now.index)
+bytes_left s = bytes_of_entries (drop s.next s.walked.now.index)
 
 -- it is the same feed, later on: the source gave each stored byte that is no longer left once at most
 pub record IsLater {S : Type 0} (bytes : S → Option (List ℕ)) (known : S → Option ℕ) (faults gave : S → ℕ) (s t : StoredFrames S) : Type 0 where

@@ -6,7 +6,7 @@ ghost use Rattle.frame_crew.specs.Answers.{IfFeedFault, IfDrainFault};
 ghost use Rattle.frame_crew.specs.Runs.{Ran, FailsAtFeed, FailsAtDrain};
 ghost use Rattle.dst_commands.specs.Rooms.{shape_number};
 ghost use Rattle.dst_read.specs.Decoding.{IsOpened, FramesEnd, HasItsCause};
-ghost use Rattle.dst_read.specs.Feeding.{GivesFrame, FailsToRead, bytes_left, frame_bytes};
+ghost use Rattle.dst_read.specs.Feeding.{GivesFrame, FailsToRead, bytes_left, bytes_of_entries};
 ghost use Rattle.dst_read.specs.Frames.{HasRoomFor, HasRun};
 ghost use Rattle.dst_read.specs.Jobs.{AreJobsFor, AreTablesFor, IsWorked};
 
@@ -72,7 +72,7 @@ pub(crate) fn write_frames<R: Threads + Sync, S: Source, K: Sink, G: Gate>(
     requires opened { (file : List ℕ) → S.bytes source.old ≡ Some file → IsOpened file (coded_seen walked.now.form) walked.now.index }
     ensures bytes { S.bytes source.new ≡ S.bytes source.old }
     ensures stays { S.known source.new ≡ S.known source.old }
-    ensures given { S.given source.new ≤ S.given source.old + frame_bytes walked.now.index }
+    ensures given { S.given source.new ≤ S.given source.old + bytes_of_entries walked.now.index }
     ensures source_later { S.faults source.old ≤ S.faults source.new }
     ensures sink_later { K.faults sink.old ≤ K.faults sink.new }
     ensures cause { IfErr result (λ fault. HasItsCause fault (S.faults source.old) (S.faults source.new) (K.faults sink.old) (K.faults sink.new)) }

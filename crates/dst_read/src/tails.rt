@@ -2,7 +2,7 @@
 ghost use Rattle.std.specs.Prelude.{◌≡◌, ◌+◌, ◌<◌, ◌≤◌, ℕ, List, Some, IfErr};
 ghost use Rattle.dsdiff_spec.specs.Walk.{entries};
 ghost use Rattle.dsdiff_chunks.specs.Forms.{coded_seen};
-ghost use Rattle.dst_read.specs.Feeding.{frame_bytes};
+ghost use Rattle.dst_read.specs.Feeding.{bytes_of_entries};
 ghost use Rattle.dst_read.specs.Jobs.{AreJobsFor, AreTablesFor};
 ghost use Rattle.dst_read.specs.Checking.{HasSourceCause, TailsEnd, HasSummed};
 
@@ -32,7 +32,7 @@ pub(crate) fn sum_tails<R: Threads + Sync, S: Source, G: Gate>(
     requires walked { (file : List ℕ) → S.bytes source.old ≡ Some file → entries file (coded_seen walked.now.form) ≡ walked.now.index }
     ensures bytes { S.bytes source.new ≡ S.bytes source.old }
     ensures later { S.faults source.old ≤ S.faults source.new }
-    ensures given { S.given source.new ≤ S.given source.old + frame_bytes walked.now.index }
+    ensures given { S.given source.new ≤ S.given source.old + bytes_of_entries walked.now.index }
     ensures cause { IfErr result (λ fault. HasSourceCause fault (S.faults source.old) (S.faults source.new)) }
     ensures summed { (file : List ℕ) → S.bytes source.old ≡ Some file → TailsEnd result file (coded_seen walked.now.form) }
 {

@@ -22,21 +22,21 @@ one_more_line part xs k d piece before mid now l is first more =
     omega (arith, first, more, joined, long)
 
 -- ---- lines that hold these, each with its line feed
-pub bytes_of_some : {X : Type 0} (part : Parts X) (xs : List X) (told : List Line) (n : ℕ) → map part xs ≡ fed told →
-    flat_map part (take n xs) ≡ report (take n told)
-bytes_of_some part xs told n e =
+pub bytes_of_some : {X : Type 0} (part : Parts X) (xs : List X) (reported : List Line) (n : ℕ) → map part xs ≡ fed reported →
+    flat_map part (take n xs) ≡ report (take n reported)
+bytes_of_some part xs reported n e =
     sym (flat_map-map (λ (w : List ℕ). w) part (take n xs))
-    ∙ ap (flat_map (λ (w : List ℕ). w)) (sym (take-map part n xs) ∙ ap (take n) e ∙ take-map (λ (line : Line). line ++ 10 ∷ []) n told)
-    ∙ flat_map-map (λ (w : List ℕ). w) (λ (line : Line). line ++ 10 ∷ []) (take n told)
+    ∙ ap (flat_map (λ (w : List ℕ). w)) (sym (take-map part n xs) ∙ ap (take n) e ∙ take-map (λ (line : Line). line ++ 10 ∷ []) n reported)
+    ∙ flat_map-map (λ (w : List ℕ). w) (λ (line : Line). line ++ 10 ∷ []) (take n reported)
 
-pub bytes_of_lines : {X : Type 0} (part : Parts X) (xs : List X) (told : List Line) → map part xs ≡ fed told → flat_map part xs ≡ report told
-bytes_of_lines part xs told e =
+pub bytes_of_lines : {X : Type 0} (part : Parts X) (xs : List X) (reported : List Line) → map part xs ≡ fed reported → flat_map part xs ≡ report reported
+bytes_of_lines part xs reported e =
     sym (flat_map-map (λ (w : List ℕ). w) part xs)
     ∙ ap (flat_map (λ (w : List ℕ). w)) e
-    ∙ flat_map-map (λ (w : List ℕ). w) (λ (line : Line). line ++ 10 ∷ []) told
+    ∙ flat_map-map (λ (w : List ℕ). w) (λ (line : Line). line ++ 10 ∷ []) reported
 
-pub as_many_lines : {X : Type 0} (part : Parts X) (xs : List X) (told : List Line) → map part xs ≡ fed told → length xs ≡ length told
-as_many_lines part xs told e = sym (length-map xs part) ∙ ap length e ∙ length-map told (λ (line : Line). line ++ 10 ∷ [])
+pub as_many_lines : {X : Type 0} (part : Parts X) (xs : List X) (reported : List Line) → map part xs ≡ fed reported → length xs ≡ length reported
+as_many_lines part xs reported e = sym (length-map xs part) ∙ ap length e ∙ length-map reported (λ (line : Line). line ++ 10 ∷ [])
 
 -- ---- pieces that are one line each
 fed_next : (line : Line) (piece : List ℕ) (pieces : List (List ℕ)) (lines : List Line) → piece ≡ report (line ∷ []) → pieces ≡ fed lines →
@@ -52,16 +52,17 @@ pub fed_five : (v w x y z : Line) {a b c d e : List ℕ} → a ≡ report (v ∷
 fed_five v w x y z p q r s t = fed_next v _ _ (w ∷ x ∷ y ∷ z ∷ []) p (fed_next w _ _ (x ∷ y ∷ z ∷ []) q (fed_three x y z r s t))
 
 -- ---- the call for line k failed, or all lines were appended
-pub stops_at_line : {X : Type 0} (part : Parts X) (xs : List X) (told : List Line) (k before mid now : ℕ) → map part xs ≡ fed told → k < length xs →
-    mid ≡ before + length (flat_map part (take k xs)) → now ≡ mid → StopsAtALine told before now
-stops_at_line part xs told k before mid now e l first still =
-    let many = as_many_lines part xs told e in
-    (k, omega (arith, l, many), still ∙ first ∙ ap (λ (w : List ℕ). before + length w) (bytes_of_some part xs told k e))
+pub stops_at_line : {X : Type 0} (part : Parts X) (xs : List X) (reported : List Line) (k before mid now : ℕ) → map part xs ≡ fed reported → k < length xs →
+    mid ≡ before + length (flat_map part (take k xs)) → now ≡ mid → StopsAtALine reported before now
+stops_at_line part xs reported k before mid now e l first still =
+    let many = as_many_lines part xs reported e in
+    (k, omega (arith, l, many), still ∙ first ∙ ap (λ (w : List ℕ). before + length w) (bytes_of_some part xs reported k e))
 
-pub adds_lines : {X : Type 0} (part : Parts X) (xs : List X) (told : List Line) (k before now : ℕ) → map part xs ≡ fed told → length xs ≤ k →
-    now ≡ before + length (flat_map part (take k xs)) → AddsLines told before now
-adds_lines part xs told k before now e l all =
-    all ∙ ap (λ (ys : List _). before + length (flat_map part ys)) (take_all k xs l) ∙ ap (λ (w : List ℕ). before + length w) (bytes_of_lines part xs told e)
+pub adds_lines : {X : Type 0} (part : Parts X) (xs : List X) (reported : List Line) (k before now : ℕ) → map part xs ≡ fed reported → length xs ≤ k →
+    now ≡ before + length (flat_map part (take k xs)) → AddsLines reported before now
+adds_lines part xs reported k before now e l all =
+    all ∙ ap (λ (ys : List _). before + length (flat_map part ys)) (take_all k xs l)
+    ∙ ap (λ (w : List ℕ). before + length w) (bytes_of_lines part xs reported e)
 
 -- ---- one call for one line
 pub none_of_one : (line : Line) (before now : ℕ) → now ≡ before → StopsAtALine (line ∷ []) before now

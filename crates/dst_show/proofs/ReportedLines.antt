@@ -132,17 +132,18 @@ same_five kind channels sound size frames chunks count s c =
     ap (λ s. five kind channels s frames chunks) s ∙ ap (λ c. five kind channels size frames c) c
 
 -- the lines of a form, by the numbers that were found of it and the heads of its chunks
-pub five_of_form : (kind : List ℕ) (form : Form) (sound : ℕ) (heads seen : List ChunkHead) (told : List (List ℕ)) → sound ≡ size_of_sound form → heads ≡ seen →
-    map head_seen seen ≡ form.chunks → told ≡ fed (five kind form.channels sound form.frames (length heads)) → told ≡ fed (summary_lines kind form)
-five_of_form kind form sound heads seen told size same chunks is =
+pub five_of_form : (kind : List ℕ) (form : Form) (sound : ℕ) (heads seen : List ChunkHead) (reported : List (List ℕ)) → sound ≡ size_of_sound form →
+    heads ≡ seen → map head_seen seen ≡ form.chunks → reported ≡ fed (five kind form.channels sound form.frames (length heads)) →
+    reported ≡ fed (summary_lines kind form)
+five_of_form kind form sound heads seen reported size same chunks is =
     let count : length heads ≡ length form.chunks = ap length same ∙ sym (length-map seen head_seen) ∙ ap length chunks in
     is ∙ ap fed (same_five kind form.channels sound (size_of_sound form) form.frames (length heads) (length form.chunks) size count)
 
 -- ---- a coded form has three lines more
-pub coded_five : (f : CodedForm) {size : ℕ} {heads : List ChunkHead} {told : List (List ℕ)} → size ≡ size_of_sound (coded_seen f) → heads ≡ f.heads →
-    told ≡ fed (five (codes "coded") f.channels.channels size f.frames (length heads)) →
-    told ≡ fed (summary_lines (codes "coded") (coded_seen f))
-coded_five f {size} {heads} {told} same all is = five_of_form (codes "coded") (coded_seen f) size heads f.heads told same all refl is
+pub coded_five : (f : CodedForm) {size : ℕ} {heads : List ChunkHead} {reported : List (List ℕ)} → size ≡ size_of_sound (coded_seen f) → heads ≡ f.heads →
+    reported ≡ fed (five (codes "coded") f.channels.channels size f.frames (length heads)) →
+    reported ≡ fed (summary_lines (codes "coded") (coded_seen f))
+coded_five f {size} {heads} {reported} same all is = five_of_form (codes "coded") (coded_seen f) size heads f.heads reported same all refl is
 
 pub lines_of_coded : (form : Form) (es : List Entry) → form.kind ≡ coded →
     report (summary_lines (codes "coded") form) ++ report (coded_summary_lines form es) ≡ report (show_lines form es)
@@ -212,14 +213,14 @@ cause_unopened Read rules bytes source_before source_now before now stops = stop
 cause_unopened (Memory refused) rules bytes source_before source_now before now stops = tt {0}
 
 -- ---- one frame that is shown, or refused
-pub frame_is_shown : (file : List ℕ) (form : Form) (k : ℕ) (f : Shape) (w : List ℕ) (told : Line) → IsAccepted (refusal (show_frame k)) file form →
+pub frame_is_shown : (file : List ℕ) (form : Form) (k : ℕ) (f : Shape) (w : List ℕ) (text : Line) → IsAccepted (refusal (show_frame k)) file form →
     shape form ≡ f → frame_at file (entry (entries file form) k) ≡ w →
-    Shows f k w told → NotRefused (show_frame k) f w → OutcomeOf (show_frame k) file (done [] (told ∷ []))
-frame_is_shown file form k f w told a same is shows none =
+    Shows f k w text → NotRefused (show_frame k) f w → OutcomeOf (show_frame k) file (done [] (text ∷ []))
+frame_is_shown file form k f w text a same is shows none =
     let named = frame_at file (entry (entries file form) k) in
     let none_of_it = subst (λ f. NotRefused (show_frame k) f named) (sym same) (subst (NotRefused (show_frame k) f) (sym is) none) in
-    let shown = subst (λ f. Shows f k named told) (sym same) (subst (λ w. Shows f k w told) (sym is) shows) in
-    done_outcome (show_frame k) file form (done [] (told ∷ [])) a ((none_of_it, tt), (told, shown, refl))
+    let shown = subst (λ f. Shows f k named text) (sym same) (subst (λ w. Shows f k w text) (sym is) shows) in
+    done_outcome (show_frame k) file form (done [] (text ∷ [])) a ((none_of_it, tt), (text, shown, refl))
 
 pub frame_is_refused : (file : List ℕ) (form : Form) (k : ℕ) (f : Shape) (w : List ℕ) (fault : FrameFault) → IsAccepted (refusal (show_frame k)) file form →
     shape form ≡ f → frame_at file (entry (entries file form) k) ≡ w →
@@ -243,8 +244,8 @@ frame_is_refused file form k f w fault a same is r =
 pub header_is_found : (file line : List ℕ) (found : FoundFrame) (k : ℕ) → form_refusal (show_frame k) file ≡ None → IsFound false file k found →
     IsShown found.form.channels k (frame_at file (entry_seen found.entry)) line → IsHeaderOf k file line found.form.frames
 header_is_found file line found k accepts is shown = record {
-  told = shown.told;
-  outcome = frame_is_shown file (coded_seen found.form) k found.form.channels (frame_at file (entry_seen found.entry)) shown.told
+  text = shown.text;
+  outcome = frame_is_shown file (coded_seen found.form) k found.form.channels (frame_at file (entry_seen found.entry)) shown.text
       (record { accepts = rules_of_show_frame k file ∙ accepts; form_is = is.form_is }) found.form.shape (ap (frame_at file) is.entry_is) shown.shows
       shown.not_refused;
   is = shown.is;
@@ -272,10 +273,10 @@ pub ends_with_header : {T : Type 0} (r : Result T Failed) (a : Result Reported S
     MatchResult r (λ _. new ≡ and_then old piece) (λ _. IsCutShort old piece new) → IsSure room left (length piece) r →
     MatchResult r (λ _. now ≡ before + length piece) (λ _. now ≡ before) → ReportEnds a (show_frame k) file old new room before now
 ends_with_header r a k file line piece frames old new room left before now e header same written sure added =
-    let whole : piece ≡ report (header.told ∷ []) = same ∙ header.is in
-    reported_ends r a (show_frame k) file (accepted file) (header.told ∷ []) old new room left before now (e ∙ ap (reported_as r) header.count) refl
-    header.outcome (same_written r piece (report (header.told ∷ [])) old new room left whole (appended r piece old new room left written sure))
-    (goes_by_one r header.told piece before now whole added)
+    let whole : piece ≡ report (header.text ∷ []) = same ∙ header.is in
+    reported_ends r a (show_frame k) file (accepted file) (header.text ∷ []) old new room left before now (e ∙ ap (reported_as r) header.count) refl
+    header.outcome (same_written r piece (report (header.text ∷ [])) old new room left whole (appended r piece old new room left written sure))
+    (goes_by_one r header.text piece before now whole added)
 
 pub ends_without_header : (k : ℕ) (fault : ShowFault) (bytes : Option (List ℕ)) (source_before source_now : ℕ) (file : List ℕ) (old new : Option (List ℕ))
     (room : Option ℕ) (before now : ℕ) → bytes ≡ Some file → FindsNoHeader k bytes source_before source_now fault →

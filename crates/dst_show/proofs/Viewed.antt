@@ -75,7 +75,7 @@ pub view_is_shown : (f : Shape) (k bytes : ℕ) (w line : List ℕ) (view : Fram
     IfCoded (Ok view) (λ params code. get_or (bits w) code.first 0 ≡ 0 → number_from (bits w) (code.first + 1) 12 ≢ 4095 → OffendsNowhere f w) →
     IsShown f k w line
 view_is_shown f k bytes w line (Plain sound) long is plain nowhere inside header bit range whole = record {
-  told = plain_frame_line k bytes;
+  text = plain_frame_line k bytes;
   shows = inl (sound.now, plain, ap (plain_frame_line k) (sym long));
   not_refused = λ fault r. nowhere fault r.0;
   is = is;
@@ -84,7 +84,7 @@ view_is_shown f k bytes w line (Coded params code) long is plain nowhere inside 
     let count = length-bits w in
     let within : code.first ≤ length (bits w) = omega (arith, inside, count) in
     record {
-      told = coded_frame_line k bytes (length params.filters) (length params.probs) code.first;
+      text = coded_frame_line k bytes (length params.filters) (length params.probs) code.first;
       shows = inr (params, code.first, within, header, ap (λ n. coded_frame_line k n (length params.filters) (length params.probs) code.first) (sym long));
       not_refused = nowhere_but_in_code f w code.first bit range whole;
       is = is;

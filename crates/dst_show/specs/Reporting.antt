@@ -58,9 +58,9 @@ summary_of s =
 -- ---- the header of frame k
 -- this line, reported alone, is what the command does with a file of so many frames
 pub record IsHeaderOf (k : ℕ) (file line : List ℕ) (frames : ℕ) : Type 0 where
-  pub told : Line
-  pub outcome : OutcomeOf (show_frame k) file (done [] (told ∷ []))
-  pub is : line ≡ report (told ∷ [])
+  pub text : Line
+  pub outcome : OutcomeOf (show_frame k) file (done [] (text ∷ []))
+  pub is : line ≡ report (text ∷ [])
   pub count : frames ≡ (accepted file).frames
 
 -- why the command finds no header: the file or the frame is refused, or the source or memory fails
@@ -76,8 +76,8 @@ view_line k bytes (Coded params code) = coded_frame_line k bytes (length params.
 
 -- it is shown by one line, and not refused
 pub record IsShown (f : Shape) (k : ℕ) (frame : List ℕ) (line : List ℕ) : Type 0 where
-  pub told : Line
-  pub shows : Shows f k frame told
+  pub text : Line
+  pub shows : Shows f k frame text
   pub not_refused : (fault : FrameFault) → Refuses (show_frame k) f frame fault → ⊥
   pub is : line ≡ report (told ∷ [])
 

@@ -89,8 +89,8 @@ pub(crate) fn report_lines<T: Sink>(report: &mut T, lines: &[Line]) -> Result<()
     ensures written { MatchResult result
         (λ _. Adds (flat_map (λ l. l.bytes) lines.now) (T.written report.old) (T.written report.new) (T.room report.old) (T.room report.new))
         (λ _. Stops (Unit {0}) (flat_map (λ l. l.bytes) lines.now) (T.written report.old) (T.written report.new) (T.room report.old)) }
-    ensures by_lines { (told : List reports.Line) → map (λ l. l.bytes) lines.now ≡ fed told →
-        GoesByLines result told (T.appended report.old) (T.appended report.new) }
+    ensures by_lines { (reported : List reports.Line) → map (λ l. l.bytes) lines.now ≡ fed reported →
+        GoesByLines result reported (T.appended report.old) (T.appended report.new) }
 {
     for line in lines {
         let Ok(()) = report.append(line.as_bytes()) else {

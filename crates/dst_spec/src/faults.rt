@@ -2,11 +2,11 @@
 ghost use Rattle.std.specs.Prelude.{◌≡◌, ◌≤◌, length, codes};
 ghost use Rattle.dst_spec.specs.Reasons.{reason_number, reason_name};
 
-use std::fmt::{self, Display, Formatter, Write};
 use thiserror::Error;
 
 /// What is wrong with the first field of a frame that breaks a rule. Each reason shows as its number and its name.
 #[derive(Clone, Copy, Debug, Drop, PartialEq, Eq, Error)]
+#[error("{} {}", self.number(), self.name())]
 pub enum Reason {
     /// The frame ends inside the field.
     Truncated = 1,
@@ -55,12 +55,6 @@ impl Reason {
             Reason::FirstCodeBit => "FirstCodeBit",
             Reason::CodeRange => "CodeRange",
         }
-    }
-}
-
-impl Display for Reason {
-    fn fmt<W: Write>(&self, f: &mut Formatter<W>) -> fmt::Result {
-        write!(f, "{} {}", self.number(), self.name())
     }
 }
 

@@ -9,11 +9,11 @@ use Rattle.dst_streams.specs.Told.{counted}
 use Rattle.dsdiff_spec.specs.Walk.{entry}
 use Rattle.dsdiff_spec.specs.Ranges.{is_held, decoded_of}
 use Rattle.frame_cache.specs.Slots.{HeldSound, held, found, moved}
-use Rattle.frame_cache.specs.Reader.{Reader, order, stored_bytes, frame_in, IsSame, KeepsSounds, HoldsTogether}
+use Rattle.frame_cache.specs.Reader.{Reader, order, stored_bytes, frame_in, IsSame, HoldsSounds, HoldsTogether}
 use Rattle.frame_cache.specs.Reads.{MeanSounds, HasWanted}
 use Rattle.frame_cache.proofs.Orders.{held_is_found, frame-found, order-moved, order-taken, all-found, all-moved}
 
--- a reader that keeps something else
+-- a reader that holds something else
 pub seen_with : (r : Reader) (n : ℕ) (ks js : List HeldSound) → n ≡ r.capacity → ks ≡ js → record r { capacity = n; held = ks } ≡ record r { held = js }
 seen_with r n ks js e f = ap (λ m. record r { capacity = m; held = ks }) e ∙ ap (λ l. record r { held = l }) f
 
@@ -21,13 +21,13 @@ is_same : (r r' : Reader) (ks : List HeldSound) → r' ≡ record r { held = ks 
 is_same r r' ks e = e ∙ ap (λ l. record r { held = l }) (sym (ap (λ (x : Reader). x.held) e))
 
 -- a frame that is held means a sound
-means_held : (file : List ℕ) (r : Reader) (k : ℕ) → is_some (found r.held k) ≡ true → KeepsSounds file r → MeanSounds file r (k ∷ [])
-means_held file r k there keeps = go (found r.held k) refl
+means_held : (file : List ℕ) (r : Reader) (k : ℕ) → is_some (found r.held k) ≡ true → HoldsSounds file r → MeanSounds file r (k ∷ [])
+means_held file r k there holds_sounds = go (found r.held k) refl
   where
     go : (o : Option HeldSound) → found r.held k ≡ o → MeanSounds file r (k ∷ [])
     go None is = let none = rw is at there in absurd cc
     go (Some x) is =
-        let here = (all-found (λ x. Means r.shape (frame_in file r x.frame) x.sound) r.held k x is keeps).0 in
+        let here = (all-found (λ x. Means r.shape (frame_in file r x.frame) x.sound) r.held k x is holds_sounds).0 in
         ((x.sound, subst (λ j. Means r.shape (frame_in file r j) x.sound) (frame-found r.held k x is) here), tt)
 
 pub wanted_of_held : (r r' : Reader) (k : ℕ) (bytes : Option (List ℕ)) (given : ℕ) → is_some (found r.held k) ≡ true → r' ≡ record r { held = moved r.held k } →
@@ -40,9 +40,9 @@ wanted_of_held r r' k bytes given there e =
       order_is = ap order e ∙ order-moved r.held k r.capacity there;
       decoded_is = sym (ap length none);
       given_is = λ small. let nothing = ap (stored_bytes r) none in omega (arith, nothing);
-      keeps = λ file told keeps.
-          subst (KeepsSounds file) (sym e) (all-moved (λ x. Means r.shape (frame_in file r x.frame) x.sound) r.held k keeps);
-      means = λ file told keeps. means_held file r k there keeps;
+      holds_sounds = λ file told holds_sounds.
+          subst (HoldsSounds file) (sym e) (all-moved (λ x. Means r.shape (frame_in file r x.frame) x.sound) r.held k holds_sounds);
+      means = λ file told holds_sounds. means_held file r k there holds_sounds;
     }
 
 pub wanted_of_decoded : (r r' : Reader) (k : ℕ) (sound : List ℕ) (bytes : Option (List ℕ)) (given given' : ℕ) → is_some (found r.held k) ≡ false →
@@ -56,10 +56,10 @@ wanted_of_decoded r r' k sound bytes given given' none e gave means =
       order_is = ap order e ∙ order-taken r.held k r.capacity sound none;
       decoded_is = sym (ap length one);
       given_is = λ small. let size = ap (stored_bytes r) one in let more = gave small in omega (arith, size, more);
-      keeps = λ file told keeps.
-          subst (KeepsSounds file) (sym e)
-          (all_take (λ x. Means r.shape (frame_in file r x.frame) x.sound) r.capacity (held k sound ∷ r.held) (means file told, keeps));
-      means = λ file told keeps. ((sound, means file told), tt);
+      holds_sounds = λ file told holds_sounds.
+          subst (HoldsSounds file) (sym e)
+          (all_take (λ x. Means r.shape (frame_in file r x.frame) x.sound) r.capacity (held k sound ∷ r.held) (means file told, holds_sounds));
+      means = λ file told holds_sounds. ((sound, means file told), tt);
     }
 
 -- a frame that isn't held leaves what is held as it is

@@ -16,7 +16,7 @@ use Rattle.dsdiff_spec.specs.Bytes.{bytes_at}
 use Rattle.dsdiff_spec.specs.Form.{Form, shape, sound_bytes_of}
 use Rattle.dsdiff_spec.specs.Walk.{entry, entries, frame_at}
 use Rattle.dsdiff_spec.specs.Ranges.{Sound, is_held, touched}
-use Rattle.frame_cache.specs.Reader.{Reader, HoldsTogether, order, wanted, frame_in, IsSame, IsReaderOf, KeepsSounds}
+use Rattle.frame_cache.specs.Reader.{Reader, HoldsTogether, order, wanted, frame_in, IsSame, IsReaderOf, HoldsSounds}
 use Rattle.frame_cache.specs.Reads.{HasWanted, IsPartWay, IsRefusedAt}
 use Rattle.frame_cache.proofs.Orders.{HasInFront, in_front_of, range-parts, few_decoded}
 use Rattle.frame_cache.proofs.Sounding.{part_of_sound}
@@ -85,11 +85,11 @@ one_more_wanted r r1 r2 a k n m bytes bytes' g g' g'' le same w w' =
 -- a part of the frame in front is that part of the whole sound
 pub front_part : (file : List ℕ) (form : Form) (sound s : List ℕ) (r r' : Reader) (k n end : ℕ) → IsReaderOf file form r → IsShape r.shape →
     Sound file form sound →
-    IsSame r r' → KeepsSounds file r' → (h : HasInFront r'.held k) → s ≡ h.first.sound → k < length r.index → n ≡ sound_bytes r.shape → end ≤ r.size →
+    IsSame r r' → HoldsSounds file r' → (h : HasInFront r'.held k) → s ≡ h.first.sound → k < length r.index → n ≡ sound_bytes r.shape → end ≤ r.size →
     (i m : ℕ) → i + m ≤ n → k * n + i + m ≤ end → bytes_at sound (k * n + i) m ≡ bytes_at s i m
-front_part file form sound s r r' k n end of lawful whole same keeps h is l bytes most i m fits within =
-    let held = subst (KeepsSounds file) same keeps in
-    let first = (subst (λ ks. KeepsSounds file (record r { held = ks })) h.parts held).0 in
+front_part file form sound s r r' k n end of lawful whole same holds_sounds h is l bytes most i m fits within =
+    let held = subst (HoldsSounds file) same holds_sounds in
+    let first = (subst (λ ks. HoldsSounds file (record r { held = ks })) h.parts held).0 in
     let here : Means r.shape (frame_in file r k) h.first.sound = subst (λ j. Means r.shape (frame_in file r j) h.first.sound) h.frame_is first in
     let shaped : Means (shape form) (frame_at file (entry r.index k)) h.first.sound =
     subst (λ f. Means f (frame_in file r k) h.first.sound) (sym of.shape_is) here in

@@ -54,7 +54,7 @@ pub record IsLast (es : List (ℕ × Slot)) (x : ℕ × Slot) : Type 0 where
 pub is_last : (es : List (ℕ × Slot)) (x : ℕ × Slot) → IsDistinct nat_eq (keys_of es) → 0 < length es → last_entry es ≡ Some x → IsLast es x
 is_last es x d some is =
     let h = last_of es some in
-    let same : h.last ≡ x = let told : Some h.last ≡ Some x = sym h.last_is ∙ is in cc in
+    let same : h.last ≡ x = let known : Some h.last ≡ Some x = sym h.last_is ∙ is in cc in
     let parts : es ≡ h.front ++ x ∷ [] = subst (λ y. es ≡ h.front ++ y ∷ []) same h.parts in
     let found = found_last h.front x (subst (λ l. IsDistinct nat_eq (keys_of l)) parts d) in
     record { front = h.front; parts = parts; found = found; looked = ap (lookup (nat_eq x.0)) parts ∙ found.looked }

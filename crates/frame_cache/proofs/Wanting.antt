@@ -15,7 +15,7 @@ none_wanted r bytes given =
       order_is = refl;
       decoded_is = refl;
       given_is = λ small. omega arith;
-      keeps = λ file told held. held;
+      holds_sounds = λ file told held. held;
       means = λ file told held. tt;
     }
 
@@ -57,8 +57,8 @@ wanted_then r r' r'' ks js n m bytes g g' g'' a b =
           let whole : stored_bytes r (decoded_of o (ks ++ js) cap) ≡ stored_bytes r here + stored_bytes r there =
           ap (stored_bytes r) all ∙ sum_of-append (λ k. (entry r.index k).size) here there in
           omega (arith, one, two, others, whole);
-      keeps = λ file told held. b.keeps file told (a.keeps file told held);
+      holds_sounds = λ file told held. b.holds_sounds file told (a.holds_sounds file told held);
       means = λ file told held.
           all_append (λ k. (sound : List ℕ) × Means r.shape (frame_in file r k) sound) ks js (a.means file told held)
-          (mean_same file r r' js a.same (b.means file told (a.keeps file told held)));
+          (mean_same file r r' js a.same (b.means file told (a.holds_sounds file told held)));
     }

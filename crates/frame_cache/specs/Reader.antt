@@ -9,7 +9,7 @@ use Rattle.dsdiff_spec.specs.Ranges.{touched}
 use Rattle.frame_cache.specs.Slots.{HeldSound, frames_in}
 
 -- The frames of a file and where they stand, the bytes of its sound, the place behind its form; how many sounds of frames the
--- reader has room for, and those that it keeps, the one that was wanted last in front.
+-- reader has room for, and those that it holds, the one that was wanted last in front.
 pub record Reader : Type 0 where
   pub shape : Shape
   pub index : List Entry
@@ -27,7 +27,7 @@ fresh_reader form index capacity =
 abbrev pub order : Reader → List ℕ
 order r = frames_in r.held
 
--- the same reader, but for what it keeps
+-- the same reader, but for what it holds
 abbrev pub IsSame : Reader → Reader → Type 0
 IsSame old new = new ≡ record old { held = new.held }
 
@@ -50,8 +50,8 @@ pub record IsReaderOf (file : List ℕ) (form : Form) (r : Reader) : Type 0 wher
   pub size_is : size_of_sound form ≡ r.size
 
 -- what is held of a frame is the sound that it means in the file
-abbrev pub KeepsSounds : List ℕ → Reader → Type 0
-KeepsSounds file r = AllByRecursion (λ x. Means r.shape (frame_in file r x.frame) x.sound) r.held
+abbrev pub HoldsSounds : List ℕ → Reader → Type 0
+HoldsSounds file r = AllByRecursion (λ x. Means r.shape (frame_in file r x.frame) x.sound) r.held
 
 -- ---- what holds of each reader
 pub record HoldsTogether (r : Reader) : Type 0 where

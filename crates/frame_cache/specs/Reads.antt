@@ -6,7 +6,7 @@ use Rattle.dst_spec.specs.Offends.{Offends}
 use Rattle.dst_spec.specs.declared.faults.FrameFault.{FrameFault}
 use Rattle.dst_streams.specs.Told.{counted}
 use Rattle.dsdiff_spec.specs.Ranges.{is_held, keys_after, decoded_of}
-use Rattle.frame_cache.specs.Reader.{Reader, order, stored_bytes, frame_in, IsSame, KeepsSounds}
+use Rattle.frame_cache.specs.Reader.{Reader, order, stored_bytes, frame_in, IsSame, HoldsSounds}
 
 -- some frames mean a sound
 abbrev pub MeanSounds : List ℕ → Reader → List ℕ → Type 0
@@ -19,8 +19,8 @@ pub record HasWanted (r r' : Reader) (ks : List ℕ) (n : ℕ) (bytes : Option (
   pub order_is : order r' ≡ keys_after (order r) ks r.capacity
   pub decoded_is : n ≡ length (decoded_of (order r) ks r.capacity)
   pub given_is : given < 2 ^ 64 → given' ≡ counted given (stored_bytes r (decoded_of (order r) ks r.capacity))
-  pub keeps : (file : List ℕ) → bytes ≡ Some file → KeepsSounds file r → KeepsSounds file r'
-  pub means : (file : List ℕ) → bytes ≡ Some file → KeepsSounds file r → MeanSounds file r ks
+  pub holds_sounds : (file : List ℕ) → bytes ≡ Some file → HoldsSounds file r → HoldsSounds file r'
+  pub means : (file : List ℕ) → bytes ≡ Some file → HoldsSounds file r → MeanSounds file r ks
 
 -- the order is the one after some of the first frames that were wanted
 pub record IsPartWay (r : Reader) (wants new : List ℕ) : Type 0 where
@@ -37,4 +37,4 @@ pub record IsRefusedAt (r : Reader) (wants new : List ℕ) (bytes : Option (List
   pub order_is : new ≡ keys_after (order r) before r.capacity
   pub not_held : is_held new k ≡ false
   pub offends : (file : List ℕ) → bytes ≡ Some file → Offends r.shape (frame_in file r k) fault
-  pub first : (file : List ℕ) → bytes ≡ Some file → KeepsSounds file r → MeanSounds file r before
+  pub first : (file : List ℕ) → bytes ≡ Some file → HoldsSounds file r → MeanSounds file r before

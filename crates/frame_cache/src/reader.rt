@@ -14,7 +14,7 @@ ghost use Rattle.dsdiff_chunks.specs.Forms.{coded_seen};
 ghost use Rattle.frame_index.specs.Entries.{entry_seen};
 ghost use Rattle.frame_index.specs.Fitting.{IsIndexOf};
 ghost use Rattle.frame_cache.specs.Slots.{HeldSound};
-ghost use Rattle.frame_cache.specs.Reader.{HoldsTogether, fresh_reader, order, wanted, stored_bytes, frame_in, IsSame, IsReaderOf, KeepsSounds};
+ghost use Rattle.frame_cache.specs.Reader.{HoldsTogether, fresh_reader, order, wanted, stored_bytes, frame_in, IsSame, IsReaderOf, HoldsSounds};
 ghost use Rattle.frame_cache.specs.Reads.{HasWanted, MeanSounds, IsPartWay, IsRefusedAt};
 
 use crate::part::{copy_part, end_of_touched};
@@ -46,7 +46,7 @@ pub enum RangeFault {
     Frame { frame: u32, fault: FrameFault },
 }
 
-/// Reads parts of the sound of a coded file, and keeps the sounds of the frames that were wanted last.
+/// Reads parts of the sound of a coded file, and holds the sounds of the frames that were wanted last.
 ///
 /// It has no source of its own: with one source for all reads each part is that of the source's sound, whatever is held.
 #[derive(Drop)]
@@ -141,11 +141,11 @@ impl RangeReader {
         ensures size_stays { S.known source.new ≡ S.known source.old }
         ensures later { S.faults source.old ≤ S.faults source.new }
         ensures same { IsSame self.old self.new }
-        ensures keeps { (file : List ℕ) → S.bytes source.old ≡ Some file → KeepsSounds file self.old → KeepsSounds file self.new }
+        ensures holds_sounds { (file : List ℕ) → S.bytes source.old ≡ Some file → HoldsSounds file self.old → HoldsSounds file self.new }
         // the part is that of the whole sound, and each frame that it touches means a sound
-        ensures sound { OnOk result ((file : List ℕ) (form : Form) (sound : List ℕ) → S.bytes source.old ≡ Some file → KeepsSounds file self.old → IsReaderOf file form self.old →
+        ensures sound { OnOk result ((file : List ℕ) (form : Form) (sound : List ℕ) → S.bytes source.old ≡ Some file → HoldsSounds file self.old → IsReaderOf file form self.old →
             Sound file form sound → out.new ≡ bytes_at sound from (length out.old)) }
-        ensures means { OnOk result ((file : List ℕ) → S.bytes source.old ≡ Some file → KeepsSounds file self.old → MeanSounds file self.old (wanted self.old from (length out.old))) }
+        ensures means { OnOk result ((file : List ℕ) → S.bytes source.old ≡ Some file → HoldsSounds file self.old → MeanSounds file self.old (wanted self.old from (length out.old))) }
         // which frames are held then, how many were decoded, and that the source gave their bytes and no others
         ensures order { OnOk result (order self.new ≡ keys_after (order self.old) (wanted self.old from (length out.old)) self.old.capacity) }
         ensures decoded { IfOk result (λ r. r.decoded ≡ length (decoded_of (order self.old) (wanted self.old from (length out.old)) self.old.capacity)) }
@@ -158,7 +158,7 @@ impl RangeReader {
         ensures quiet { OnOk result (S.faults source.new ≡ S.faults source.old) }
         ensures part_way { OnErr result (IsPartWay self.old (wanted self.old from (length out.old)) (order self.new)) }
     {
-        let bytes = self.frame_bytes();
+        let bytes = self.sound_bytes();
         let end = end_of_touched(bytes, from, out.len() as u64);
         let mut decoded = 0;
         for frame in from / bytes..end {
@@ -172,7 +172,7 @@ impl RangeReader {
     }
 
     // Bytes of one frame's sound.
-    fn frame_bytes(&self) -> u64
+    fn sound_bytes(&self) -> u64
         ensures bytes { result ≡ sound_bytes self.now.shape }
         ensures least { 4704 ≤ result }
         ensures most { result ≤ 112896 }

@@ -3,7 +3,7 @@
 //!
 //! ```text
 //! match view_frame(&frame, channels)? {
-//!     FrameView::Plain(sound) => ..,         // frame_bytes() bytes of the frame
+//!     FrameView::Plain(sound) => ..,         // sound_bytes() bytes of the frame
 //!     FrameView::Coded(params, code) => .., // the arithmetic code begins at bit code.first
 //! }
 //!

@@ -15,7 +15,7 @@ use Rattle.dsdiff_spec.specs.declared.faults.FileFault.TheVariants.{IndexMissing
 use Rattle.dsdiff_spec.proofs.CodedFiles.{count_is_right}
 use Rattle.frame_index.specs.Lookup.{IsRead, DifferFirstAt, index_fault}
 
--- ---- a walk without a fault has found as many frames as are told
+-- ---- a walk without a fault has found the frames of the definitions
 found_are : (o : Option FileFault) (es found : List Entry) → elim o as (λ _. Result (List Entry) FileFault) [ Some f ↦ Err f | None ↦ Ok es ] ≡ Ok found →
     (o ≡ None) × (es ≡ found)
 found_are (Some f) es found p = absurd cc
@@ -60,17 +60,17 @@ first_differs at n (suc k) (e ∷ es) lt differs before =
     ∙ ap (λ i. Some (IndexBad i)) (next k)
 
 -- ---- where there is an index of the right size
-size_is : (has : Bool) (told : ℕ) (rest : Option FileFault) → (IndexBad told when not has) ≡ None → (IndexBad told when not has otherwise rest) ≡ rest
-size_is true told rest p = refl
-size_is false told rest p = absurd cc
+size_is : (has : Bool) (count : ℕ) (rest : Option FileFault) → (IndexBad count when not has) ≡ None → (IndexBad count when not has otherwise rest) ≡ rest
+size_is true count rest p = refl
+size_is false count rest p = absurd cc
 
-has_size : (hs : List Head) (has : Bool) (told : ℕ) (rest : Option FileFault) →
-    (IndexMissing when length hs == 0 otherwise IndexBad told when not has) ≡ None →
-    elim hs as (λ _. Option FileFault) [ [] ↦ None | h ∷ more ↦ (IndexBad told when not has otherwise rest) ] ≡ rest
-has_size [] has told rest p = absurd cc
-has_size (h ∷ hs) has told rest p =
+has_size : (hs : List Head) (has : Bool) (count : ℕ) (rest : Option FileFault) →
+    (IndexMissing when length hs == 0 otherwise IndexBad count when not has) ≡ None →
+    elim hs as (λ _. Option FileFault) [ [] ↦ None | h ∷ more ↦ (IndexBad count when not has otherwise rest) ] ≡ rest
+has_size [] has count rest p = absurd cc
+has_size (h ∷ hs) has count rest p =
     let some = ne_eqb (length (h ∷ hs)) 0 (λ e. omega arith) in
-    size_is has told rest (sym (ap (λ b. IndexMissing when b otherwise IndexBad told when not has) some) ∙ p)
+    size_is has count rest (sym (ap (λ b. IndexMissing when b otherwise IndexBad count when not has) some) ∙ p)
 
 pub same_passes : (file : List ℕ) (form : Form) (found : List Entry) → index_fault form form.frames ≡ None → IsRead file form found →
     walk file form ≡ Ok found → check_index_fault file form ≡ None

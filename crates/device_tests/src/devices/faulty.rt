@@ -1,4 +1,4 @@
-// Devices that do less than they are asked: a disk that takes three bytes at a time, one that keeps nothing, and a pipe that breaks.
+// Devices that do less than they are asked: a disk that takes three bytes at a time, one that takes nothing, and a pipe that breaks.
 use std::alloc::Allocator;
 use std::fs::{File, Files, Metadata, OpenFile, OpenOptions};
 use std::io::{self, BufRead, ErrorKind, Input, Lines, Read, Seek, SeekFrom, Write};

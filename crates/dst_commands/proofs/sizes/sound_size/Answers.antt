@@ -1,4 +1,4 @@
--- A sound that `KEPT` tells needs the frames of its form, so it isn't larger than they are together.
+-- A sound whose size `KEPT` says needs the frames of its form, so it isn't larger than they are together.
 use Rattle.std.proofs.Common.{◌≡◌, ◌*◌, ap, sym, ◌∙◌, arith, refl}
 use Rattle.std.specs.Option.{option_map}
 use Rattle.dst_spec.specs.Sample.{sound_bytes}

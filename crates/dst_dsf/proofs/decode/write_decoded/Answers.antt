@@ -5,7 +5,7 @@ use Rattle.dsdiff_chunks.specs.Forms.{coded_seen}
 use Rattle.dsf_files.specs.Forms.{dsf_seen}
 use Rattle.dst_commands.proofs.Taken.{parts_of_form}
 use Rattle.dst_commands.specs.declared.opened.WalkedForm.{WalkedForm}
-use Rattle.dst_read.specs.Feeding.{frame_bytes}
+use Rattle.dst_read.specs.Feeding.{bytes_of_entries}
 use Rattle.dst_read.proofs.Once.{stored_in_sound}
 use Rattle.dst_dsf.specs.declared.opened.DsfWalked.{DsfWalked}
 use Rattle.dst_dsf.specs.Decoding.{IsFor, IsOpenedAs}
@@ -58,7 +58,7 @@ returns-clause-written g c file told =
     c.finish.ensures.written refl c.sound_size.ensures.size
 
 -- the stored frames lie in the sound, and so in the form
-stored_in_form : (walked : WalkedForm) → frame_bytes walked.index ≤ walked.form.end
+stored_in_form : (walked : WalkedForm) → bytes_of_entries walked.index ≤ walked.form.end
 stored_in_form walked = omega (arith, stored_in_sound walked, parts_of_form (coded_seen walked.form) walked.form.lawful)
 
 pub returns-in-Err-clause-given : goal.returns-in-Err-clause-given

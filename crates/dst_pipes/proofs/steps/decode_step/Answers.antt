@@ -10,12 +10,12 @@ use Rattle.dst_pipes.proofs.steps.decode_step.Goals as goal
 
 pub returns-in-Err-clause-ends : goal.returns-in-Err-clause-ends
 returns-in-Err-clause-ends g c taken answered has works old room wrote =
-    let told = c.in-Err.ensures.took taken answered has works in
+    let said = c.in-Err.ensures.took taken answered has works in
     record {
-      count = told.0;
+      count = said.0;
       answered = answered;
-      begins = begins_more taken (take told.0 c.args.piece.now) answered (events_law c.args.decoder.now taken answered has);
-      due = told.1;
+      begins = begins_more taken (take said.0 c.args.piece.now) answered (events_law c.args.decoder.now taken answered has);
+      due = said.1;
       wrote = wrote;
     }
 

@@ -17,7 +17,7 @@ returns-in-Ok-append-clause-wrote g c =
     let one = part_touched (sound_bytes c.args.reader.now.shape) c.args.from (length c.args.room.now) c.requires.some c.requires.frame in
     let h = c.in-Ok.ensures in
     one_wrote c.args.reader.now c.read.new.self _ c.args.from _ c.in-Ok.field-0.decoded _ c.read.new.out _ _ _ _ _ _ _ one c.read.auto.out
-    (record { same = h.same; order_is = h.order; decoded_is = h.decoded; given_is = h.given; keeps = h.keeps; means = h.means })
+    (record { same = h.same; order_is = h.order; decoded_is = h.decoded; given_is = h.given; holds_sounds = h.holds_sounds; means = h.means })
     h.sound
     (added c.append.result c.read.new.out _ _ _ _ c.append.ensures.sure c.in-Ok-append.ensures.written)
 
@@ -26,6 +26,6 @@ returns-in-Err-clause-stops g c =
     let one = part_touched (sound_bytes c.args.reader.now.shape) c.args.from (length c.args.room.now) c.requires.some c.requires.frame in
     let h = c.in-Ok.ensures in
     one_unwritten c.args.reader.now c.read.new.self _ c.args.from _ c.in-Ok.field-0.decoded _ c.read.new.out _ _ _ _ _ _ one c.read.auto.out
-    (record { same = h.same; order_is = h.order; decoded_is = h.decoded; given_is = h.given; keeps = h.keeps; means = h.means })
+    (record { same = h.same; order_is = h.order; decoded_is = h.decoded; given_is = h.given; holds_sounds = h.holds_sounds; means = h.means })
     h.sound
     (cut_off c.in-Err.field-0 c.read.new.out _ _ _ _ c.in-Err.ensures.sure c.in-Err.ensures.written)

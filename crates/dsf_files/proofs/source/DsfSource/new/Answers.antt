@@ -1,4 +1,4 @@
--- No row is held yet, and what the header says of the file tells the plain form that stands for it.
+-- No row is held yet, and what the header says of the file gives the plain form that stands for it.
 use Rattle.dsf_files.proofs.Reading.{plain_of_form}
 use Rattle.dsf_files.proofs.source.DsfSource.new.Goals as goal
 

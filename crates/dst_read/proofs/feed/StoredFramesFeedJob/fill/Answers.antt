@@ -3,7 +3,7 @@ use Rattle.std.proofs.Common.{◌≡◌, ℕ, ◌+◌, ◌<◌, ◌≤◌, max, 
 use Rattle.dsdiff_spec.specs.Walk.{Entry, frame_at}
 use Rattle.frame_index.specs.Entries.{entry_seen}
 use Rattle.std.proofs.lemmas.List.{with_items_is}
-use Rattle.dst_read.specs.Feeding.{bytes_left, frame_bytes}
+use Rattle.dst_read.specs.Feeding.{bytes_left, bytes_of_entries}
 use Rattle.dst_read.specs.Jobs.{room_number, shape_of_job}
 use Rattle.dst_read.proofs.Once.{next_left}
 use Rattle.dst_read.proofs.Shapes.{CanRead, can_read, refilled}
@@ -55,7 +55,7 @@ returns-in-Err-clause-job_shape g c =
 
 -- the bytes of the next frame are given, and are no longer left
 read_once : (g : Over) (c : After-deref_mut g) {given : ℕ} → given ≤ g.S.Source.given c.args.self.now.source.now + c.entry-entry.result.size →
-    given + frame_bytes (drop (c.args.self.now.next + 1) c.args.self.now.walked.now.index)
+    given + bytes_of_entries (drop (c.args.self.now.next + 1) c.args.self.now.walked.now.index)
     ≤ g.S.Source.given c.args.self.now.source.now + bytes_left c.args.self.now
 read_once g c more =
     let next = next_there g c.before.before.before.before in

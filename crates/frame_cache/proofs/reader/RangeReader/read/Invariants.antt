@@ -5,7 +5,7 @@ use Rattle.std.specs.List.{range_with_len}
 use Rattle.dsdiff_spec.specs.Bytes.{bytes_at}
 use Rattle.dsdiff_spec.specs.Form.{Form}
 use Rattle.dsdiff_spec.specs.Ranges.{Sound}
-use Rattle.frame_cache.specs.Reader.{IsReaderOf, KeepsSounds}
+use Rattle.frame_cache.specs.Reader.{IsReaderOf, HoldsSounds}
 use Rattle.frame_cache.specs.Reads.{HasWanted}
 use Rattle.frame_cache.proofs.reader.RangeReader.read.Given as goal
 
@@ -18,7 +18,7 @@ invariant-loop-frame g l = record {
   long : length l.out ≡ length l.initial.out;
   wanted : HasWanted l.initial.self l.self (range_with_len (l.from / l.bytes) (l.frame - l.from / l.bytes)) l.decoded
       (g.S.Source.bytes l.initial.source) (g.S.Source.given l.initial.source) (g.S.Source.given l.source);
-  sound : (file : List ℕ) (form : Form) (sound : List ℕ) → g.S.Source.bytes l.initial.source ≡ Some file → KeepsSounds file l.initial.self →
+  sound : (file : List ℕ) (form : Form) (sound : List ℕ) → g.S.Source.bytes l.initial.source ≡ Some file → HoldsSounds file l.initial.self →
       IsReaderOf file form l.initial.self → Sound file form sound →
       take (min (l.from + length l.initial.out) (l.frame * l.bytes) - l.from) l.out ≡ bytes_at sound l.from
       (min (l.from + length l.initial.out) (l.frame * l.bytes) - l.from);
