@@ -79,7 +79,7 @@ pub record IsShown (f : Shape) (k : ℕ) (frame : List ℕ) (line : List ℕ) : 
   pub text : Line
   pub shows : Shows f k frame text
   pub not_refused : (fault : FrameFault) → Refuses (show_frame k) f frame fault → ⊥
-  pub is : line ≡ report (told ∷ [])
+  pub is : line ≡ report (text ∷ [])
 
 -- or it is refused, or the source fails; no memory is taken
 abbrev pub IsUnshown : Shape → ℕ → Entry → ShowFault → Option (List ℕ) → (source_before source_now : ℕ) → Type 0
