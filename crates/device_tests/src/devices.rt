@@ -12,6 +12,7 @@ use faulty::{BrokenPipe, Disk};
 use std::alloc::{Alloc, AllocError, Allocator, Global};
 use std::fs::{self, Files};
 use std::io::{self, BufRead, ErrorKind, Input, Lines};
+use std::os::unix::fs::FileExt;
 
 // A standard input that holds five bytes.
 struct Typed;
@@ -308,7 +309,10 @@ fn a_file_that_the_disk_refuses_is_a_failure(rt: HostRuntime) {
 // The size of a file, what reading answers from byte 2 on and behind its end, and the bytes from byte 2 on.
 type Seen = (u64, Result<usize, Failed>, Result<usize, Failed>, [u8; 6]);
 
-fn read_file<D: Files>(disk: &D) -> Result<Seen, Failed> {
+fn read_file<D: Files>(disk: &D) -> Result<Seen, Failed>
+where
+    D::File: FileExt,
+{
     let mut source = FileSource::new(disk, "read.bin");
     let size = source.size()?;
     let mut out = [0u8; 6];
@@ -318,7 +322,10 @@ fn read_file<D: Files>(disk: &D) -> Result<Seen, Failed> {
 }
 
 // The size of a file of the same name, and why there is none.
-fn size_or_reason<D: Files>(disk: &D) -> (Result<u64, Failed>, Option<ErrorKind>) {
+fn size_or_reason<D: Files>(disk: &D) -> (Result<u64, Failed>, Option<ErrorKind>)
+where
+    D::File: FileExt,
+{
     let mut source = FileSource::new(disk, "read.bin");
     let size = source.size();
     (size, kind_of(source.reason()))
@@ -331,7 +338,10 @@ type ReadAndGone = (
     (Result<u64, Failed>, Option<ErrorKind>),
 );
 
-fn read_and_gone<D: Files>(disk: &D) -> ReadAndGone {
+fn read_and_gone<D: Files>(disk: &D) -> ReadAndGone
+where
+    D::File: FileExt,
+{
     let is_made = is_done(fs::write(disk, "read.bin", b"seven b"));
     let read = read_file(disk);
     let is_removed = is_done(fs::remove_file(disk, "read.bin"));
@@ -348,7 +358,10 @@ fn a_file_is_read_as_it_is(rt: HostRuntime) {
 // The size of a file that ends below it when it is read, whether it was made to, the answer behind that end, and why.
 type Shrunk = (u64, bool, Result<usize, Failed>, Option<ErrorKind>);
 
-fn read_shrunk<D: Files>(disk: &D) -> Result<Shrunk, Failed> {
+fn read_shrunk<D: Files>(disk: &D) -> Result<Shrunk, Failed>
+where
+    D::File: FileExt,
+{
     let mut source = FileSource::new(disk, "shrinks.bin");
     let size = source.size()?;
     let is_cut = is_done(fs::write(disk, "shrinks.bin", b"se"));
@@ -357,7 +370,10 @@ fn read_shrunk<D: Files>(disk: &D) -> Result<Shrunk, Failed> {
 }
 
 // What reading a folder answers, whose size is answered.
-fn read_folder<D: Files>(disk: &D) -> Result<Result<usize, Failed>, Failed> {
+fn read_folder<D: Files>(disk: &D) -> Result<Result<usize, Failed>, Failed>
+where
+    D::File: FileExt,
+{
     let mut folder = FileSource::new(disk, ".");
     folder.size()?;
     Ok(folder.read_at(0, &mut [0u8; 4]))
@@ -370,7 +386,10 @@ type NothingGiven = (
     Result<Result<usize, Failed>, Failed>,
 );
 
-fn nothing_given<D: Files>(disk: &D) -> NothingGiven {
+fn nothing_given<D: Files>(disk: &D) -> NothingGiven
+where
+    D::File: FileExt,
+{
     let is_made = is_done(fs::write(disk, "shrinks.bin", b"seven b"));
     let shrunk = read_shrunk(disk);
     let is_removed = is_done(fs::remove_file(disk, "shrinks.bin"));

@@ -4,6 +4,7 @@ ghost use Rattle.std.specs.Prelude.{◌≡◌, None};
 use crate::progress::{Watched, sound_of};
 use crate::running::Devices;
 use dst_streams::{FileSink, FileSource, Flow, PipeFlow, Sink, Source};
+use std::os::unix::fs::FileExt;
 use std::rt::Runtime;
 
 /// Names stand for files; a source tells how much of it was read, where that is wanted.
@@ -20,7 +21,10 @@ impl<'r, R: Runtime + AllocGlobal> MachineFiles<'r, R> {
     }
 }
 
-impl<'r, R: Runtime + AllocGlobal> Devices<'r> for MachineFiles<'r, R> {
+impl<'r, R: Runtime + AllocGlobal> Devices<'r> for MachineFiles<'r, R>
+where
+    R::File: FileExt,
+{
     type Source = Watched<'r, FileSource<'r, R>, R>;
 
     type Sink = FileSink<'r, R>;

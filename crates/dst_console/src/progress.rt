@@ -4,6 +4,7 @@ ghost use Rattle.std.specs.Prelude.{◌≡◌};
 use dsdiff_chunks::{Form, open_form};
 use dst_streams::{Failed, FileSource, Source};
 use std::alloc::Global;
+use std::os::unix::fs::FileExt;
 use std::rt::Files;
 use std::time::{Clock, Instant};
 
@@ -101,7 +102,10 @@ fn share(number: u64, part: u64, of: u64) -> u64 {
 }
 
 /// How long the sound of a file lasts, in milliseconds; 0 where it isn't known.
-pub(crate) fn sound_of<R: Files>(rt: &R, alloc: Global, name: &str) -> u64 {
+pub(crate) fn sound_of<R: Files>(rt: &R, alloc: Global, name: &str) -> u64
+where
+    R::File: FileExt,
+{
     let mut source = FileSource::new(rt, name);
     let frames = match open_form(alloc, &mut source) {
         Ok(Form::Plain(form)) => form.frames,

@@ -5,6 +5,7 @@ use crate::help::{CommandHelp, help_of};
 use crate::progress::Watched;
 use dst_streams::{FileSink, FileSource, PipeFlow};
 use std::io::{self, ErrorKind};
+use std::os::unix::fs::FileExt;
 use std::rt::Runtime;
 
 /// How the words ended over the machine's files.
@@ -29,7 +30,10 @@ struct Behind<'a> {
 }
 
 /// Takes the progress line away, and says why a run ended as it did, where there is more to say than the report has.
-pub fn explain<'r, R: Runtime + AllocGlobal>(rt: &R, words: &[String], ended: &MachineEnd<'r, R>) {
+pub fn explain<'r, R: Runtime + AllocGlobal>(rt: &R, words: &[String], ended: &MachineEnd<'r, R>)
+where
+    R::File: FileExt,
+{
     match ended {
         Ended::Answered { .. } => {}
         Ended::Command(ran) => {

@@ -3,7 +3,8 @@ ghost use Rattle.std.specs.Prelude.{◌≡◌, ◌<◌, ◌≤◌, None, IfOk, l
 
 use crate::{Failed, Source};
 use std::fs::{File, OpenFile};
-use std::io::{self, ErrorKind, Read, Seek, SeekFrom};
+use std::io::{self, ErrorKind};
+use std::os::unix::fs::FileExt;
 use std::rt::Files;
 
 /// A file that is read, opened at the first call. It tells no bytes.
@@ -15,14 +16,15 @@ pub struct FileSource<'p, R: Files> {
     path: &'p str,
     file: Option<R::File>,
     size: Option<u64>,
-    /// The place behind the last bytes that were read, from where the system reads on by itself.
-    next: Option<u64>,
     faults: u64,
     given: u64,
     reason: Option<io::Error>,
 }
 
-impl<'p, R: Files> FileSource<'p, R> {
+impl<'p, R: Files> FileSource<'p, R>
+where
+    R::File: FileExt,
+{
     pub fn new(rt: &'p R, path: &'p str) -> FileSource<'p, R>
         ensures bytes { ⟦<FileSource<'p, R> as Source>⟧.bytes result ≡ None }
         ensures known { ⟦<FileSource<'p, R> as Source>⟧.known result ≡ None }
@@ -34,7 +36,6 @@ impl<'p, R: Files> FileSource<'p, R> {
             path,
             file: None,
             size: None,
-            next: None,
             faults: 0,
             given: 0,
             reason: None,
@@ -58,29 +59,24 @@ fn opened<R: Files>(rt: &R, path: &str, file: &mut Option<R::File>) -> io::Resul
     }
 }
 
-// Reads from a place on, or on from where the last read ended. That nothing comes is a failure.
-fn read_some<F: Read + Seek>(
-    file: &mut Option<F>,
-    place: Option<u64>,
-    out: &mut [u8],
-) -> io::Result<usize>
+// Reads from a place on. That nothing comes is a failure.
+fn read_some<F: FileExt>(file: &Option<F>, place: u64, out: &mut [u8]) -> io::Result<usize>
     ensures { IfOk result (λ n. (0 < n) × (n ≤ length out.new)) }
 {
-    let Some(file) = file.as_mut() else {
+    let Some(file) = file else {
         return Err(ErrorKind::NotFound.into());
     };
-    if let Some(place) = place {
-        file.seek(SeekFrom::Start(place))?;
-    }
-    let count = file.read(out)?;
+    let count = file.read_at(out, place)?;
     if count == 0 {
-        Err(io::Error::new(ErrorKind::UnexpectedEof, "ends below its size"))
-    } else {
-        Ok(count)
+        return Err(io::Error::new(ErrorKind::UnexpectedEof, "ends below its size"));
     }
+    Ok(count)
 }
 
-impl<'p, R: Files> Source for FileSource<'p, R> {
+impl<'p, R: Files> Source for FileSource<'p, R>
+where
+    R::File: FileExt,
+{
     ghost bytes = { λ _. None };
 
     ghost known = { λ s. s.size };
@@ -122,19 +118,12 @@ impl<'p, R: Files> Source for FileSource<'p, R> {
             return Ok(0);
         }
         let want = left.min(out.len() as u64) as usize;
-        let elsewhere = if self.next == Some(place) {
-            None
-        } else {
-            Some(place)
-        };
-        match read_some(&mut self.file, elsewhere, &mut out[..want]) {
+        match read_some(&self.file, place, &mut out[..want]) {
             Ok(count) => {
-                self.next = place.checked_add(count as u64);
                 self.given = self.given.saturating_add(count as u64);
                 Ok(count)
             }
             Err(reason) => {
-                self.next = None;
                 self.reason = Some(reason);
                 self.faults = self.faults.saturating_add(1);
                 Err(Failed)
